@@ -1,0 +1,91 @@
+-- Document 01, 'Standing and blocking': need, blocked, deemed and free, over a view of a book.
+use mathlib.Core.Path.{_≡_}
+use mathlib.Core.Bool.{Bool, _&&_}
+use mathlib.Core.Logic.{_⊎_}
+use Prim.Native.Nat.{ℕ, _+_, _-_, _≤_, _<_, min}
+use lib.Dec.{eqb}
+use Rattle.sums.specs.Sum.{sum, only}
+use Rattle.sums.specs.Choice.{pick}
+
+-- What the rules see of a book: how many accounts, and each one's code, TM, collateral and margin.
+pub record View : Type 0 where
+  pub count : ℕ
+  pub code : ℕ → ℕ
+  pub tm : ℕ → ℕ
+  pub collateral : ℕ → ℕ
+  pub margin : ℕ → ℕ
+
+-- "Accounts are the CM's own, trading members' own (TM), clients under a TM, and custodial participants (CP)": by code.
+abbrev pub isCM : View → ℕ → Bool
+isCM v i = eqb (v .code i) 0
+
+abbrev pub isTM : View → ℕ → Bool
+isTM v i = eqb (v .code i) 1
+
+abbrev pub isClient : View → ℕ → Bool
+isClient v i = eqb (v .code i) 2
+
+abbrev pub isCP : View → ℕ → Bool
+isCP v i = eqb (v .code i) 3
+
+-- account i is a client of account t
+abbrev pub isClientOf : View → ℕ → ℕ → Bool
+isClientOf v t i = isClient v i && eqb (v .tm i) t
+
+-- "Blocked is the lesser of need and collateral."
+abbrev pub blockedOf : ℕ → ℕ → ℕ
+blockedOf need collateral = min need collateral
+
+-- "Deemed is need less blocked."
+abbrev pub deemedOf : ℕ → ℕ → ℕ
+deemedOf need collateral = need - blockedOf need collateral
+
+-- "Free is collateral less blocked."
+abbrev pub freeOf : ℕ → ℕ → ℕ
+freeOf need collateral = collateral - blockedOf need collateral
+
+-- "Need: for a client or CP, its margin;" so that it is deemed
+abbrev pub ownDeemed : View → ℕ → ℕ
+ownDeemed v i = deemedOf (v .margin i) (v .collateral i)
+
+-- f added up over the clients of t
+abbrev pub ofClients : View → ℕ → (ℕ → ℕ) → ℕ
+ofClients v t f = sum (v .count) (λ i. only (isClientOf v t i) (f i))
+
+-- "for a TM, its margin plus what each client of it is deemed;"
+unfoldable pub needTM : View → ℕ → ℕ
+needTM v t = v .margin t + ofClients v t (ownDeemed v)
+
+abbrev pub deemedTM : View → ℕ → ℕ
+deemedTM v t = deemedOf (needTM v t) (v .collateral t)
+
+-- f of each TM, g of each CP, and 0 of any other account
+abbrev pub members : View → (ℕ → ℕ) → (ℕ → ℕ) → ℕ → ℕ
+members v f g i = only (isTM v i) (f i) + only (isCP v i) (g i)
+
+-- "for the CM, its margin plus what each TM and each CP is deemed."
+unfoldable pub needCM : View → ℕ
+needCM v = v .margin 0 + sum (v .count) (members v (deemedTM v) (ownDeemed v))
+
+unfoldable pub need : View → ℕ → ℕ
+need v i = pick (isCM v i) (needCM v) (pick (isTM v i) (needTM v i) (v .margin i))
+
+abbrev pub blocked : View → ℕ → ℕ
+blocked v i = blockedOf (need v i) (v .collateral i)
+
+abbrev pub deemed : View → ℕ → ℕ
+deemed v i = deemedOf (need v i) (v .collateral i)
+
+abbrev pub free : View → ℕ → ℕ
+free v i = freeOf (need v i) (v .collateral i)
+
+-- "account 0 is the CM"; "Every other account is a TM, a CP, or a client whose TM is a lower-numbered TM row."
+pub record Shaped (v : View) : Type 0 where
+  pub some : 0 < v .count
+  pub top : v .code 0 ≡ 0
+  pub sorts : (i : ℕ) → 0 < i → i < v .count → (v .code i ≡ 1) ⊎ ((v .code i ≡ 2) ⊎ (v .code i ≡ 3))
+  pub tms : (i : ℕ) → i < v .count → v .code i ≡ 2 → (v .tm i < i) × (v .code (v .tm i) ≡ 1)
+
+-- "The CM's need, defined below, is at most the CM's collateral."
+abbrev pub Covered : View → Type 0
+Covered v = needCM v ≤ v .collateral 0

@@ -1,0 +1,51 @@
+-- Laws of a choice by a test, and of tests joined.
+use mathlib.Core.Bool.{Bool, true, false, _&&_, _||_, not, false≢true}
+use mathlib.Core.Path.{_≡_, refl, sym, _∙_}
+use Prim.Native.Nat.{ℕ}
+use Rattle.sums.specs.Choice.{pick}
+
+module _ {A : Type 0} where
+  pub pick-yes : (t : Bool) (a b : A) → t ≡ true → pick t a b ≡ a
+  unfolding pick
+  pick-yes true a b e = refl
+  pick-yes false a b e = absurd (false≢true e)
+
+  pub pick-no : (t : Bool) (a b : A) → t ≡ false → pick t a b ≡ b
+  unfolding pick
+  pick-no true a b e = absurd (false≢true (sym e))
+  pick-no false a b e = refl
+
+  -- what a return shows: the choice goes to the first, or to the second
+  pub pass : {t : Bool} {w a : A} (b : A) → t ≡ true → w ≡ a → w ≡ pick t a b
+  unfolding pick
+  pass b e h = rw e h
+
+  pub stop : {t : Bool} {w b : A} (a : A) → t ≡ false → w ≡ b → w ≡ pick t a b
+  unfolding pick
+  stop a e h = rw e h
+
+  -- both ways lead to the same
+  pub pick-same : (t : Bool) (a : A) → pick t a a ≡ a
+  unfolding pick
+  pick-same true a = refl
+  pick-same false a = refl
+
+-- a test does not both hold and fail
+pub clash : {t : Bool} {A : Type 0} → t ≡ true → t ≡ false → A
+clash p q = absurd (false≢true (sym q ∙ p))
+
+pub and-split : (a b : Bool) → (a && b) ≡ true → (a ≡ true) × (b ≡ true)
+and-split true b e = (refl, e)
+and-split false b e = absurd (false≢true e)
+
+pub and-join : {a b : Bool} → a ≡ true → b ≡ true → (a && b) ≡ true
+and-join {a} {b} p q = rw p q
+
+-- b holds wherever a fails
+pub or-else : (a b : Bool) → (a || b) ≡ true → a ≡ false → b ≡ true
+or-else true b e q = absurd (false≢true (sym q))
+or-else false b e q = e
+
+pub or-from : (a b : Bool) → (a ≡ false → b ≡ true) → (a || b) ≡ true
+or-from true b h = refl
+or-from false b h = h refl
