@@ -1,0 +1,56 @@
+-- Document 01, 'The day file': a record's bytes, and what the writer does.
+use mathlib.Core.Bool.{Bool}
+use mathlib.Core.List.{List, [], _∷_, _++_}
+use Prim.Native.Nat.{ℕ, zero, suc}
+use lib.Dec.{leb, eqb}
+use lib.ListN.{length, drop}
+use Rattle.sums.specs.Choice.{pick}
+use Rattle.dayfile.specs.declared.Record.{Record}
+use Rattle.dayfile.specs.declared.Wrote.{Wrote}
+use Rattle.dayfile.specs.declared.Wrote.the-variants.{Written, Refused}
+use Rattle.dayfile.specs.Bytes.{bytesOf}
+use Rattle.dayfile.specs.Records.{bit, faultOf}
+
+-- "eight bytes for each one in the second mark byte": an amount's bytes where its bit is 1, none where it is 0
+unfoldable pub field : ℕ → ℕ → List ℕ
+field zero x = []
+field (suc n) x = bytesOf 8 x
+
+-- what follows the mark: serial, account number, "amounts stand in rising bit order"
+unfoldable pub bodyOf : Record → List ℕ
+bodyOf r =
+    bytesOf 2 (r .serial) ++ (bytesOf 2 (r .account)
+    ++ (field (bit 1 (r .named)) (r .kinds .cash)
+    ++ (field (bit 2 (r .named)) (r .kinds .deposits)
+    ++ (field (bit 4 (r .named)) (r .kinds .guarantees)
+    ++ (field (bit 8 (r .named)) (r .kinds .securities)
+    ++ (field (bit 16 (r .named)) (r .pledged)
+    ++ field (bit 32 (r .named)) (r .margin)))))))
+
+-- "A record is a two-byte mark, a two-byte serial, a two-byte account number, then eight bytes for each one"; "The first
+-- mark byte is the code."
+unfoldable pub writtenOf : Record → List ℕ
+writtenOf r = r .code ∷ r .named ∷ bodyOf r
+
+-- "Records follow one another"
+unfoldable pub fileOf : List Record → List ℕ
+fileOf [] = []
+fileOf (r ∷ rs) = writtenOf r ++ fileOf rs
+
+-- "15: writer: the room is shorter than the record"
+abbrev pub hasRoom : Record → List ℕ → Bool
+hasRoom r room = leb (length (writtenOf r)) (length room)
+
+-- "The writer refuses what no good record could say: 4, 5, then 6 .., then 15"
+unfoldable pub wroteOf : Record → List ℕ → Wrote
+wroteOf r room =
+    pick (eqb (faultOf r) 0)
+    (pick (hasRoom r room) (Written (length (writtenOf r))) (Refused 15))
+    (Refused (faultOf r))
+
+-- "it then writes nothing. When it writes, the room past the record stays unchanged."
+unfoldable pub roomAfter : Record → List ℕ → List ℕ
+roomAfter r room =
+    pick (eqb (faultOf r) 0)
+    (pick (hasRoom r room) (writtenOf r ++ drop (length (writtenOf r)) room) room)
+    room
