@@ -1,8 +1,10 @@
 -- Document 01, 'Amounts and sizes': a book's rows, its view, and a fresh book.
-use mathlib.Core.Bool.{Bool, true, false}
+use mathlib.Core.Bool.{Bool, true, false, not, _&&_}
 use mathlib.Core.List.{List, _∷_}
-use Prim.Native.Nat.{ℕ, _+_}
+use Prim.Native.Nat.{ℕ, _+_, _-_}
+use lib.Dec.{eqb}
 use lib.ListN.{getD, set, replicate}
+use Rattle.sums.specs.Sum.{all}
 use Rattle.book.specs.declared.Kinds.{Kinds}
 use Rattle.book.specs.declared.Row.{Row}
 use Rattle.book.specs.declared.Book.{Book}
@@ -72,3 +74,24 @@ withRow b i r = record { count = b .count; serial = b .serial; rows = set (b .ro
 -- the book with one account more
 abbrev pub withNew : Book → Row → Book
 withNew b r = record { count = b .count + 1; serial = b .serial; rows = set (b .rows) (b .count) r }
+
+-- "a TM with a live client"
+unfoldable pub hasLiveClient : Book → ℕ → Bool
+hasLiveClient b t = not (all (b .count) (λ i. not (eqb (rowAt b i .code) 2 && eqb (rowAt b i .tm) t && rowAt b i .live)))
+
+-- kind by kind
+abbrev pub plusKinds : Kinds → Kinds → Kinds
+plusKinds a b = record {
+  cash = a .cash + b .cash;
+  deposits = a .deposits + b .deposits;
+  guarantees = a .guarantees + b .guarantees;
+  securities = a .securities + b .securities;
+}
+
+abbrev pub lessKinds : Kinds → Kinds → Kinds
+lessKinds a b = record {
+  cash = a .cash - b .cash;
+  deposits = a .deposits - b .deposits;
+  guarantees = a .guarantees - b .guarantees;
+  securities = a .securities - b .securities;
+}

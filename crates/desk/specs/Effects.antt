@@ -1,0 +1,51 @@
+-- Document 01: what a record does to the book.
+use mathlib.Core.Bool.{Bool, false}
+use Prim.Native.Nat.{ℕ, zero, suc, _+_, _-_, _%_}
+use lib.Dec.{leb, eqb}
+use Rattle.sums.specs.Choice.{pick}
+use Rattle.book.specs.declared.Row.{Row}
+use Rattle.book.specs.declared.Book.{Book}
+use Rattle.book.specs.Rows.{openedRow, withLive, withReceived, withAllocated, withPledged, withMargin, withRow, withNew, plusKinds, lessKinds}
+use Rattle.dayfile.specs.declared.Record.{Record}
+use Rattle.desk.specs.declared.Change.{Change}
+use Rattle.desk.specs.declared.Change.the-variants.{Refuse, Put, Open}
+use Rattle.desk.specs.Refusals.{isOpening, namedRow, refusalOf}
+
+-- "Receive adds to received; hand back takes from it; allocate adds to allocated; release takes from it." Pledge and
+-- unpledge do so to pledged, 10 sets the margin, and 11 retires.
+unfoldable pub amended : Row → Record → Row
+amended row r =
+    pick (eqb (r .code) 4) (withReceived row (plusKinds (row .received) (r .kinds)))
+    (pick (eqb (r .code) 5) (withReceived row (lessKinds (row .received) (r .kinds)))
+    (pick (eqb (r .code) 6) (withAllocated row (plusKinds (row .allocated) (r .kinds)))
+    (pick (eqb (r .code) 7) (withAllocated row (lessKinds (row .allocated) (r .kinds)))
+    (pick (eqb (r .code) 8) (withPledged row (row .pledged + r .pledged))
+    (pick (eqb (r .code) 9) (withPledged row (row .pledged - r .pledged))
+    (pick (eqb (r .code) 10) (withMargin row (r .margin))
+    (withLive row false)))))))
+
+-- what a record does that no refusal meets: an opened row's TM is the account named (0 for a TM and a CP)
+abbrev pub passes : Row → Record → Change
+passes row r = pick (isOpening r) (Open (openedRow (r .code) (r .account))) (Put (amended row r))
+
+abbrev pub decided : ℕ → Change → Change
+decided zero c = c
+decided (suc n) c = Refuse (suc n)
+
+unfoldable pub changeOf : Book → Record → Change
+changeOf b r = decided (refusalOf b r) (passes (namedRow b r) r)
+
+-- "the serial after 65,535 is 0"
+abbrev pub nextSerial : ℕ → ℕ
+nextSerial serial = (serial + 1) % 65536
+
+-- "which moves on by one as it does for a record carried out"
+abbrev pub movedOn : Book → Book
+movedOn b = record { count = b .count; serial = nextSerial (b .serial); rows = b .rows }
+
+-- "Refusals 1, 2 and 3 change nothing. Refusals 4 to 14 change the serial only"; "An instruction that passes changes one row
+-- and the serial, no more, except that an opening also adds one to the number of accounts"
+abbrev pub bookAfter : Book → ℕ → Change → Book
+bookAfter b account (Refuse n) = pick (leb n 3) b (movedOn b)
+bookAfter b account (Put row) = movedOn (withRow b account row)
+bookAfter b account (Open row) = movedOn (withNew b row)

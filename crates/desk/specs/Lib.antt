@@ -1,0 +1,4 @@
+pub mod Refusals
+pub mod Effects
+pub mod Answers
+pub mod Steps

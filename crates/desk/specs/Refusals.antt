@@ -1,0 +1,88 @@
+-- Document 01, 'Refusal numbers, in order of checking': the table, for a record at a book.
+use mathlib.Core.Bool.{Bool, not, _&&_, _||_}
+use mathlib.Core.List.{List, [], _∷_, _++_}
+use Prim.Native.Nat.{ℕ, _+_}
+use lib.Dec.{leb, ltb, eqb}
+use Rattle.sums.specs.Table.{Line, _when_, first}
+use Rattle.book.specs.declared.Row.{Row}
+use Rattle.book.specs.declared.Book.{Book}
+use Rattle.book.specs.View.{View, needCM, free}
+use Rattle.book.specs.Rows.{ceiling, rowAt, total, view, withRow, withMargin, plusKinds, lessKinds, hasLiveClient}
+use Rattle.book.specs.Sound.{kindsCapped, kindsWithin, noAmounts, soundB}
+use Rattle.book.specs.Asked.{isLive}
+use Rattle.dayfile.specs.declared.Record.{Record}
+use Rattle.dayfile.specs.Records.{faults}
+
+-- codes 1 open TM, 2 open client, 3 open CP
+abbrev pub isOpening : Record → Bool
+isOpening r = leb 1 (r .code) && leb (r .code) 3
+
+-- the row of the account named
+abbrev pub namedRow : Book → Record → Row
+namedRow b r = rowAt b (r .account)
+
+-- "8: opening: the account named is of the wrong sort; retiring: account 0". Opening a TM or a CP names the CM, opening a
+-- client its TM.
+abbrev pub wrongSort : Row → Record → Bool
+wrongSort row r =
+    (eqb (r .code) 1 || eqb (r .code) 3) && not (eqb (row .code) 0)
+    || eqb (r .code) 2 && not (eqb (row .code) 1)
+    || eqb (r .code) 11 && eqb (r .account) 0
+
+-- "9: opening with 256 numbers given"
+abbrev pub noNumberLeft : ℕ → Record → Bool
+noNumberLeft count r = isOpening r && leb 256 count
+
+-- "10: receive or pledge would carry an amount past the ceiling"
+abbrev pub pastCeiling : Row → Record → Bool
+pastCeiling row r =
+    eqb (r .code) 4 && not (kindsCapped (plusKinds (row .received) (r .kinds)))
+    || eqb (r .code) 8 && ltb ceiling (row .pledged + r .pledged)
+
+-- "11: hand back of more than received less allocated, allocate of more than that, release of more than allocated, unpledge
+-- of more than pledged, in any kind"
+abbrev pub tooMuch : Row → Record → Bool
+tooMuch row r =
+    (eqb (r .code) 5 || eqb (r .code) 6) && not (kindsWithin (r .kinds) (lessKinds (row .received) (row .allocated)))
+    || eqb (r .code) 7 && not (kindsWithin (r .kinds) (row .allocated))
+    || eqb (r .code) 9 && ltb (row .pledged) (r .pledged)
+
+-- "12: release (its kinds added up) or unpledge of more than the account's free"
+abbrev pub beyondFree : ℕ → Record → Bool
+beyondFree free r = eqb (r .code) 7 && ltb free (total (r .kinds)) || eqb (r .code) 9 && ltb free (r .pledged)
+
+-- the CM's need passes its collateral
+abbrev pub uncovered : View → Bool
+uncovered v = ltb (v .collateral 0) (needCM v)
+
+-- the book with the new margin of the account named
+abbrev pub newMargin : Book → Record → Book
+newMargin b r = withRow b (r .account) (withMargin (namedRow b r) (r .margin))
+
+-- "13: after the new margin the CM's need would pass its collateral"
+abbrev pub losesCover : Bool → Record → Bool
+losesCover uncovered r = eqb (r .code) 10 && uncovered
+
+-- "14: retiring an account with any amount not zero, or a TM with a live client"
+abbrev pub notRetirable : Row → Bool → Record → Bool
+notRetirable row hasLiveClient r = eqb (r .code) 11 && (not (noAmounts row) || hasLiveClient)
+
+-- the table; 4, 5, 6 are the record's faults
+abbrev pub refusals : Book → Record → List Line
+refusals b r =
+    (1 when not (soundB b))
+    ∷ (3 when not (eqb (r .serial) (b .serial)))
+    ∷ faults r
+    ++ ((7 when not (isLive b (r .account)))
+    ∷ (8 when wrongSort (namedRow b r) r)
+    ∷ (9 when noNumberLeft (b .count) r)
+    ∷ (10 when pastCeiling (namedRow b r) r)
+    ∷ (11 when tooMuch (namedRow b r) r)
+    ∷ (12 when beyondFree (free (view b) (r .account)) r)
+    ∷ (13 when losesCover (uncovered (view (newMargin b r))) r)
+    ∷ (14 when notRetirable (namedRow b r) (hasLiveClient b (r .account)) r)
+    ∷ [])
+
+-- the first that applies, or 0
+unfoldable pub refusalOf : Book → Record → ℕ
+refusalOf b r = first (refusals b r)

@@ -1,0 +1,35 @@
+-- Carrying out a record handed over as values, and the next one of a piece of the day file.
+use mathlib.Core.List.{List}
+use Prim.Native.Nat.{ℕ}
+use Rattle.sums.specs.Choice.{pick}
+use Rattle.book.specs.declared.Book.{Book}
+use Rattle.book.specs.Sound.{soundB}
+use Rattle.dayfile.specs.declared.Record.{Record}
+use Rattle.dayfile.specs.declared.Found.{Found}
+use Rattle.dayfile.specs.declared.Found.the-variants.{End as NoBytes, Cut as TooFew, Whole}
+use Rattle.dayfile.specs.Reading.{foundAt}
+use Rattle.desk.specs.declared.Outcome.the-variants.{Refused, End}
+use Rattle.desk.specs.declared.Answer.{Answer}
+use Rattle.desk.specs.declared.Done.{Done}
+use Rattle.desk.specs.declared.Next.{Next}
+use Rattle.desk.specs.declared.Change.{Change}
+use Rattle.desk.specs.Effects.{changeOf, bookAfter}
+use Rattle.desk.specs.Answers.{nobody, answerOf}
+
+-- the answer and the book after a change that the record makes
+abbrev pub doneBy : Book → Record → Change → Done
+doneBy b r c = record { answer = answerOf (b .count) r c; book = bookAfter b (r .account) c }
+
+unfoldable pub stepOf : Book → Record → Done
+stepOf b r = doneBy b r (changeOf b r)
+
+-- what stands at the place is carried out. "No bytes left means the end, which is no refusal, and the book stays the same."
+abbrev pub onFound : Book → ℕ → Found → Next
+onFound b at NoBytes = record { answer = nobody End; book = b; place = at }
+onFound b at TooFew = record { answer = nobody (Refused 2); book = b; place = at }
+onFound b at (Whole r next) = record { answer = stepOf b r .answer; book = stepOf b r .book; place = next }
+
+-- "an unsound book gives 1 even at the end"; "Carrying out from a file leaves the place with 1, 2 and the end and otherwise
+-- moves it past the record, after refusal 3 too."
+unfoldable pub nextOf : Book → List ℕ → ℕ → Next
+nextOf b s at = pick (soundB b) (onFound b at (foundAt s at)) (record { answer = nobody (Refused 1); book = b; place = at })
