@@ -6,8 +6,8 @@ use Rattle.dayfile.specs.declared.Record.{Record}
 use Rattle.desk.specs.declared.Outcome.{Outcome}
 use Rattle.desk.specs.declared.Outcome.the-variants.{CarriedOut, Opened, Refused, End}
 use Rattle.desk.specs.declared.Answer.{Answer}
-use Rattle.desk.specs.declared.Change.{Change}
-use Rattle.desk.specs.declared.Change.the-variants.{Refuse, Put, Open}
+use Rattle.rules.specs.declared.Change.{Change}
+use Rattle.rules.specs.declared.Change.the-variants.{Refuse, Put, Open}
 
 -- document 01's numbers for each case: the refusal or 0
 abbrev pub refusalIn : Outcome → ℕ

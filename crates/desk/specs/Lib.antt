@@ -1,4 +1,2 @@
-pub mod Refusals
-pub mod Effects
 pub mod Answers
 pub mod Steps

@@ -12,8 +12,8 @@ use Rattle.desk.specs.declared.Outcome.the-variants.{Refused, End}
 use Rattle.desk.specs.declared.Answer.{Answer}
 use Rattle.desk.specs.declared.Done.{Done}
 use Rattle.desk.specs.declared.Next.{Next}
-use Rattle.desk.specs.declared.Change.{Change}
-use Rattle.desk.specs.Effects.{changeOf, bookAfter}
+use Rattle.rules.specs.declared.Change.{Change}
+use Rattle.rules.specs.Effects.{changeOf, bookAfter}
 use Rattle.desk.specs.Answers.{nobody, answerOf}
 
 -- the answer and the book after a change that the record makes

@@ -1,7 +1,6 @@
 // The desk: a record is carried out or refused.
 ghost use mathlib.Core.Path.{_≡_};
 use book::Book;
-use book::Row;
 
 // What became of a record; the end is no refusal.
 pub enum Outcome {
@@ -16,13 +15,6 @@ pub struct Answer {
     pub code: u8,
     pub account: u16,
     pub outcome: Outcome,
-}
-
-// What a record does: nothing but a refusal, one row put anew, or one row opened.
-pub enum Change {
-    Refuse(u8),
-    Put(Row),
-    Open(Row),
 }
 
 pub struct Done {

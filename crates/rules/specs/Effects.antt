@@ -7,9 +7,9 @@ use Rattle.book.specs.declared.Row.{Row}
 use Rattle.book.specs.declared.Book.{Book}
 use Rattle.book.specs.Rows.{openedRow, withLive, withReceived, withAllocated, withPledged, withMargin, withRow, withNew, plusKinds, lessKinds}
 use Rattle.dayfile.specs.declared.Record.{Record}
-use Rattle.desk.specs.declared.Change.{Change}
-use Rattle.desk.specs.declared.Change.the-variants.{Refuse, Put, Open}
-use Rattle.desk.specs.Refusals.{isOpening, namedRow, refusalOf}
+use Rattle.rules.specs.declared.Change.{Change}
+use Rattle.rules.specs.declared.Change.the-variants.{Refuse, Put, Open}
+use Rattle.rules.specs.Refusals.{isOpening, namedRow, refusalOf}
 
 -- "Receive adds to received; hand back takes from it; allocate adds to allocated; release takes from it." Pledge and
 -- unpledge do so to pledged, 10 sets the margin, and 11 retires.

@@ -1,0 +1,52 @@
+-- Only for internal functions: no promise of a public call cites it.
+use mathlib.Core.Bool.{Bool, not, _&&_}
+use mathlib.Core.List.{List, [], _∷_, _++_}
+use mathlib.Core.Path.{_≡_}
+use Prim.Native.Nat.{ℕ, _≤_, _<_}
+use lib.Dec.{ltb, eqb}
+use Rattle.sums.specs.Table.{Line, _when_, first}
+use Rattle.book.specs.declared.Row.{Row}
+use Rattle.book.specs.declared.Book.{Book}
+use Rattle.book.specs.View.{free}
+use Rattle.book.specs.Rows.{ceiling, view, hasLiveClient}
+use Rattle.book.specs.Sound.{KindsWithin, ceilings}
+use Rattle.dayfile.specs.declared.Record.{Record}
+use Rattle.dayfile.specs.Records.{faults}
+use Rattle.rules.specs.declared.Change.{Change}
+use Rattle.rules.specs.declared.Seen.{Seen}
+use Rattle.rules.specs.Refusals.{wrongSort, noNumberLeft, pastCeiling, tooMuch, beyondFree, losesCover, notRetirable, uncovered, newMargin}
+use Rattle.rules.specs.Effects.{passes, decided}
+
+-- no amount of the record passes the ceiling
+pub record AmountsIn (r : Record) : Type 0 where
+  pub kinds : KindsWithin (r .kinds) ceilings
+  pub pledged : r .pledged ≤ ceiling
+  pub margin : r .margin ≤ ceiling
+
+-- the table from 3 on, by the row named and what was seen of the others
+abbrev pub refusalsBy : Row → ℕ → ℕ → Seen → Record → List Line
+refusalsBy row count serial seen r =
+    (3 when not (eqb (r .serial) serial))
+    ∷ faults r
+    ++ ((7 when not (ltb (r .account) count && row .live))
+    ∷ (8 when wrongSort row r)
+    ∷ (9 when noNumberLeft count r)
+    ∷ (10 when pastCeiling row r)
+    ∷ (11 when tooMuch row r)
+    ∷ (12 when beyondFree (seen .free) r)
+    ∷ (13 when losesCover (seen .uncovered) r)
+    ∷ (14 when notRetirable row (seen .tied) r)
+    ∷ [])
+
+unfoldable pub refusalBy : Row → ℕ → ℕ → Seen → Record → ℕ
+refusalBy row count serial seen r = first (refusalsBy row count serial seen r)
+
+unfoldable pub changeBy : Row → ℕ → ℕ → Seen → Record → Change
+changeBy row count serial seen r = decided (refusalBy row count serial seen r) (passes row r)
+
+-- what was seen of the other rows is right where the table asks for it
+pub record SeenOf (b : Book) (r : Record) (s : Seen) : Type 0 where
+  pub free-kinds : r .code ≡ 7 → r .account < b .count → s .free ≡ free (view b) (r .account)
+  pub free-pledge : r .code ≡ 9 → r .account < b .count → s .free ≡ free (view b) (r .account)
+  pub cover : r .code ≡ 10 → r .account < b .count → r .margin ≤ ceiling → s .uncovered ≡ uncovered (view (newMargin b r))
+  pub clients : r .code ≡ 11 → r .account < b .count → s .tied ≡ hasLiveClient b (r .account)

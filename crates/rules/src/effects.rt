@@ -1,0 +1,54 @@
+// What a record does to the row named, and the change that it makes.
+use crate::Change;
+use crate::Seen;
+use crate::kinds::less;
+use crate::kinds::less_kinds;
+use crate::kinds::plus_kinds;
+use crate::refusals::refusal;
+use book::Row;
+use dayfile::Record;
+ghost use mathlib.Core.Path.{_≡_};
+ghost use Rattle.book.specs.Sound.{InRange};
+ghost use Rattle.rules.specs.Effects.{amended, passes};
+ghost use Rattle.rules.specs.Inner.{AmountsIn, changeBy};
+
+fn amend(row: Row, r: Record) -> Row
+    requires { ⌜ InRange row × AmountsIn r ⌝ }
+    ensures { λ x. ⌜ x ≡ amended row r ⌝ }
+{
+    let code = r.code;
+    match code {
+        4 => book::rows::with_received(row, plus_kinds(row.received, r.kinds)),
+        5 => book::rows::with_received(row, less_kinds(row.received, r.kinds)),
+        6 => book::rows::with_allocated(row, plus_kinds(row.allocated, r.kinds)),
+        7 => book::rows::with_allocated(row, less_kinds(row.allocated, r.kinds)),
+        8 => book::rows::with_pledged(row, row.pledged + r.pledged),
+        9 => book::rows::with_pledged(row, less(row.pledged, r.pledged)),
+        10 => book::rows::with_margin(row, r.margin),
+        _ => book::rows::with_live(row, false),
+    }
+}
+
+fn passing(row: Row, r: Record) -> Change
+    requires { ⌜ InRange row × AmountsIn r ⌝ }
+    ensures { λ x. ⌜ x ≡ passes row r ⌝ }
+{
+    let opening = (1 <= r.code) & (r.code <= 3);
+    if opening {
+        return Change::Open(book::rows::opened_row(r.code, r.account));
+    }
+    Change::Put(amend(row, r))
+}
+
+// The change that a record makes, by the row named, the number of accounts, the next serial and what was seen of the
+// other rows.
+pub fn change(row: Row, count: u16, serial: u16, seen: Seen, r: Record) -> Change
+    requires { ⌜ InRange row ⌝ }
+    ensures { λ x. ⌜ x ≡ changeBy row count serial seen r ⌝ }
+{
+    let n = refusal(row, count, serial, seen, r);
+    if n != 0 {
+        return Change::Refuse(n);
+    }
+    passing(row, r)
+}

@@ -1,0 +1,54 @@
+// Amounts kind by kind.
+use book::Kinds;
+ghost use mathlib.Core.Path.{_≡_};
+ghost use mathlib.Core.Bool.{_&&_};
+ghost use Prim.Native.Nat.{_+_, _-_, _<_, _≤_};
+ghost use lib.Dec.{leb};
+ghost use Rattle.book.specs.Rows.{total, plusKinds, lessKinds, ceiling};
+ghost use Rattle.book.specs.Sound.{kindsCapped, kindsWithin, KindsWithin, ceilings};
+
+// a less b, or 0
+pub fn less(a: u64, b: u64) -> u64
+    ensures { λ r. ⌜ r ≡ a - b ⌝ }
+{
+    if b <= a { a - b } else { 0 }
+}
+
+pub fn plus_kinds(a: Kinds, b: Kinds) -> Kinds
+    requires { ⌜ KindsWithin a ceilings × KindsWithin b ceilings ⌝ }
+    ensures { λ r. ⌜ r ≡ plusKinds a b ⌝ }
+{
+    Kinds {
+        cash: a.cash + b.cash,
+        deposits: a.deposits + b.deposits,
+        guarantees: a.guarantees + b.guarantees,
+        securities: a.securities + b.securities,
+    }
+}
+
+pub fn less_kinds(a: Kinds, b: Kinds) -> Kinds
+    ensures { λ r. ⌜ r ≡ lessKinds a b ⌝ }
+{
+    Kinds {
+        cash: less(a.cash, b.cash),
+        deposits: less(a.deposits, b.deposits),
+        guarantees: less(a.guarantees, b.guarantees),
+        securities: less(a.securities, b.securities),
+    }
+}
+
+pub fn kinds_within(a: Kinds, b: Kinds) -> bool
+    ensures { λ r. ⌜ r ≡ kindsWithin a b ⌝ }
+{
+    (a.cash <= b.cash)
+        & (a.deposits <= b.deposits)
+        & (a.guarantees <= b.guarantees)
+        & (a.securities <= b.securities)
+}
+
+pub fn kinds_total(k: Kinds) -> u64
+    requires { ⌜ KindsWithin k ceilings ⌝ }
+    ensures { λ r. ⌜ r ≡ total k ⌝ }
+{
+    k.cash + k.deposits + k.guarantees + k.securities
+}

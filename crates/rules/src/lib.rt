@@ -1,0 +1,20 @@
+// Document 01's rules for one record: the refusal that meets it, and what it does to the row named.
+use book::Row;
+
+pub mod effects;
+mod kinds;
+mod refusals;
+
+// What a record does: nothing but a refusal, one row put anew, or one row opened.
+pub enum Change {
+    Refuse(u8),
+    Put(Row),
+    Open(Row),
+}
+
+// What a record's verdict needs of the other rows.
+pub struct Seen {
+    pub free: u64,
+    pub uncovered: bool,
+    pub tied: bool,
+}
