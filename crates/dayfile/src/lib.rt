@@ -1,6 +1,13 @@
 // The day file: what stands at a place of a piece, and a record's bytes.
-ghost use mathlib.Core.Path.{_≡_};
 use book::Kinds;
+
+mod reading;
+mod records;
+
+pub use reading::found_at;
+pub use reading::read_at;
+pub use records::fault_of;
+pub use records::size;
 
 // A record. `named` is the second mark byte: the amounts that the record names; the others are 0.
 pub struct Record {

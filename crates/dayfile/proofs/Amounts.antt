@@ -1,0 +1,30 @@
+-- Laws of one amount, which stands in a record where its bit is 1.
+use mathlib.Core.Path.{_≡_, refl}
+use mathlib.Core.List.{List, [], _++_}
+use Prim.Native.Nat.{ℕ, zero, suc, _+_, _*_, _≤_, _<_}
+use native.Mathlib.Omega.{arith}
+use lib.ListN.{length, drop, length-drop}
+use Rattle.dayfile.specs.Bytes.{number, bytesOf, Bytes}
+use Rattle.dayfile.specs.Records.{bit}
+use Rattle.dayfile.specs.Reading.{got, past}
+use Rattle.dayfile.specs.Written.{field}
+use Rattle.dayfile.proofs.Numbers.{length-bytesOf, drop-bytesOf, bytesOf-number, bytes-drop}
+use Rattle.dayfile.proofs.Marks.{bit-lt}
+
+pub got-named : (b : ℕ) (l : List ℕ) → (b ≡ 0 → ⊥) → got b l ≡ number 8 l
+unfolding got
+got-named zero l h = absurd (h refl)
+got-named (suc b) l h = refl
+
+pub got-unnamed : (b : ℕ) (l : List ℕ) → b ≡ 0 → got b l ≡ 0
+unfolding got
+got-unnamed b l h = rw h refl
+
+past-drop : (b : ℕ) (l : List ℕ) → b < 2 → past b l ≡ drop (8 * b) l
+unfolding past
+past-drop zero l h = refl
+past-drop (suc zero) l h = refl
+past-drop (suc (suc b)) l h = absurd (omega arith)
+
+pub past-bit : (w n : ℕ) (l : List ℕ) → past (bit w n) l ≡ drop (8 * bit w n) l
+past-bit w n l = past-drop (bit w n) l (bit-lt w n)

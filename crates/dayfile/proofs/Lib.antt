@@ -1,0 +1,4 @@
+mod Numbers
+mod Marks
+mod Amounts
+mod Looking

@@ -1,0 +1,28 @@
+-- Laws of the second mark byte: its ones are its bits.
+use mathlib.Core.Path.{_≡_, refl, sym, ap, _∙_}
+use Prim.Native.Nat.{ℕ, _+_, _*_, _/_, _%_, _≤_, _<_}
+use native.Mathlib.Nat.{mod-lt, div-one, div-div-eq-div-mul}
+use native.Mathlib.Omega.{arith}
+use lib.Count.{ones, ones-step, ones-le}
+use lib.Dec.{lit<}
+use Rattle.dayfile.specs.Records.{bit}
+use Rattle.dayfile.specs.Reading.{sizeOf}
+
+pub bit-lt : (w n : ℕ) → bit w n < 2
+bit-lt w n = mod-lt (n / w) (lit< tt)
+
+ones-at : (w n : ℕ) → ones (n / w) ≡ bit w n + ones (n / (w * 2))
+ones-at w n = ones-step (n / w) ∙ ap (λ (k : ℕ). n / w % 2 + ones k) (div-div-eq-div-mul n w 2)
+
+pub ones-bits : (n : ℕ) → ones n ≡ bit 1 n + (bit 2 n + (bit 4 n + (bit 8 n + (bit 16 n + (bit 32 n + ones (n / 64))))))
+ones-bits n =
+    ap ones (sym (div-one n))
+    ∙ rw (ones-at 1 n, ones-at 2 n, ones-at 4 n, ones-at 8 n, ones-at 16 n, ones-at 32 n)
+
+pub ones-zero : (n : ℕ) → n ≡ 0 → ones n ≡ 0
+unfolding ones
+ones-zero n e = rw e refl
+
+-- "The longest record is 70 bytes."
+pub size-most : (named : ℕ) → named < 256 → sizeOf named ≤ 70
+size-most named h = omega (arith, ones-le 8 named h)

@@ -1,0 +1,97 @@
+-- Laws of numbers as bytes, high byte first.
+use mathlib.Core.Path.{_≡_, refl, sym, ap, ap₂, _∙_}
+use mathlib.Core.List.{List, [], _∷_, _++_}
+use Prim.Native.Nat.{ℕ, zero, suc, _+_, _*_, _/_, _%_, _^_, _≤_, _<_}
+use native.Mathlib.Nat.{pow-succ', mul-assoc, add-comm, one-le-pow, le-of-suc-le-suc, add-mul-div-right, add-mul-mod-self-right, mod-eq-of-lt, not-suc-le-zero, zero-add, suc-add, add-mul, add-assoc}
+use native.Mathlib.Numerals.{add-one}
+use native.Mathlib.Omega.{arith}
+use lib.Arith.{mod-mul, digits-div, digits-lt}
+use lib.Dec.{lit<}
+use lib.ListN.{length, drop, getD}
+use lib.Pow.{pow-add}
+use lib.Seq.{drop-at, drop-cons, drop-drop, getD-drop}
+use Rattle.dayfile.specs.Bytes.{number, bytesOf, Bytes}
+
+pow-pos : (k : ℕ) → 0 < 256 ^ k
+pow-pos k = one-le-pow k 256 (lit< tt)
+
+pub length-bytesOf : (k x : ℕ) → length (bytesOf k x) ≡ k
+unfolding bytesOf
+length-bytesOf zero x = refl
+length-bytesOf (suc k) x = ap suc (length-bytesOf k x)
+
+pub drop-bytesOf : (k x : ℕ) (t : List ℕ) → drop k (bytesOf k x ++ t) ≡ t
+drop-bytesOf k x t = drop-at (bytesOf k x) t k (length-bytesOf k x)
+
+number-mod : (k x : ℕ) (t : List ℕ) → number k (bytesOf k x ++ t) ≡ x % 256 ^ k
+unfolding number bytesOf
+number-mod zero x t = omega arith
+number-mod (suc k) x t =
+    ap (λ (n : ℕ). x / 256 ^ k % 256 * 256 ^ k + n) (number-mod k x t)
+    ∙ sym (mod-mul x {m = 256} (lit< tt) (pow-pos k))
+    ∙ ap (λ (n : ℕ). x % n) (sym (pow-succ' 256 k))
+
+-- reading what was written
+pub number-bytesOf : (k x : ℕ) (t : List ℕ) → x < 256 ^ k → number k (bytesOf k x ++ t) ≡ x
+number-bytesOf k x t h = number-mod k x t ∙ mod-eq-of-lt h
+
+pub bytes-tail : (b : ℕ) (l : List ℕ) → Bytes (b ∷ l) → Bytes l
+bytes-tail b l h i = h (suc i)
+
+pub bytes-drop : (k : ℕ) (l : List ℕ) → Bytes l → Bytes (drop k l)
+bytes-drop k l h i = rw getD-drop (h (k + i))
+
+pub number-lt : (k : ℕ) (l : List ℕ) → Bytes l → number k l < 256 ^ k
+unfolding number
+number-lt zero l h = lit< tt
+number-lt (suc k) [] h = pow-pos (suc k)
+number-lt (suc k) (b ∷ l) h = rw pow-succ' (digits-lt (h 0) (number-lt k l (bytes-tail b l h)))
+
+-- what stands above the k lowest bytes doesn't show in them
+bytesOf-low : (k c x : ℕ) → bytesOf k (x + c * 256 ^ k) ≡ bytesOf k x
+unfolding bytesOf
+bytesOf-low zero c x = refl
+bytesOf-low (suc k) c x =
+    let e : c * 256 ^ suc k ≡ (c * 256) * 256 ^ k = rw (pow-succ', mul-assoc) in
+    rw e (ap₂ (λ (n : ℕ) (l : List ℕ). n ∷ l)
+    (rw (add-mul-div-right x (c * 256) (pow-pos k)) (add-mul-mod-self-right (x / 256 ^ k) c 256))
+    (bytesOf-low k (c * 256) x))
+
+-- writing what was read
+pub bytesOf-number : (k : ℕ) (l : List ℕ) → Bytes l → k ≤ length l → bytesOf k (number k l) ++ drop k l ≡ l
+unfolding number bytesOf
+bytesOf-number zero l h n = refl
+bytesOf-number (suc k) [] h n = absurd (not-suc-le-zero n)
+bytesOf-number (suc k) (b ∷ l) h n =
+    let small = number-lt k l (bytes-tail b l h) in
+    ap₂ (λ (x : ℕ) (y : List ℕ). x ∷ y)
+    (rw (digits-div b small) (mod-eq-of-lt (h 0)))
+    (rw (add-comm (b * 256 ^ k) (number k l), bytesOf-low k b (number k l))
+    (bytesOf-number k l (bytes-tail b l h) (le-of-suc-le-suc n)))
+
+number-nil : (k : ℕ) → number k [] ≡ 0
+unfolding number
+number-nil zero = refl
+number-nil (suc k) = refl
+
+-- the first j bytes and the k after them
+number-add : (j k : ℕ) (l : List ℕ) → number (j + k) l ≡ number j l * 256 ^ k + number k (drop j l)
+unfolding number
+number-add zero k l = rw zero-add (omega arith)
+number-add (suc j) k [] = rw (number-nil (suc j + k), number-nil k) (omega arith)
+number-add (suc j) k (b ∷ l) =
+    rw (suc-add, number-add j k l, pow-add 256 j k) (simp (add-mul, mul-assoc, add-assoc))
+
+-- the same at a place of a list
+pub number-at : (j k : ℕ) (s : List ℕ) (at : ℕ) → number (j + k) (drop at s) ≡ number j (drop at s) * 256 ^ k + number k (drop (at + j) s)
+number-at j k s at = rw (number-add j k (drop at s), drop-drop)
+
+-- the two bytes at a place, and the rest
+pub two-at : (s : List ℕ) (at : ℕ) → at + 2 ≤ length s → drop at s ≡ getD s at 0 ∷ getD s (at + 1) 0 ∷ drop (at + 2) s
+two-at s at h =
+    let e : at + 2 ≡ suc (suc at) = omega arith in
+    rw (e, add-one, drop-cons s at 0 (omega arith), drop-cons s (suc at) 0 (omega arith))
+
+pub number-two : (s : List ℕ) (at : ℕ) → at + 2 ≤ length s → getD s at 0 * 256 + getD s (at + 1) 0 ≡ number 2 (drop at s)
+unfolding number
+number-two s at h = rw (two-at s at h) (omega arith)

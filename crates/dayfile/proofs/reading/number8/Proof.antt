@@ -1,0 +1,45 @@
+use mathlib.Core.Path.{sym}
+use denote.Ref.{now}
+use Rattle.dayfile.proofs.Numbers.{number-at}
+use borrow.Author.Needs.{needs}
+use Rattle.dayfile.proofs.reading.number8.Statement.{statement}
+use Rattle.dayfile.proofs.reading.number8.Tie as tie
+
+number4-requires : tie.Need-number4-requires
+number4-requires c κs = search needs
+
+cast-result : tie.Need-cast-result
+cast-result c = search needs
+
+mul-result : tie.Need-mul-result
+mul-result c = search needs
+
+add-number4 : tie.Need-add-number4
+add-number4 c = search needs
+
+number4-requires-2 : tie.Need-number4-requires-2
+number4-requires-2 c κs = search needs
+
+cast-result-2 : tie.Need-cast-result-2
+cast-result-2 c = search needs
+
+add-result : tie.Need-add-result
+add-result c = search needs
+
+returns : tie.Need-returns
+returns c =
+    let a = c .before .before .before .args in
+    rw (c .before .number4 .ensures, c .number42 .ensures) (sym (number-at 4 4 (now (a .piece)) (a .place)))
+
+pub number8-spec : {M : Type 1} → statement M
+number8-spec =
+    tie.close
+    (tie.spec
+    number4-requires
+    cast-result
+    mul-result
+    add-number4
+    number4-requires-2
+    cast-result-2
+    add-result
+    returns)

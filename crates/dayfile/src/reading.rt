@@ -1,0 +1,120 @@
+// What stands at a place of a piece of the day file.
+ghost use mathlib.Core.Path.{_≡_};
+ghost use Prim.Native.Nat.{_+_, _*_, _≤_};
+ghost use lib.ListN.{length, drop};
+ghost use lib.Count.{ones};
+ghost use Rattle.dayfile.specs.Bytes.{number};
+ghost use Rattle.dayfile.specs.Reading.{got, recordOf, foundAt, readAt};
+use crate::Found;
+use crate::Read;
+use crate::Record;
+use crate::records::fault_of;
+use crate::records::size;
+use book::Kinds;
+
+fn number2(piece: &[u8], place: usize) -> u16
+    requires { ⌜ place + 2 ≤ length (now piece) ⌝ }
+    ensures { λ r. ⌜ r ≡ number 2 (drop place (now (piece .entry))) ⌝ }
+{
+    piece[place] as u16 * 256 + piece[place + 1] as u16
+}
+
+fn number4(piece: &[u8], place: usize) -> u32
+    requires { ⌜ place + 4 ≤ length (now piece) ⌝ }
+    ensures { λ r. ⌜ r ≡ number 4 (drop place (now (piece .entry))) ⌝ }
+{
+    number2(piece, place) as u32 * 65536 + number2(piece, place + 2) as u32
+}
+
+fn number8(piece: &[u8], place: usize) -> u64
+    requires { ⌜ place + 8 ≤ length (now piece) ⌝ }
+    ensures { λ r. ⌜ r ≡ number 8 (drop place (now (piece .entry))) ⌝ }
+{
+    number4(piece, place) as u64 * 4294967296 + number4(piece, place + 4) as u64
+}
+
+// The amount at a place where its bit is 1, or 0.
+fn amount_at(piece: &[u8], place: usize, bit: u8) -> u64
+    requires { ⌜ place + 8 * bit ≤ length (now piece) ⌝ }
+    ensures { λ r. ⌜ r ≡ got bit (drop place (now (piece .entry))) ⌝ }
+{
+    if bit == 0 { 0 } else { number8(piece, place) }
+}
+
+// The record whose bytes after the mark stand at a place.
+fn record_at(piece: &[u8], place: usize, code: u8, named: u8) -> Record
+    requires { ⌜ place + (4 + 8 * ones named) ≤ length (now piece) ⌝ }
+    ensures { λ r. ⌜ r ≡ recordOf code named (drop place (now (piece .entry))) ⌝ }
+{
+    let b0 = named / 1 % 2;
+    let b1 = named / 2 % 2;
+    let b2 = named / 4 % 2;
+    let b3 = named / 8 % 2;
+    let b4 = named / 16 % 2;
+    let b5 = named / 32 % 2;
+    let pa = place + 2;
+    let p0 = pa + 2;
+    let p1 = p0 + 8 * (b0 as usize);
+    let p2 = p1 + 8 * (b1 as usize);
+    let p3 = p2 + 8 * (b2 as usize);
+    let p4 = p3 + 8 * (b3 as usize);
+    let p5 = p4 + 8 * (b4 as usize);
+    Record {
+        serial: number2(piece, place),
+        code,
+        named,
+        account: number2(piece, pa),
+        kinds: Kinds {
+            cash: amount_at(piece, p0, b0),
+            deposits: amount_at(piece, p1, b1),
+            guarantees: amount_at(piece, p2, b2),
+            securities: amount_at(piece, p3, b3),
+        },
+        pledged: amount_at(piece, p4, b4),
+        margin: amount_at(piece, p5, b5),
+    }
+}
+
+// What stands at a place, good or not. What is left is compared, so that no sum of a place and a length wraps.
+pub fn found_at(piece: &[u8], place: usize) -> Found
+    ensures { λ r. ⌜ r ≡ foundAt (now (piece .entry)) place ⌝ }
+{
+    if piece.len() <= place {
+        return Found::End;
+    }
+    let left = piece.len() - place;
+    if left < 2 {
+        return Found::Cut;
+    }
+    let code = piece[place];
+    let named = piece[place + 1];
+    let n = size(named);
+    if left < n {
+        return Found::Cut;
+    }
+    let record = record_at(piece, place + 2, code, named);
+    Found::Whole(record, place + n)
+}
+
+// What the reader gives at a place.
+pub fn read_at(piece: &[u8], place: usize) -> Read
+    ensures { λ r. ⌜ r ≡ readAt (now (piece .entry)) place ⌝ }
+{
+    match found_at(piece, place) {
+        Found::End => Read::End,
+        Found::Cut => Read::Cut,
+        Found::Whole(record, next) => {
+            let fault = fault_of(record);
+            if fault == 0 {
+                return Read::Good(record, next);
+            }
+            Read::Bad {
+                reason: fault,
+                serial: record.serial,
+                code: record.code,
+                account: record.account,
+                next,
+            }
+        }
+    }
+}
