@@ -1,3 +1,4 @@
 pub mod Needs
 pub mod Keeps
 pub mod Opens
+pub mod OneRow
