@@ -3,3 +3,4 @@ pub mod Keeps
 pub mod Opens
 pub mod OneRow
 pub mod RowFacts
+pub mod SoundTest
