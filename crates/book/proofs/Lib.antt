@@ -1,0 +1,6 @@
+pub mod Needs
+pub mod Keeps
+pub mod Opens
+pub mod OneRow
+pub mod RowFacts
+pub mod SoundTest
