@@ -1,6 +1,7 @@
-pub mod Needs
 pub mod Keeps
-pub mod Opens
+pub mod Needs
 pub mod OneRow
+pub mod Opens
 pub mod RowFacts
+pub mod RowTests
 pub mod SoundTest

@@ -1,5 +1,9 @@
 // The collateral book of one clearing member: its rows, its soundness, an account's standing.
 ghost use mathlib.Core.Path.{_≡_};
+ghost use Rattle.book.specs.Rows.{freshBook};
+
+pub mod rows;
+mod sound;
 
 // Received or allocated collateral by kind, in paise.
 pub struct Kinds {
@@ -39,3 +43,16 @@ pub struct Figures {
 
 // The largest amount, in paise.
 pub const CEILING: u64 = 10_000_000_000_000;
+
+pub fn fresh() -> Book
+    ensures { λ r. ⌜ r ≡ freshBook ⌝ }
+{
+    let blank = rows::no_row();
+    let mut table = [blank; 256];
+    table[0] = rows::opened_row(0, 0);
+    Book {
+        count: 1,
+        serial: 0,
+        rows: table,
+    }
+}
