@@ -23,20 +23,33 @@ pub record AmountsIn (r : Record) : Type 0 where
   pub pledged : r .pledged ≤ ceiling
   pub margin : r .margin ≤ ceiling
 
--- the table from 3 on, by the row named and what was seen of the others
+-- the table from 3 on, by the row named and what was seen of the others, line by line
+abbrev pub from14 : Row → Seen → Record → List Line
+from14 row seen r = (14 when notRetirable row (seen .tied) r) ∷ []
+
+abbrev pub from13 : Row → Seen → Record → List Line
+from13 row seen r = (13 when losesCover (seen .uncovered) r) ∷ from14 row seen r
+
+abbrev pub from12 : Row → Seen → Record → List Line
+from12 row seen r = (12 when beyondFree (seen .free) r) ∷ from13 row seen r
+
+abbrev pub from11 : Row → Seen → Record → List Line
+from11 row seen r = (11 when tooMuch row r) ∷ from12 row seen r
+
+abbrev pub from10 : Row → Seen → Record → List Line
+from10 row seen r = (10 when pastCeiling row r) ∷ from11 row seen r
+
+abbrev pub from9 : Row → ℕ → Seen → Record → List Line
+from9 row count seen r = (9 when noNumberLeft count r) ∷ from10 row seen r
+
+abbrev pub from8 : Row → ℕ → Seen → Record → List Line
+from8 row count seen r = (8 when wrongSort row r) ∷ from9 row count seen r
+
+abbrev pub from7 : Row → ℕ → Seen → Record → List Line
+from7 row count seen r = (7 when not (ltb (r .account) count && row .live)) ∷ from8 row count seen r
+
 abbrev pub refusalsBy : Row → ℕ → ℕ → Seen → Record → List Line
-refusalsBy row count serial seen r =
-    (3 when not (eqb (r .serial) serial))
-    ∷ faults r
-    ++ ((7 when not (ltb (r .account) count && row .live))
-    ∷ (8 when wrongSort row r)
-    ∷ (9 when noNumberLeft count r)
-    ∷ (10 when pastCeiling row r)
-    ∷ (11 when tooMuch row r)
-    ∷ (12 when beyondFree (seen .free) r)
-    ∷ (13 when losesCover (seen .uncovered) r)
-    ∷ (14 when notRetirable row (seen .tied) r)
-    ∷ [])
+refusalsBy row count serial seen r = (3 when not (eqb (r .serial) serial)) ∷ (faults r ++ from7 row count seen r)
 
 unfoldable pub refusalBy : Row → ℕ → ℕ → Seen → Record → ℕ
 refusalBy row count serial seen r = first (refusalsBy row count serial seen r)

@@ -72,7 +72,7 @@ abbrev pub refusals : Book → Record → List Line
 refusals b r =
     (1 when not (soundB b))
     ∷ (3 when not (eqb (r .serial) (b .serial)))
-    ∷ faults r
+    ∷ (faults r
     ++ ((7 when not (isLive b (r .account)))
     ∷ (8 when wrongSort (namedRow b r) r)
     ∷ (9 when noNumberLeft (b .count) r)
@@ -81,7 +81,7 @@ refusals b r =
     ∷ (12 when beyondFree (free (view b) (r .account)) r)
     ∷ (13 when losesCover (uncovered (view (newMargin b r))) r)
     ∷ (14 when notRetirable (namedRow b r) (hasLiveClient b (r .account)) r)
-    ∷ [])
+    ∷ []))
 
 -- the first that applies, or 0
 unfoldable pub refusalOf : Book → Record → ℕ

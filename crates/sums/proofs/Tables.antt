@@ -1,6 +1,6 @@
 -- The number that a table gives: exactly when its test holds and no earlier one does.
 use mathlib.Core.Bool.{Bool, true, false, false≢true}
-use mathlib.Core.List.{List, [], _∷_}
+use mathlib.Core.List.{List, [], _∷_, _++_}
 use mathlib.Core.Path.{_≡_, refl, sym, _∙_}
 use Prim.Native.Nat.{ℕ, suc, _<_}
 use native.Mathlib.Omega.{arith}
@@ -31,3 +31,35 @@ first-given (l ∷ rest) k p e = by (l .test) refl e (λ q. first-given rest k p
     by : (t : Bool) → l .test ≡ t → pick t (l .number) (first rest) ≡ k → (first rest ≡ k → Given k rest) → Given k (l ∷ rest)
     by true q f r = rw (← f) (here q)
     by false q f r = later q (r f)
+
+-- two tables one after the other: the first one's number where it gives one, and otherwise the second one's
+pub first-some : (a b : List Line) → (first a ≡ 0 → ⊥) → first (a ++ b) ≡ first a
+unfolding first pick
+first-some [] b h = absurd (h refl)
+first-some (l ∷ rest) b h = by (l .test) h (λ q. first-some rest b q)
+  where
+    by : (t : Bool) → (pick t (l .number) (first rest) ≡ 0 → ⊥) → ((first rest ≡ 0 → ⊥) → first (rest ++ b) ≡ first rest)
+        → pick t (l .number) (first (rest ++ b)) ≡ pick t (l .number) (first rest)
+    by true q r = refl
+    by false q r = r q
+
+-- no line has the number 0
+abbrev pub Numbered : List Line → Type 0
+Numbered [] = Unit
+Numbered (l ∷ rest) = (0 < l .number) × Numbered rest
+
+pub first-none : (a b : List Line) → Numbered a → first a ≡ 0 → first (a ++ b) ≡ first b
+unfolding first pick
+first-none [] b n h = refl
+first-none (l ∷ rest) b n h = by (l .test) h (λ q. first-none rest b (n .1) q)
+  where
+    by : (t : Bool) → pick t (l .number) (first rest) ≡ 0 → (first rest ≡ 0 → first (rest ++ b) ≡ first b)
+        → pick t (l .number) (first (rest ++ b)) ≡ first b
+    by true q r = absurd (omega (arith, n .0))
+    by false q r = r q
+
+-- where a table gives nothing, its first test fails and the rest gives nothing
+pub first-fails : (n : ℕ) (t : Bool) (rest : List Line) → 0 < n → first ((n when t) ∷ rest) ≡ 0 → (t ≡ false) × (first rest ≡ 0)
+unfolding first pick
+first-fails n true rest p e = absurd (omega arith)
+first-fails n false rest p e = (refl, e)
