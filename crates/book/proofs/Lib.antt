@@ -4,3 +4,6 @@ pub mod Opens
 pub mod OneRow
 pub mod RowFacts
 pub mod SoundTest
+pub mod SoundAfter
+pub mod LiveClients
+pub mod FreshSound
