@@ -1,7 +1,7 @@
 -- A fresh book is sound.
 use mathlib.Core.Path.{_≡_, refl}
-use mathlib.Core.Bool.{Bool, true, false}
-use Prim.Native.Nat.{ℕ, zero, suc, _+_, _-_, _≤_, _<_, min}
+use mathlib.Core.Bool.{true, false}
+use Prim.Native.Nat.{ℕ, zero, suc, _≤_, _<_}
 use native.Mathlib.Omega.{arith}
 use lib.ListN.{getD, replicate}
 use Rattle.sums.specs.Sum.{sum}
@@ -10,10 +10,10 @@ use Rattle.book.specs.Rows.{noRow, rowAt, freshBook}
 use Rattle.book.specs.Sound.{InRange, Sound, noAmounts, soundB}
 use Rattle.book.proofs.SoundTest.{sound←}
 
-getD-replicate : {A : Type 0} (n i : ℕ) (a : A) → getD (replicate n a) i a ≡ a
-getD-replicate zero i a = refl
-getD-replicate (suc n) zero a = refl
-getD-replicate (suc n) (suc i) a = getD-replicate n i a
+getD-same : {A : Type 0} (n i : ℕ) (a : A) → getD (replicate n a) i a ≡ a
+getD-same zero i a = refl
+getD-same (suc n) zero a = refl
+getD-same (suc n) (suc i) a = getD-same n i a
 
 -- account 0 is the only one
 alone : (P : ℕ → Type 0) → P 0 → (i : ℕ) → i < 1 → P i
@@ -42,7 +42,7 @@ fresh-sound = record {
   where
     blank : (i : ℕ) → 1 ≤ i → rowAt freshBook i ≡ noRow
     blank zero h = absurd (omega arith)
-    blank (suc i) h = getD-replicate 255 i noRow
+    blank (suc i) h = getD-same 255 i noRow
 
 pub fresh-test : soundB freshBook ≡ true
 fresh-test = sound← freshBook fresh-sound

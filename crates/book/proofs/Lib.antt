@@ -7,3 +7,4 @@ pub mod SoundTest
 pub mod SoundAfter
 pub mod LiveClients
 pub mod FreshSound
+pub mod Differences

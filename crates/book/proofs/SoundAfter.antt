@@ -1,8 +1,8 @@
 -- A sound book stays sound: after each change of one row, after an opening, and whatever its serial.
 use mathlib.Core.Path.{_≡_, refl, sym, _∙_, ap}
-use mathlib.Core.Bool.{Bool, true, false}
+use mathlib.Core.Bool.{true, false}
 use mathlib.Core.Logic.{_⊎_}
-use Prim.Native.Nat.{ℕ, _+_, _-_, _≤_, _<_, min}
+use Prim.Native.Nat.{ℕ, _+_, _-_, _≤_, _<_}
 use native.Mathlib.Omega.{arith}
 use native.Mathlib.Decide.{ℕ-discrete}
 use lib.ListN.{length, length-set}
@@ -38,12 +38,9 @@ in-table b s i m = omega (arith, s .table, s .most)
 
 -- row i changes, keeps code and TM, and is in range; a client that is live after it has a live TM
 module _ (b : Book) (s : Sound b) (i : ℕ) (m : i < b .count) (r : Row) (ec : r .code ≡ rowAt b i .code) (et : r .tm ≡ rowAt b i .tm) where
-  abbrev after : Book
-  after = withRow b i r
-
-  row-sound : InRange r → (r .live ≡ false → noAmounts r ≡ true) → rowAt after 0 .live ≡ true
-      → ((j : ℕ) → j < b .count → rowAt b j .code ≡ 2 → rowAt after j .live ≡ true → rowAt after (rowAt b j .tm) .live ≡ true)
-      → Covered (view after) → Sound after
+  row-sound : InRange r → (r .live ≡ false → noAmounts r ≡ true) → rowAt (withRow b i r) 0 .live ≡ true
+      → ((j : ℕ) → j < b .count → rowAt b j .code ≡ 2 → rowAt (withRow b i r) j .live ≡ true → rowAt (withRow b i r) (rowAt b j .tm) .live ≡ true)
+      → Covered (view (withRow b i r)) → Sound (withRow b i r)
   row-sound ranges retired top tms c = record {
     table = length-set (b .rows) i r ∙ s .table;
     most = s .most;
@@ -61,10 +58,10 @@ module _ (b : Book) (s : Sound b) (i : ℕ) (m : i < b .count) (r : Row) (ec : r
       l : i < length (b .rows)
       l = in-table b s i m
 
-      code : (j : ℕ) → rowAt after j .code ≡ rowAt b j .code
+      code : (j : ℕ) → rowAt (withRow b i r) j .code ≡ rowAt b j .code
       code = same-code b i r l ec et
 
-      tm : (j : ℕ) → rowAt after j .tm ≡ rowAt b j .tm
+      tm : (j : ℕ) → rowAt (withRow b i r) j .tm ≡ rowAt b j .tm
       tm = same-tm b i r l ec et
 
 module _ (b : Book) (s : Sound b) (i : ℕ) (m : i < b .count) (live : rowAt b i .live ≡ true) where
@@ -85,42 +82,39 @@ module _ (b : Book) (s : Sound b) (i : ℕ) (m : i < b .count) (live : rowAt b i
       amounts-sound r ec et el f
       (kept-covered (view b) (view (withRow b i r)) (row-kept b i r (in-table b s i m) ec et hm hb) (s .shaped .top) (s .covered))
 
-  abbrev x : Row
-  x = rowAt b i
-
   -- 10 does not apply
-  pub receive-sound : (k : Kinds) → KindsWithin (plusKinds (x .received) k) ceilings
-      → Sound (withRow b i (withReceived x (plusKinds (x .received) k)))
+  pub receive-sound : (k : Kinds) → KindsWithin (plusKinds (rowAt b i .received) k) ceilings
+      → Sound (withRow b i (withReceived (rowAt b i) (plusKinds (rowAt b i .received) k)))
   receive-sound k h = kept-sound _ refl refl live (omega (arith, s .ranges i m)) (omega arith) (omega arith)
 
   -- 11 does not apply
-  pub hand-back-sound : (k : Kinds) → KindsWithin k (lessKinds (x .received) (x .allocated))
-      → Sound (withRow b i (withReceived x (lessKinds (x .received) k)))
+  pub hand-back-sound : (k : Kinds) → KindsWithin k (lessKinds (rowAt b i .received) (rowAt b i .allocated))
+      → Sound (withRow b i (withReceived (rowAt b i) (lessKinds (rowAt b i .received) k)))
   hand-back-sound k h = kept-sound _ refl refl live (omega (arith, s .ranges i m)) (omega arith) (omega arith)
 
-  pub allocate-sound : (k : Kinds) → KindsWithin k (lessKinds (x .received) (x .allocated))
-      → Sound (withRow b i (withAllocated x (plusKinds (x .allocated) k)))
+  pub allocate-sound : (k : Kinds) → KindsWithin k (lessKinds (rowAt b i .received) (rowAt b i .allocated))
+      → Sound (withRow b i (withAllocated (rowAt b i) (plusKinds (rowAt b i .allocated) k)))
   allocate-sound k h = kept-sound _ refl refl live (omega (arith, s .ranges i m)) (omega arith) (omega arith)
 
   -- 11 and 12 do not apply
-  pub release-sound : (k : Kinds) → KindsWithin k (x .allocated) → total k ≤ free (view b) i
-      → Sound (withRow b i (withAllocated x (lessKinds (x .allocated) k)))
+  pub release-sound : (k : Kinds) → KindsWithin k (rowAt b i .allocated) → total k ≤ free (view b) i
+      → Sound (withRow b i (withAllocated (rowAt b i) (lessKinds (rowAt b i .allocated) k)))
   release-sound k h f = kept-sound _ refl refl live (omega (arith, s .ranges i m)) (omega arith) (omega arith)
 
   -- 10 does not apply
-  pub pledge-sound : (y : ℕ) → x .pledged + y ≤ ceiling → Sound (withRow b i (withPledged x (x .pledged + y)))
+  pub pledge-sound : (y : ℕ) → rowAt b i .pledged + y ≤ ceiling → Sound (withRow b i (withPledged (rowAt b i) (rowAt b i .pledged + y)))
   pledge-sound y h = kept-sound _ refl refl live (omega (arith, s .ranges i m)) (omega arith) (omega arith)
 
   -- 11 and 12 do not apply
-  pub unpledge-sound : (y : ℕ) → y ≤ x .pledged → y ≤ free (view b) i → Sound (withRow b i (withPledged x (x .pledged - y)))
+  pub unpledge-sound : (y : ℕ) → y ≤ rowAt b i .pledged → y ≤ free (view b) i → Sound (withRow b i (withPledged (rowAt b i) (rowAt b i .pledged - y)))
   unpledge-sound y h f = kept-sound _ refl refl live (omega (arith, s .ranges i m)) (omega arith) (omega arith)
 
   -- 13 does not apply
-  pub margin-sound : (y : ℕ) → y ≤ ceiling → Covered (view (withRow b i (withMargin x y))) → Sound (withRow b i (withMargin x y))
+  pub margin-sound : (y : ℕ) → y ≤ ceiling → Covered (view (withRow b i (withMargin (rowAt b i) y))) → Sound (withRow b i (withMargin (rowAt b i) y))
   margin-sound y h c = amounts-sound _ refl refl live (omega (arith, s .ranges i m)) c
 
   -- 13 never applies to a margin that doesn't rise
-  pub margin-falls : (y : ℕ) → y ≤ x .margin → Sound (withRow b i (withMargin x y))
+  pub margin-falls : (y : ℕ) → y ≤ rowAt b i .margin → Sound (withRow b i (withMargin (rowAt b i) y))
   margin-falls y h = kept-sound _ refl refl live (omega (arith, s .ranges i m)) h (omega arith)
 
 -- 7, 8 and 14 do not apply
@@ -129,7 +123,7 @@ module _ (b : Book) (s : Sound b) (i : ℕ) (m : i < b .count) (ne : i ≡ 0 →
   abbrev gone : Row
   gone = withLive (rowAt b i) false
 
-  pub retire-sound : Sound (withRow b i gone)
+  pub retire-sound : Sound (withRow b i (withLive (rowAt b i) false))
   retire-sound =
       row-sound b s i m gone refl refl (same-range (s .ranges i m)) (λ q. none)
       (ap (λ r. r .live) (row-other b i 0 gone (λ e. ne (sym e))) ∙ s .top-live)
@@ -168,7 +162,7 @@ module _ (b : Book) (s : Sound b) (c t : ℕ) (room : b .count < 256) (sort : (c
   still-live : (j : ℕ) → j < b .count → rowAt b j .live ≡ true → rowAt opened j .live ≡ true
   still-live j l p = ap (λ r. r .live) (below b (openedRow c t) space j l) ∙ p
 
-  pub open-sound : Sound opened
+  pub open-sound : Sound (withNew b (openedRow c t))
   open-sound = record {
     table = length-set (b .rows) (b .count) (openedRow c t) ∙ s .table;
     most = omega arith;

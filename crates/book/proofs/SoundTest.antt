@@ -1,21 +1,19 @@
 -- The test of refusal 1 holds exactly of a sound book.
 use mathlib.Core.Path.{_≡_, refl, sym, _∙_, ap}
-use mathlib.Core.Bool.{Bool, true, false, not, _&&_, _||_}
+use mathlib.Core.Bool.{true, false, not, _&&_, _||_}
 use mathlib.Core.Logic.{_⊎_, inl, inr, ⊎-elim}
-use Prim.Native.Nat.{ℕ, zero, suc, _≤_, _<_}
+use Prim.Native.Nat.{ℕ, _≤_, _<_}
 use native.Mathlib.Omega.{arith}
 use native.Mathlib.Decide.{ℕ-discrete, decLt}
-use lib.Dec.{eqb, leb, ltb}
-use lib.ListN.{length, getD, List·getD-eq-default}
+use lib.Dec.{eqb, ltb}
+use lib.ListN.{length, List·getD-eq-default}
 use borrow.Author.Tests.{eqb-true, eq-eqb, ne-eqb, leb-true, le-leb, ltb-true, lt-ltb, le-ltb, not-false}
-use Rattle.sums.specs.Sum.{all}
 use Rattle.sums.specs.Choice.{pick}
 use Rattle.sums.proofs.Sums.{all-at, all-from}
-use Rattle.sums.proofs.Choices.{pick-yes, pick-no, pass, stop, clash, and-left, and-right, and-join, or-split, or-else, or-from, or-left, or-right}
+use Rattle.sums.proofs.Choices.{pick-yes, pick-no, pass, stop, and-left, and-right, and-join, or-split, or-else, or-from, or-left, or-right}
 use Rattle.book.specs.declared.Row.{Row}
 use Rattle.book.specs.declared.Book.{Book}
-use Rattle.book.specs.View.{needCM, Shaped, Covered}
-use Rattle.book.specs.Rows.{noRow, rowAt, collateral, view}
+use Rattle.book.specs.Rows.{noRow, rowAt}
 use Rattle.book.specs.Sound.{noAmounts, isBlank, isTop, goodClient, goodSort, goodRetired, inRange, goodRow, rowSound, soundB, InRange, Sound}
 use Rattle.book.proofs.RowFacts.{range→, range←, blank→, blank←}
 
