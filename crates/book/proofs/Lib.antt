@@ -5,3 +5,7 @@ pub mod Opens
 pub mod RowFacts
 pub mod RowTests
 pub mod SoundTest
+pub mod SoundAfter
+pub mod LiveClients
+pub mod FreshSound
+pub mod Differences

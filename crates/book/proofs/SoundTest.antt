@@ -1,21 +1,19 @@
 -- The test of refusal 1 holds exactly of a sound book.
 use mathlib.Core.Path.{_≡_, refl, sym, _∙_, ap}
-use mathlib.Core.Bool.{Bool, true, false, not, _&&_, _||_}
+use mathlib.Core.Bool.{true, false, not, _&&_, _||_}
 use mathlib.Core.Logic.{_⊎_, inl, inr, ⊎-elim}
-use Prim.Native.Nat.{ℕ, zero, suc, _≤_, _<_}
+use Prim.Native.Nat.{ℕ, _≤_, _<_}
 use native.Mathlib.Omega.{arith}
 use native.Mathlib.Decide.{ℕ-discrete, decLt}
-use lib.Dec.{eqb, leb, ltb}
-use lib.ListN.{length, getD, List·getD-eq-default}
+use lib.Dec.{eqb, ltb}
+use lib.ListN.{length, List·getD-eq-default}
 use borrow.Author.Tests.{eqb-true, eq-eqb, ne-eqb, leb-true, le-leb, ltb-true, lt-ltb, le-ltb, not-false}
-use Rattle.sums.specs.Sum.{all}
 use Rattle.sums.specs.Choice.{pick}
 use Rattle.sums.proofs.Sums.{all-at, all-from}
-use Rattle.sums.proofs.Choices.{pick-yes, pick-no, pass, stop, clash, and-left, and-right, and-join, or-split, or-else, or-from, or-left, or-right}
+use Rattle.sums.proofs.Choices.{pick-yes, pick-no, and-left, and-right, and-join, or-split, or-else, or-from, or-left, or-right}
 use Rattle.book.specs.declared.Row.{Row}
 use Rattle.book.specs.declared.Book.{Book}
-use Rattle.book.specs.View.{needCM, Shaped, Covered}
-use Rattle.book.specs.Rows.{noRow, rowAt, collateral, view}
+use Rattle.book.specs.Rows.{noRow, rowAt}
 use Rattle.book.specs.Sound.{noAmounts, isBlank, isTop, goodClient, goodSort, goodRetired, inRange, goodRow, rowSound, soundB, InRange, Sound}
 use Rattle.book.proofs.RowFacts.{range→, range←, blank→, blank←}
 
@@ -94,23 +92,27 @@ module _ (b : Book) (i : ℕ) where
   unfolding rowSound goodRow
   row← s = by (decLt i (b .count))
     where
-      put : i < b .count → Dec (i ≡ 0) → true ≡ pick (eqb i 0) (isTop r) (goodSort i r t)
-      put l (yes z) = pass (goodSort i r t) (eq-eqb _ _ z) (rw z (sym top))
-        where
-          top : isTop (rowAt b 0) ≡ true
-          top = and-join (and-join (eq-eqb _ _ (s .shaped .top)) (s .top-live)) (eq-eqb _ _ (s .no-tm 0 (s .shaped .some) (λ q. absurd (omega arith))))
-      put l (no z) =
-          stop (isTop r) (ne-eqb _ _ z) (sym (sort← i r t (⊎-elim
-          (λ c. tm c (s .no-tm i l (λ q. absurd (omega arith))))
+      top : isTop (rowAt b 0) ≡ true
+      top =
+          and-join (and-join (eq-eqb _ _ (s .shaped .top)) (s .top-live))
+          (eq-eqb _ _ (s .no-tm 0 (s .shaped .some) (λ q. absurd (omega arith))))
+
+      good : i < b .count → (i ≡ 0 → ⊥) → GoodSort i r t
+      good l z =
+          ⊎-elim (λ c. tm c (s .no-tm i l (λ q. absurd (omega arith))))
           (⊎-elim (λ c. client (record { code = c; lower = s .shaped .tms i l c .0; its-tm = s .shaped .tms i l c .1; tm-live = s .tm-live i l c }))
           (λ c. cp c (s .no-tm i l (λ q. absurd (omega arith)))))
-          (s .shaped .sorts i (omega arith) l))))
+          (s .shaped .sorts i (omega arith) l)
+
+      sorted : i < b .count → Dec (i ≡ 0) → pick (eqb i 0) (isTop r) (goodSort i r t) ≡ true
+      sorted l (yes z) = pick-yes (eqb i 0) (isTop r) (goodSort i r t) (eq-eqb _ _ z) ∙ rw z top
+      sorted l (no z) = pick-no (eqb i 0) (isTop r) (goodSort i r t) (ne-eqb _ _ z) ∙ sort← i r t (good l z)
 
       by : Dec (i < b .count) → rowSound b i ≡ true
       by (yes l) =
-          sym (pass (isBlank r) (lt-ltb _ _ l) (sym
-          (and-join (and-join (sym (put l (ℕ-discrete i 0))) (or-from (r .live) (noAmounts r) (s .retired i l))) (range← r (s .ranges i l)))))
-      by (no l) = sym (stop _ (le-ltb i (b .count) (omega arith)) (sym (blank← r (s .blank i (omega arith)))))
+          pick-yes (ltb i (b .count)) _ (isBlank r) (lt-ltb _ _ l)
+          ∙ and-join (and-join (sorted l (ℕ-discrete i 0)) (or-from (r .live) (noAmounts r) (s .retired i l))) (range← r (s .ranges i l))
+      by (no l) = pick-no (ltb i (b .count)) _ (isBlank r) (le-ltb i (b .count) (omega arith)) ∙ blank← r (s .blank i (omega arith))
 
 pub sound→ : (b : Book) → soundB b ≡ true → Sound b
 unfolding soundB
