@@ -95,24 +95,3 @@ withRow b i r = record { count = b .count; serial = b .serial; rows = set (b .ro
 -- the book with one account more
 abbrev pub withNew : Book → Row → Book
 withNew b r = record { count = b .count + 1; serial = b .serial; rows = set (b .rows) (b .count) r }
-
--- "a TM with a live client"
-unfoldable pub hasLiveClient : Book → ℕ → Bool
-hasLiveClient b t = not (all (b .count) (λ i. not (eqb (rowAt b i .code) 2 && eqb (rowAt b i .tm) t && rowAt b i .live)))
-
--- kind by kind
-abbrev pub plusKinds : Kinds → Kinds → Kinds
-plusKinds a b = record {
-  cash = a .cash + b .cash;
-  deposits = a .deposits + b .deposits;
-  guarantees = a .guarantees + b .guarantees;
-  securities = a .securities + b .securities;
-}
-
-abbrev pub lessKinds : Kinds → Kinds → Kinds
-lessKinds a b = record {
-  cash = a .cash - b .cash;
-  deposits = a .deposits - b .deposits;
-  guarantees = a .guarantees - b .guarantees;
-  securities = a .securities - b .securities;
-}

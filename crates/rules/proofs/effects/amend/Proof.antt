@@ -1,104 +1,79 @@
+-- `rules::effects::amend` meets its contract: each arm is one code's effect.
 use borrow.Author.Needs.{needs}
+use mathlib.Core.Path.{sym, ap, _∙_}
+use Rattle.book.specs.Rows.{withReceived, withAllocated, withPledged}
+use Rattle.rules.proofs.Amending.{by-receive, by-hand-back, by-allocate, by-release, by-pledge, by-unpledge, by-margin, by-other}
 use Rattle.rules.proofs.effects.amend.Statement.{statement}
 use Rattle.rules.proofs.effects.amend.Tie as tie
-use Rattle.rules.proofs.effects.amend.Reads as reads
-use Rattle.rules.proofs.effects.amend.Lts as lts
-use Rattle.book.proofs.rows.with_allocated.Reads as with-allocated-reads
-use Rattle.book.proofs.rows.with_live.Reads as with-live-reads
-use Rattle.book.proofs.rows.with_margin.Reads as with-margin-reads
-use Rattle.book.proofs.rows.with_pledged.Reads as with-pledged-reads
-use Rattle.book.proofs.rows.with_received.Reads as with-received-reads
-use Rattle.rules.proofs.kinds.less.Reads as less-reads
-use Rattle.rules.proofs.kinds.less_kinds.Reads as less-kinds-reads
-use Rattle.rules.proofs.kinds.plus_kinds.Reads as plus-kinds-reads
 
--- src/effects.rt:21:45
 plus-kinds-requires : tie.Need-plus-kinds-requires
 plus-kinds-requires c κs = search needs
 
--- src/effects.rt:21:14
 with-received-requires : tie.Need-with-received-requires
 with-received-requires c κs = search needs
 
--- src/effects.rt:22:45
 less-kinds-requires : tie.Need-less-kinds-requires
 less-kinds-requires c κs = search needs
 
--- src/effects.rt:22:14
 with-received-requires-2 : tie.Need-with-received-requires-2
 with-received-requires-2 c κs = search needs
 
--- src/effects.rt:23:46
 plus-kinds-requires-2 : tie.Need-plus-kinds-requires-2
 plus-kinds-requires-2 c κs = search needs
 
--- src/effects.rt:23:14
 with-allocated-requires : tie.Need-with-allocated-requires
 with-allocated-requires c κs = search needs
 
--- src/effects.rt:24:46
 less-kinds-requires-2 : tie.Need-less-kinds-requires-2
 less-kinds-requires-2 c κs = search needs
 
--- src/effects.rt:24:14
 with-allocated-requires-2 : tie.Need-with-allocated-requires-2
 with-allocated-requires-2 c κs = search needs
 
--- src/effects.rt:25:44
 add-with-pledged : tie.Need-add-with-pledged
 add-with-pledged c = search needs
 
--- src/effects.rt:25:14
 with-pledged-requires : tie.Need-with-pledged-requires
 with-pledged-requires c κs = search needs
 
--- src/effects.rt:26:44
 less-requires : tie.Need-less-requires
 less-requires c κs = search needs
 
--- src/effects.rt:26:14
 with-pledged-requires-2 : tie.Need-with-pledged-requires-2
 with-pledged-requires-2 c κs = search needs
 
--- src/effects.rt:27:15
 with-margin-requires : tie.Need-with-margin-requires
 with-margin-requires c κs = search needs
 
--- src/effects.rt:28:14
 with-live-requires : tie.Need-with-live-requires
 with-live-requires c κs = search needs
 
--- src/effects.rt:15:1
 returns : tie.Need-returns
-returns c = ?
+returns c = c .with-received .ensures ∙ ap (withReceived (c .before .before .before .args .row)) (c .before .plus-kinds .ensures) ∙ sym (by-receive _ _ (c .before .before .match .keys1))
 
--- src/effects.rt:15:1
 returns-2 : tie.Need-returns-2
-returns-2 c = ?
+returns-2 c = c .with-received2 .ensures ∙ ap (withReceived (c .before .before .before .args .row)) (c .before .less-kinds .ensures) ∙ sym (by-hand-back _ _ (c .before .before .match .keys2))
 
--- src/effects.rt:15:1
 returns-3 : tie.Need-returns-3
-returns-3 c = ?
+returns-3 c = c .with-allocated .ensures ∙ ap (withAllocated (c .before .before .before .args .row)) (c .before .plus-kinds2 .ensures) ∙ sym (by-allocate _ _ (c .before .before .match .keys3))
 
--- src/effects.rt:15:1
 returns-4 : tie.Need-returns-4
-returns-4 c = ?
+returns-4 c = c .with-allocated2 .ensures ∙ ap (withAllocated (c .before .before .before .args .row)) (c .before .less-kinds2 .ensures) ∙ sym (by-release _ _ (c .before .before .match .keys4))
 
--- src/effects.rt:15:1
 returns-5 : tie.Need-returns-5
-returns-5 c = ?
+returns-5 c = c .with-pledged .ensures ∙ sym (by-pledge _ _ (c .before .before .before .match .keys5))
 
--- src/effects.rt:15:1
 returns-6 : tie.Need-returns-6
-returns-6 c = ?
+returns-6 c = c .with-pledged2 .ensures ∙ ap (withPledged (c .before .before .before .args .row)) (c .before .less .ensures) ∙ sym (by-unpledge _ _ (c .before .before .match .keys6))
 
--- src/effects.rt:15:1
 returns-7 : tie.Need-returns-7
-returns-7 c = ?
+returns-7 c = c .with-margin .ensures ∙ sym (by-margin _ _ (c .before .match .keys7))
 
--- src/effects.rt:15:1
 returns-8 : tie.Need-returns-8
-returns-8 c = ?
+returns-8 c =
+    let m = c .before .match .rest in
+    c .with-live .ensures
+    ∙ sym (by-other _ _ (m .0 .0 .0 .0 .0 .0 .1) (m .0 .0 .0 .0 .0 .1) (m .0 .0 .0 .0 .1) (m .0 .0 .0 .1) (m .0 .0 .1) (m .0 .1) (m .1))
 
 pub amend-spec : {M : Type 1} → statement M
 amend-spec =

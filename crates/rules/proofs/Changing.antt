@@ -1,0 +1,45 @@
+-- The change that a record makes, by the refusal that meets it or by none.
+use mathlib.Core.Bool.{not}
+use mathlib.Core.List.{_++_}
+use mathlib.Core.Path.{_≡_, refl, sym, ap, _∙_}
+use Prim.Native.Nat.{ℕ, zero, suc}
+use native.Mathlib.Omega.{arith}
+use lib.Dec.{eqb}
+use Rattle.sums.specs.Table.{first}
+use Rattle.sums.proofs.Tables.{first-fails, first-some}
+use Rattle.book.specs.declared.Row.{Row}
+use Rattle.dayfile.specs.declared.Record.{Record}
+use Rattle.dayfile.specs.Records.{faults, faultOf}
+use Rattle.rules.specs.declared.Change.{Change}
+use Rattle.rules.specs.declared.Change.the-variants.{Refuse}
+use Rattle.rules.specs.declared.Seen.{Seen}
+use Rattle.rules.specs.Effects.{passes, decided}
+use Rattle.rules.specs.Inner.{AmountsIn, from7, refusalBy, changeBy}
+use Rattle.rules.proofs.Faults.{Good, no-fault, amounts-in}
+
+-- a number other than 0 is the refusal
+pub decided-no : (n m : ℕ) (c : Change) → n ≡ m → (n ≡ 0 → ⊥) → Refuse n ≡ decided m c
+decided-no n zero c e h = absurd (h e)
+decided-no n (suc m) c e h = ap Refuse e
+
+module _ (row : Row) (count serial : ℕ) (seen : Seen) (r : Record) where
+  pub refused : (n : ℕ) → n ≡ refusalBy row count serial seen r → (n ≡ 0 → ⊥) → Refuse n ≡ changeBy row count serial seen r
+  unfolding changeBy
+  refused n e h = decided-no n _ _ e h
+
+  pub passed : refusalBy row count serial seen r ≡ 0 → passes row r ≡ changeBy row count serial seen r
+  unfolding changeBy
+  passed e = sym (ap (λ n. decided n (passes row r)) e)
+
+  pub no-refusal-fault : refusalBy row count serial seen r ≡ 0 → faultOf r ≡ 0
+  unfolding refusalBy faultOf
+  no-refusal-fault e =
+      let t = first-fails 3 (not (eqb (r .serial) serial)) (faults r ++ from7 row count seen r) (omega arith) e in
+      by (first (faults r)) refl (t .1)
+    where
+      by : (n : ℕ) → first (faults r) ≡ n → first (faults r ++ from7 row count seen r) ≡ 0 → first (faults r) ≡ 0
+      by zero q z = q
+      by (suc n) q z = sym (first-some (faults r) (from7 row count seen r) (λ y. omega (arith, q, y))) ∙ z
+
+  pub no-refusal-amounts : refusalBy row count serial seen r ≡ 0 → AmountsIn r
+  no-refusal-amounts e = amounts-in r (no-fault r (no-refusal-fault e) .amounts)
