@@ -1,1 +1,3 @@
 pub mod RowTests
+pub mod NeedSums
+pub mod StandingRefusals

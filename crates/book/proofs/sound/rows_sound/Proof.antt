@@ -54,7 +54,7 @@ loop-again c =
     let i = at .loop .i in
     let s = c .before .before .slot .result in
     let row : c .good-row .result ≡ rowSound b i =
-        c .good-row .ensures ∙ rw (at .loop .inv .0) (row-slot b i s (omega arith) (c .before .before .slot .ensures)) in
+    c .good-row .ensures ∙ rw (at .loop .inv .0) (row-slot b i s (omega arith) (c .before .before .slot .ensures)) in
     (at .loop .inv .0, omega arith, ap₂ _&&_ (at .loop .inv .2) row ∙ sym (all-step i (rowSound b)))
 
 returns : tie.Need-returns Inv-loop μ-loop
