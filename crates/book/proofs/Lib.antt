@@ -1,11 +1,13 @@
+pub mod Differences
+pub mod FreshSound
 pub mod Keeps
+pub mod LiveClients
+pub mod NeedSums
 pub mod Needs
 pub mod OneRow
 pub mod Opens
 pub mod RowFacts
 pub mod RowTests
-pub mod SoundTest
 pub mod SoundAfter
-pub mod LiveClients
-pub mod FreshSound
-pub mod Differences
+pub mod SoundTest
+pub mod StandingRefusals

@@ -6,7 +6,6 @@ use Prim.Native.Nat.{ℕ, _+_, _≤_, _<_}
 use lib.Dec.{eqb, ltb}
 use lib.ListN.{length, getD}
 use Rattle.sums.specs.Sum.{sum, only}
-use Rattle.sums.specs.Choice.{pick}
 use Rattle.book.specs.declared.Row.{Row}
 use Rattle.book.specs.declared.Book.{Book}
 use Rattle.book.specs.View.{View, isClientOf, ownDeemed, deemedTM, deemedOf, members}
@@ -31,10 +30,6 @@ clientDue r = only (eqb (r .code) 2 && ltb (r .tm) 256) (deemedOf (r .margin) (c
 -- what a row adds to the CM's need, where its clients are deemed d
 abbrev pub memberDue : Row → ℕ → ℕ
 memberDue r d = only (eqb (r .code) 1) (deemedOf (r .margin + d) (collateral r)) + only (eqb (r .code) 3) (deemedOf (r .margin) (collateral r))
-
--- a row's need, where its clients are deemed d, and all members m
-abbrev pub needBy : Row → ℕ → ℕ → ℕ
-needBy r d m = pick (eqb (r .code) 0) (r .margin + m) (pick (eqb (r .code) 1) (r .margin + d) (r .margin))
 
 -- what t's clients with a number below n are deemed
 unfoldable pub clientsBelow : View → ℕ → ℕ → ℕ

@@ -1,7 +1,11 @@
 // The collateral book of one clearing member: its rows, its soundness, an account's standing.
 ghost use mathlib.Core.Path.{_≡_};
 ghost use Rattle.book.specs.Rows.{freshBook};
+ghost use Rattle.book.specs.Sound.{soundB};
+ghost use Rattle.book.specs.Asked.{standingOf};
 
+mod blocking;
+mod needs;
 pub mod rows;
 mod sound;
 
@@ -55,4 +59,40 @@ pub fn fresh() -> Book
         serial: 0,
         rows: table,
     }
+}
+
+// Ranges are tested before anything is added, so that no sum can pass a word.
+pub fn is_sound(b: Book) -> bool
+    ensures { λ r. ⌜ r ≡ soundB b ⌝ }
+{
+    if b.count < 1 {
+        return false;
+    }
+    if b.count > 256 {
+        return false;
+    }
+    if !sound::rows_sound(b) {
+        return false;
+    }
+    let table = b.rows;
+    sound::width(table);
+    let need = needs::need_cm(b);
+    need <= needs::collateral_of(b.rows[0])
+}
+
+pub fn standing(b: Book, account: u16) -> Figures
+    ensures { λ r. ⌜ r ≡ standingOf b account ⌝ }
+{
+    if !is_sound(b) {
+        return blocking::refused(1);
+    }
+    let i = account as usize;
+    let n = b.count as usize;
+    if i >= n {
+        return blocking::refused(7);
+    }
+    if !b.rows[i].live {
+        return blocking::refused(7);
+    }
+    blocking::figures(b, i)
 }

@@ -94,7 +94,7 @@ pub(crate) fn rows_sound(b: Book) -> bool
     ok
 }
 
-// A table has 256 rows, by its type.
+// For a proof to cite: a table has 256 rows, by its type.
 pub(crate) fn width(a: [Row; 256]) -> bool
     ensures { λ x. ⌜ length a ≡ 256 ⌝ }
 {
