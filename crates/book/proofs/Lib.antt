@@ -3,7 +3,7 @@ pub mod FreshSound
 pub mod Keeps
 pub mod LiveClients
 pub mod NeedSums
-pub mod Needs
+pub mod BySort
 pub mod OneRow
 pub mod Opens
 pub mod RowFacts

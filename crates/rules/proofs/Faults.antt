@@ -8,7 +8,7 @@ use lib.Dec.{leb, eqb}
 use borrow.Author.Tests.{leb-true, eqb-true, not-false}
 use Rattle.sums.specs.Table.{Line, _when_, first}
 use Rattle.sums.proofs.Choices.{and-split}
-use Rattle.sums.proofs.Tables.{first-fails, first-none}
+use Rattle.sums.proofs.Tables.{Numbered, first-fails, first-none}
 use Rattle.book.specs.Rows.{ceiling}
 use Rattle.dayfile.specs.declared.Record.{Record}
 use Rattle.dayfile.specs.Records.{bit, knownCode, suits, goodAmount, goodAmounts, faults, faultOf}
@@ -62,7 +62,10 @@ amounts-in r e =
       margin = good-most (bit 32 (r .named)) 0 (r .margin) (m .1);
     }
 
+pub three-numbered : (r : Record) → Numbered (faults r)
+three-numbered r = (omega arith, (omega arith, (omega arith, tt)))
+
 -- past the faults the table goes on
 pub past-faults : (r : Record) (rest : List Line) → faultOf r ≡ 0 → first (faults r ++ rest) ≡ first rest
 unfolding faultOf
-past-faults r rest e = first-none (faults r) rest (omega arith, (omega arith, (omega arith, tt))) e
+past-faults r rest e = first-none (faults r) rest (three-numbered r) e

@@ -1,3 +1,4 @@
 pub mod Faults
 pub mod Amending
 pub mod Changing
+pub mod Seeing

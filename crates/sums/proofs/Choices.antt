@@ -66,3 +66,12 @@ or-left {a} b p = rw p
 
 pub or-right : (a : Bool) {b : Bool} → b ≡ true → (a || b) ≡ true
 or-right a p = or-from a _ (λ q. p)
+
+pub or-fails : (a b : Bool) → (a || b) ≡ false → (a ≡ false) × (b ≡ false)
+or-fails true b e = absurd (false≢true (sym e))
+or-fails false b e = (refl, e)
+
+-- what follows a test counts only where the test holds
+pub and-same : (t : Bool) {x y : Bool} → (t ≡ true → x ≡ y) → (t && x) ≡ (t && y)
+and-same true h = h refl
+and-same false h = refl

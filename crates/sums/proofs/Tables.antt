@@ -3,6 +3,7 @@ use mathlib.Core.Bool.{Bool, true, false, false≢true}
 use mathlib.Core.List.{List, [], _∷_, _++_}
 use mathlib.Core.Path.{_≡_, refl, sym, _∙_}
 use Prim.Native.Nat.{ℕ, suc, _<_}
+use native.Mathlib.Decide.{ℕ-discrete}
 use native.Mathlib.Omega.{arith}
 use Rattle.sums.specs.Choice.{pick}
 use Rattle.sums.specs.Table.{Line, _when_, first, Given, here, later}
@@ -63,3 +64,16 @@ pub first-fails : (n : ℕ) (t : Bool) (rest : List Line) → 0 < n → first ((
 unfolding first pick
 first-fails n true rest p e = absurd (omega arith)
 first-fails n false rest p e = (refl, e)
+
+-- two tables that agree up to a line, and beyond it where its test fails
+pub first-on : (n : ℕ) (t : Bool) (a b : List Line) → (t ≡ false → first a ≡ first b) → first ((n when t) ∷ a) ≡ first ((n when t) ∷ b)
+unfolding first pick
+first-on n true a b h = refl
+first-on n false a b h = h refl
+
+pub first-beyond : (a b c : List Line) → Numbered a → (first a ≡ 0 → first b ≡ first c) → first (a ++ b) ≡ first (a ++ c)
+first-beyond a b c n h = by (ℕ-discrete (first a) 0)
+  where
+    by : Dec (first a ≡ 0) → first (a ++ b) ≡ first (a ++ c)
+    by (yes e) = first-none a b n e ∙ h e ∙ sym (first-none a c n e)
+    by (no e) = first-some a b e ∙ sym (first-some a c e)

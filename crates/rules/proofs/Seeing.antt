@@ -1,0 +1,65 @@
+-- The table on the row named, with what was seen of the other rows, is document 01's table.
+use mathlib.Core.Bool.{Bool, true, false, not, _&&_, _||_}
+use mathlib.Core.List.{List, [], _∷_, _++_}
+use mathlib.Core.Path.{_≡_, refl, sym, ap, _∙_}
+use Prim.Native.Nat.{ℕ, _≤_, _<_}
+use native.Mathlib.Omega.{arith}
+use lib.Dec.{ltb, eqb}
+use borrow.Author.Tests.{ltb-true, eqb-true, not-false}
+use Rattle.sums.specs.Table.{Line, _when_, first}
+use Rattle.sums.proofs.Choices.{and-split, and-same}
+use Rattle.sums.proofs.Tables.{first-later, first-on, first-beyond}
+use Rattle.book.specs.declared.Row.{Row}
+use Rattle.book.specs.declared.Book.{Book}
+use Rattle.book.specs.View.{free}
+use Rattle.book.specs.Rows.{ceiling, rowAt, total, view, hasLiveClient}
+use Rattle.book.specs.Sound.{noAmounts, soundB, Sound}
+use Rattle.book.specs.Asked.{isLive}
+use Rattle.book.proofs.SoundTest.{sound←}
+use Rattle.dayfile.specs.declared.Record.{Record}
+use Rattle.dayfile.specs.Records.{faults, faultOf}
+use Rattle.rules.specs.declared.Change.{Change}
+use Rattle.rules.specs.declared.Seen.{Seen}
+use Rattle.rules.specs.Refusals.{namedRow, wrongSort, noNumberLeft, pastCeiling, tooMuch, beyondFree, losesCover, notRetirable, uncovered, newMargin, refusalOf}
+use Rattle.rules.specs.Effects.{passes, decided, changeOf}
+use Rattle.rules.specs.Inner.{AmountsIn, SeenOf, from7, from12, refusalBy, changeBy}
+use Rattle.rules.proofs.Faults.{Good, no-fault, amounts-in, three-numbered}
+
+-- 12 looks at free only for a release and an unpledge
+free-same : (r : Record) (x y : ℕ) → (r .code ≡ 7 → x ≡ y) → (r .code ≡ 9 → x ≡ y) → beyondFree x r ≡ beyondFree y r
+free-same r x y h k = joins (and-same (eqb (r .code) 7) (λ e. ap (λ z. ltb z (total (r .kinds))) (h (eqb-true (r .code) 7 e))))
+    (and-same (eqb (r .code) 9) (λ e. ap (λ z. ltb z (r .pledged)) (k (eqb-true (r .code) 9 e))))
+  where
+    joins : {a b c d : Bool} → a ≡ b → c ≡ d → (a || c) ≡ (b || d)
+    joins p q = rw (p, q)
+
+-- what there is to see
+abbrev pub toSee : Book → Record → Seen
+toSee b r = record { free = free (view b) (r .account); uncovered = uncovered (view (newMargin b r)); tied = hasLiveClient b (r .account) }
+
+module _ (b : Book) (s : Sound b) (r : Record) (seen : Seen) (w : SeenOf b r seen) where
+  -- lines 12 to 14, where the account is live and the amounts are in range
+  last-lines : r .account < b .count → AmountsIn r → first (from12 (namedRow b r) seen r) ≡ first (from12 (namedRow b r) (toSee b r) r)
+  last-lines l a =
+      rw (
+        free-same r (seen .free) (free (view b) (r .account)) (λ e. w .free-kinds e l) (λ e. w .free-pledge e l),
+        and-same (eqb (r .code) 10) (λ e. w .cover (eqb-true (r .code) 10 e) l (a .margin)),
+        and-same (eqb (r .code) 11) (λ e. ap (λ z. not (noAmounts (namedRow b r)) || z) (w .clients (eqb-true (r .code) 11 e) l)),
+      )
+
+  was-given : not (isLive b (r .account)) ≡ false → r .account < b .count
+  was-given e = ltb-true _ _ (and-split (ltb (r .account) (b .count)) (namedRow b r .live) (not-false _ e) .0)
+
+  from-seven : faultOf r ≡ 0 → first (from7 (namedRow b r) (b .count) seen r) ≡ first (from7 (namedRow b r) (b .count) (toSee b r) r)
+  from-seven e₆ =
+      first-on 7 _ _ _ (λ e₇. first-on 8 _ _ _ (λ e₈. first-on 9 _ _ _ (λ e₉. first-on 10 _ _ _ (λ e₁₀. first-on 11 _ _ _ (λ e₁₁.
+      last-lines (was-given e₇) (amounts-in r (no-fault r e₆ .amounts)))))))
+
+  pub refusal-seen : refusalBy (namedRow b r) (b .count) (b .serial) seen r ≡ refusalOf b r
+  unfolding refusalBy refusalOf faultOf
+  refusal-seen =
+      first-on 3 _ _ _ (λ e₃. first-beyond (faults r) _ _ (three-numbered r) (λ e₆. from-seven e₆)) ∙ sym (first-later 1 _ _ (ap not (sound← b s)))
+
+  pub change-seen : changeBy (namedRow b r) (b .count) (b .serial) seen r ≡ changeOf b r
+  unfolding changeBy changeOf
+  change-seen = ap (λ n. decided n (passes (namedRow b r) r)) refusal-seen
