@@ -6,7 +6,7 @@ use Prim.Native.Nat.{ℕ, zero, suc}
 use native.Mathlib.Omega.{arith}
 use lib.Dec.{eqb}
 use Rattle.sums.specs.Table.{first}
-use Rattle.sums.proofs.Tables.{first-fails, first-some}
+use Rattle.sums.proofs.Tables.{first-fails, first-clear}
 use Rattle.book.specs.declared.Row.{Row}
 use Rattle.dayfile.specs.declared.Record.{Record}
 use Rattle.dayfile.specs.Records.{faults, faultOf}
@@ -34,12 +34,7 @@ module _ (row : Row) (count serial : ℕ) (seen : Seen) (r : Record) where
   pub no-refusal-fault : refusalBy row count serial seen r ≡ 0 → faultOf r ≡ 0
   unfolding refusalBy faultOf
   no-refusal-fault e =
-      let t = first-fails 3 (not (eqb (r .serial) serial)) (faults r ++ from7 row count seen r) (omega arith) e in
-      by (first (faults r)) refl (t .1)
-    where
-      by : (n : ℕ) → first (faults r) ≡ n → first (faults r ++ from7 row count seen r) ≡ 0 → first (faults r) ≡ 0
-      by zero q z = q
-      by (suc n) q z = sym (first-some (faults r) (from7 row count seen r) (λ y. omega (arith, q, y))) ∙ z
+      first-clear (faults r) (from7 row count seen r) (first-fails 3 (not (eqb (r .serial) serial)) (faults r ++ from7 row count seen r) (omega arith) e .1)
 
   pub no-refusal-amounts : refusalBy row count serial seen r ≡ 0 → AmountsIn r
   no-refusal-amounts e = amounts-in r (no-fault r (no-refusal-fault e) .amounts)

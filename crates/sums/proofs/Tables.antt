@@ -77,3 +77,11 @@ first-beyond a b c n h = by (ℕ-discrete (first a) 0)
     by : Dec (first a ≡ 0) → first (a ++ b) ≡ first (a ++ c)
     by (yes e) = first-none a b n e ∙ h e ∙ sym (first-none a c n e)
     by (no e) = first-some a b e ∙ sym (first-some a c e)
+
+-- two tables of which neither gives a number
+pub first-clear : (a b : List Line) → first (a ++ b) ≡ 0 → first a ≡ 0
+first-clear a b e = by (ℕ-discrete (first a) 0)
+  where
+    by : Dec (first a ≡ 0) → first a ≡ 0
+    by (yes q) = q
+    by (no q) = sym (first-some a b q) ∙ e
