@@ -1,3 +1,4 @@
 pub mod RowTests
 pub mod NeedSums
 pub mod StandingRefusals
+pub mod OneRow

@@ -1,12 +1,13 @@
 -- Document 01, 'Amounts and sizes': a book's rows, its view, and a fresh book.
-use mathlib.Core.Bool.{Bool, true, false}
+use mathlib.Core.Bool.{Bool, true, false, not, _&&_}
 use mathlib.Core.List.{List, _∷_}
 use Prim.Native.Nat.{ℕ, _+_}
 use lib.ListN.{getD, set, replicate}
+use Rattle.sums.specs.Sum.{all}
 use Rattle.book.specs.declared.Kinds.{Kinds}
 use Rattle.book.specs.declared.Row.{Row}
 use Rattle.book.specs.declared.Book.{Book}
-use Rattle.book.specs.View.{View}
+use Rattle.book.specs.View.{View, isClientOf}
 
 -- "The ceiling is 10,000,000,000,000 paise."
 abbrev pub ceiling : ℕ
@@ -72,3 +73,11 @@ withRow b i r = record { count = b .count; serial = b .serial; rows = set (b .ro
 -- the book with one account more
 abbrev pub withNew : Book → Row → Book
 withNew b r = record { count = b .count + 1; serial = b .serial; rows = set (b .rows) (b .count) r }
+
+-- account i is a live client of account t
+abbrev pub isLiveClientOf : Book → ℕ → ℕ → Bool
+isLiveClientOf b t i = isClientOf (view b) t i && rowAt b i .live
+
+-- "a TM with a live client": not every account is other than that
+unfoldable pub hasLiveClient : Book → ℕ → Bool
+hasLiveClient b t = not (all (b .count) (λ i. not (isLiveClientOf b t i)))
