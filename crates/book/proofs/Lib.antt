@@ -1,11 +1,12 @@
+pub mod BySort
 pub mod Differences
 pub mod FreshSound
 pub mod Keeps
 pub mod LiveClients
 pub mod NeedSums
-pub mod BySort
 pub mod OneRow
 pub mod Opens
+pub mod RangesKept
 pub mod RowFacts
 pub mod RowTests
 pub mod SoundAfter

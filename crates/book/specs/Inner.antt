@@ -44,8 +44,7 @@ pub record Owed (b : Book) (owed : List ℕ) : Type 0 where
   pub size : length owed ≡ 256
   pub each : (t : ℕ) → t < 256 → getD owed t 0 ≡ clientsBelow (view b) t (b .count)
 
--- the list holds each account's collateral, and 0 beyond the accounts
+-- the list holds each row's collateral
 pub record Collaterals (b : Book) (list : List ℕ) : Type 0 where
   pub size : length list ≡ 256
-  pub each : (i : ℕ) → i < b .count → getD list i 0 ≡ collateral (rowAt b i)
-  pub rest : (i : ℕ) → b .count ≤ i → getD list i 0 ≡ 0
+  pub each : (i : ℕ) → i < 256 → getD list i 0 ≡ collateral (rowAt b i)

@@ -8,7 +8,7 @@ use Rattle.sums.specs.Sum.{all}
 use Rattle.book.specs.declared.Kinds.{Kinds}
 use Rattle.book.specs.declared.Row.{Row}
 use Rattle.book.specs.declared.Book.{Book}
-use Rattle.book.specs.View.{View}
+use Rattle.book.specs.View.{View, isClientOf}
 
 -- "The ceiling is 10,000,000,000,000 paise."
 abbrev pub ceiling : ℕ
@@ -63,10 +63,6 @@ view b = record {
   margin = λ i. rowAt b i .margin;
 }
 
--- "a TM with a live client"
-unfoldable pub hasLiveClient : Book → ℕ → Bool
-hasLiveClient b t = not (all (b .count) (λ i. not (eqb (rowAt b i .code) 2 && eqb (rowAt b i .tm) t && rowAt b i .live)))
-
 -- "number 0 is the CM and is there from the start, live. In a fresh book it is the only account and all amounts are 0.";
 -- "the next serial, 0 at first"
 unfoldable pub freshBook : Book
@@ -95,3 +91,11 @@ withRow b i r = record { count = b .count; serial = b .serial; rows = set (b .ro
 -- the book with one account more
 abbrev pub withNew : Book → Row → Book
 withNew b r = record { count = b .count + 1; serial = b .serial; rows = set (b .rows) (b .count) r }
+
+-- account i is a live client of account t
+abbrev pub isLiveClientOf : Book → ℕ → ℕ → Bool
+isLiveClientOf b t i = isClientOf (view b) t i && rowAt b i .live
+
+-- "a TM with a live client": not every account is other than that
+unfoldable pub hasLiveClient : Book → ℕ → Bool
+hasLiveClient b t = not (all (b .count) (λ i. not (isLiveClientOf b t i)))

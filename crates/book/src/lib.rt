@@ -5,6 +5,7 @@ ghost use Rattle.book.specs.Sound.{soundB};
 ghost use Rattle.book.specs.Asked.{standingOf};
 
 mod blocking;
+pub mod inner;
 mod needs;
 pub mod rows;
 mod sound;
