@@ -21,7 +21,7 @@ use Rattle.dayfile.specs.Records.{faults, faultOf}
 use Rattle.rules.specs.Refusals.{namedRow, wrongSort, noNumberLeft, pastCeiling, tooMuch, beyondFree, losesCover, notRetirable, uncovered, newMargin, refusalOf}
 use Rattle.rules.specs.Inner.{AmountsIn, from7}
 use Rattle.rules.proofs.Faults.{Good, no-fault, amounts-in, three-numbered}
-use Rattle.rules.proofs.Seeing.{toSee}
+use Rattle.rules.proofs.WhatIsSeen.{toSee}
 
 pub record Passes (b : Book) (r : Record) : Type 0 where
   pub sound : Sound b

@@ -8,13 +8,13 @@ ghost use Rattle.book.specs.Rows.{total, plusKinds, lessKinds, ceiling};
 ghost use Rattle.book.specs.Sound.{kindsCapped, kindsWithin, KindsWithin, ceilings};
 
 // a less b, or 0
-pub fn less(a: u64, b: u64) -> u64
+pub(crate) fn less(a: u64, b: u64) -> u64
     ensures { λ r. ⌜ r ≡ a - b ⌝ }
 {
     if b <= a { a - b } else { 0 }
 }
 
-pub fn plus_kinds(a: Kinds, b: Kinds) -> Kinds
+pub(crate) fn plus_kinds(a: Kinds, b: Kinds) -> Kinds
     requires { ⌜ KindsWithin a ceilings × KindsWithin b ceilings ⌝ }
     ensures { λ r. ⌜ r ≡ plusKinds a b ⌝ }
 {
@@ -26,7 +26,7 @@ pub fn plus_kinds(a: Kinds, b: Kinds) -> Kinds
     }
 }
 
-pub fn less_kinds(a: Kinds, b: Kinds) -> Kinds
+pub(crate) fn less_kinds(a: Kinds, b: Kinds) -> Kinds
     ensures { λ r. ⌜ r ≡ lessKinds a b ⌝ }
 {
     Kinds {
@@ -37,7 +37,7 @@ pub fn less_kinds(a: Kinds, b: Kinds) -> Kinds
     }
 }
 
-pub fn kinds_within(a: Kinds, b: Kinds) -> bool
+pub(crate) fn kinds_within(a: Kinds, b: Kinds) -> bool
     ensures { λ r. ⌜ r ≡ kindsWithin a b ⌝ }
 {
     (a.cash <= b.cash)
@@ -46,7 +46,7 @@ pub fn kinds_within(a: Kinds, b: Kinds) -> bool
         & (a.securities <= b.securities)
 }
 
-pub fn kinds_total(k: Kinds) -> u64
+pub(crate) fn kinds_total(k: Kinds) -> u64
     requires { ⌜ KindsWithin k ceilings ⌝ }
     ensures { λ r. ⌜ r ≡ total k ⌝ }
 {

@@ -4,6 +4,7 @@ use book::Row;
 pub mod effects;
 mod kinds;
 mod refusals;
+pub mod seeing;
 
 // What a record does: nothing but a refusal, one row put anew, or one row opened.
 pub enum Change {

@@ -90,7 +90,7 @@ fn not_retirable(row: Row, tied: bool, r: Record) -> bool
 }
 
 // The first refusal from 3 on that applies, or 0.
-pub fn refusal(row: Row, count: u16, serial: u16, seen: Seen, r: Record) -> u8
+pub(crate) fn refusal(row: Row, count: u16, serial: u16, seen: Seen, r: Record) -> u8
     requires { ⌜ InRange row ⌝ }
     ensures { λ x. ⌜ x ≡ refusalBy row count serial seen r ⌝ }
 {
