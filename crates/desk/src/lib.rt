@@ -1,6 +1,12 @@
 // The desk: a record is carried out or refused.
 ghost use mathlib.Core.Path.{_≡_};
+ghost use Rattle.book.specs.Sound.{Sound};
+ghost use Rattle.desk.specs.Answers.{nobody, ofRecord};
+ghost use Rattle.desk.specs.Steps.{stepOf, nextOf};
 use book::Book;
+use dayfile::Found;
+use dayfile::Record;
+use rules::Change;
 
 // What became of a record; the end is no refusal.
 pub enum Outcome {
@@ -26,4 +32,125 @@ pub struct Next {
     pub answer: Answer,
     pub book: Book,
     pub place: usize,
+}
+
+fn about_nobody(outcome: Outcome) -> Answer
+    ensures { λ a. ⌜ a ≡ nobody outcome ⌝ }
+{
+    Answer {
+        serial: 0,
+        code: 0,
+        account: 0,
+        outcome,
+    }
+}
+
+fn about(r: Record, outcome: Outcome) -> Answer
+    ensures { λ a. ⌜ a ≡ ofRecord r outcome ⌝ }
+{
+    Answer {
+        serial: r.serial,
+        code: r.code,
+        account: r.account,
+        outcome,
+    }
+}
+
+// A record at a sound book.
+fn step(b: Book, r: Record) -> Done
+    requires { ⌜ Sound b ⌝ }
+    ensures { λ d. ⌜ d ≡ stepOf b r ⌝ }
+{
+    let mut book = b;
+    let i = r.account as usize;
+    let count = book.count;
+    let serial = book.serial;
+    let mut row = book::rows::no_row();
+    if i < 256 {
+        row = book.rows[i];
+    }
+    let mut seen = rules::seeing::nothing_seen();
+    if (r.code == 7) | (r.code == 9) | (r.code == 10) | (r.code == 11) {
+        seen = rules::seeing::look(b, r);
+    }
+    let change = rules::effects::change(row, count, serial, seen, r);
+    let next = std::num::wrapping_add_u16(serial, 1);
+    match change {
+        Change::Refuse(n) => {
+            if 3 < n {
+                book.serial = next;
+            }
+            Done {
+                answer: about(r, Outcome::Refused(n)),
+                book,
+            }
+        }
+        Change::Put(new) => {
+            book.serial = next;
+            book.rows[i] = new;
+            Done {
+                answer: about(r, Outcome::CarriedOut),
+                book,
+            }
+        }
+        Change::Open(new) => {
+            let at = count as usize;
+            book.serial = next;
+            book.count = count + 1;
+            book.rows[at] = new;
+            Done {
+                answer: about(r, Outcome::Opened(count)),
+                book,
+            }
+        }
+    }
+}
+
+// A record handed over as values.
+pub fn carry_out(b: Book, record: Record) -> Done
+    ensures { λ d. ⌜ d ≡ stepOf b «record» ⌝ }
+{
+    if !book::is_sound(b) {
+        return Done {
+            answer: about_nobody(Outcome::Refused(1)),
+            book: b,
+        };
+    }
+    step(b, record)
+}
+
+// The record at a place of a piece of the day file.
+pub fn carry_out_next(b: Book, piece: &[u8], place: usize) -> Next
+    ensures { λ n. ⌜ n ≡ nextOf b (now (piece .entry)) place ⌝ }
+{
+    if !book::is_sound(b) {
+        return Next {
+            answer: about_nobody(Outcome::Refused(1)),
+            book: b,
+            place,
+        };
+    }
+    let found = dayfile::found_at(piece, place);
+    match found {
+        Found::End => Next {
+            answer: about_nobody(Outcome::End),
+            book: b,
+            place,
+        },
+        Found::Cut => Next {
+            answer: about_nobody(Outcome::Refused(2)),
+            book: b,
+            place,
+        },
+        Found::Whole(record, next) => {
+            let done = step(b, record);
+            let answer = done.answer;
+            let book = done.book;
+            Next {
+                answer,
+                book,
+                place: next,
+            }
+        }
+    }
 }

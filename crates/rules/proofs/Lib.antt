@@ -6,3 +6,4 @@ pub mod Codes
 pub mod Passing
 pub mod SoundChange
 pub mod Looking
+pub mod Deciding

@@ -2,7 +2,8 @@
 use mathlib.Core.Bool.{Bool, true, false, false≢true}
 use mathlib.Core.List.{List, [], _∷_, _++_}
 use mathlib.Core.Path.{_≡_, refl, sym, _∙_}
-use Prim.Native.Nat.{ℕ, suc, _<_}
+use mathlib.Core.Logic.{_⊎_, inl, inr}
+use Prim.Native.Nat.{ℕ, suc, _≤_, _<_}
 use native.Mathlib.Decide.{ℕ-discrete}
 use native.Mathlib.Omega.{arith}
 use Rattle.sums.specs.Choice.{pick}
@@ -44,10 +45,24 @@ first-some (l ∷ rest) b h = by (l .test) h (λ q. first-some rest b q)
     by true q r = refl
     by false q r = r q
 
+-- the table's numbers are k or more
+abbrev pub From : ℕ → List Line → Type 0
+From k [] = Unit
+From k (l ∷ rest) = (k ≤ l .number) × From k rest
+
 -- no line has the number 0
 abbrev pub Numbered : List Line → Type 0
-Numbered [] = Unit
-Numbered (l ∷ rest) = (0 < l .number) × Numbered rest
+Numbered = From 1
+
+pub first-from : (k : ℕ) (table : List Line) → From k table → (first table ≡ 0) ⊎ (k ≤ first table)
+unfolding first pick
+first-from k [] f = inl refl
+first-from k (l ∷ rest) f = by (l .test) (first-from k rest (f .1))
+  where
+    by : (t : Bool) → (first rest ≡ 0) ⊎ (k ≤ first rest)
+        → (pick t (l .number) (first rest) ≡ 0) ⊎ (k ≤ pick t (l .number) (first rest))
+    by true q = inr (f .0)
+    by false q = q
 
 pub first-none : (a b : List Line) → Numbered a → first a ≡ 0 → first (a ++ b) ≡ first b
 unfolding first pick

@@ -1,0 +1,31 @@
+-- `desk::carry_out` meets its contract.
+use borrow.Author.Tests.{not-true, not-false}
+use mathlib.Core.Path.{_≡_, sym, ap, _∙_}
+use Rattle.book.proofs.SoundTest.{sound→}
+use Rattle.desk.specs.declared.Done.{Done}
+use Rattle.desk.proofs.Doing.{unsound-step}
+use borrow.Author.Needs.{needs}
+use Rattle.desk.proofs.carry_out.Statement.{statement}
+use Rattle.desk.proofs.carry_out.Tie as tie
+
+is-sound-requires : tie.Need-is-sound-requires
+is-sound-requires c κs = search needs
+
+about-nobody-requires : tie.Need-about-nobody-requires
+about-nobody-requires c κs = search needs
+
+returns : tie.Need-returns
+returns c =
+    let a = c .before .before .before .args in
+    ap (λ x. record { answer = x; book = a .b }) (c .about-nobody .ensures)
+    ∙ unsound-step (a .b) _ (sym (c .before .before .is-sound .ensures) ∙ not-true _ (c .before .if1 .taken))
+
+step-requires : tie.Need-step-requires
+step-requires c κs = sound→ _ (sym (c .before .is-sound .ensures) ∙ not-false _ (c .if1 .left))
+
+returns-2 : tie.Need-returns-2
+returns-2 c = search needs
+
+pub carry-out-spec : {M : Type 1} → statement M
+carry-out-spec =
+    tie.close (tie.spec is-sound-requires about-nobody-requires returns step-requires returns-2)

@@ -1,0 +1,132 @@
+-- What a change that a record makes says of the record and the book.
+use mathlib.Core.Bool.{Bool, true, false, not, _&&_}
+use mathlib.Core.List.{List}
+use mathlib.Core.Logic.{_⊎_, inl, inr}
+use mathlib.Core.Path.{_≡_, refl, sym, ap, _∙_}
+use Prim.Native.Nat.{ℕ, zero, suc, _≤_, _<_}
+use native.Mathlib.Omega.{arith}
+use native.Mathlib.Decide.{decLt}
+use lib.Dec.{leb}
+use lib.ListN.{length, getD, List·getD-eq-default}
+use borrow.Author.Tests.{leb-false}
+use Rattle.sums.specs.Choice.{pick}
+use Rattle.sums.specs.Table.{Line, first}
+use Rattle.sums.proofs.Choices.{pick-no}
+use Rattle.sums.proofs.Tables.{From, first-from, first-later}
+use Rattle.book.specs.declared.Row.{Row}
+use Rattle.book.specs.declared.Book.{Book}
+use Rattle.book.specs.Rows.{noRow, rowAt, openedRow}
+use Rattle.book.specs.Sound.{Sound}
+use Rattle.book.proofs.SoundTest.{sound←}
+use Rattle.dayfile.specs.declared.Record.{Record}
+use Rattle.rules.specs.declared.Change.{Change}
+use Rattle.rules.specs.declared.Change.the-variants.{Refuse, Put, Open}
+use Rattle.rules.specs.Refusals.{isOpening, namedRow, refusalOf}
+use Rattle.rules.specs.Effects.{amended, passes, decided, changeOf}
+use Rattle.rules.specs.Inner.{refusalsBy}
+use Rattle.rules.proofs.WhatIsSeen.{toSee}
+use Rattle.rules.proofs.Passing.{Passes, passes-all}
+
+-- a change other than a refusal is made where no refusal applies
+abbrev isRefusal : Change → ℕ
+isRefusal (Refuse n) = 1
+isRefusal (Put x) = 0
+isRefusal (Open x) = 0
+
+no-refusal : (b : Book) (r : Record) → isRefusal (changeOf b r) ≡ 0 → refusalOf b r ≡ 0
+unfolding changeOf
+no-refusal b r = by (refusalOf b r)
+  where
+    by : (n : ℕ) → isRefusal (decided n (passes (namedRow b r) r)) ≡ 0 → n ≡ 0
+    by zero h = refl
+    by (suc n) h = absurd (omega arith)
+
+-- the table past 1
+abbrev rest : Book → Record → List Line
+rest b r = refusalsBy (namedRow b r) (b .count) (b .serial) (toSee b r) r
+
+module _ (b : Book) (r : Record) (x : Row) where
+  pub put-passes : changeOf b r ≡ Put x → Passes b r
+  put-passes e = passes-all b r (no-refusal b r (ap isRefusal e))
+
+  pub open-passes : changeOf b r ≡ Open x → Passes b r
+  open-passes e = passes-all b r (no-refusal b r (ap isRefusal e))
+
+  -- a row is put within the table
+  pub put-below : changeOf b r ≡ Put x → r .account < 256
+  put-below e = let p = put-passes e in omega (arith, p .account, p .sound .most)
+
+  -- what is made where no refusal applies
+  pub passes-as : Passes b r → refusalOf b r ≡ 0 → changeOf b r ≡ passes (namedRow b r) r
+  unfolding changeOf
+  passes-as p e = ap (λ n. decided n (passes (namedRow b r) r)) e
+
+  -- an account is opened where there is a number left
+  pub open-below : changeOf b r ≡ Open x → b .count < 256
+  open-below e = by (isOpening r) refl
+    where
+      p : Passes b r
+      p = open-passes e
+
+      by : (t : Bool) → isOpening r ≡ t → b .count < 256
+      by true q = leb-false _ _ (rw q at (p .number))
+      by false q = absurd (apart (sym e ∙ passes-as p (no-refusal b r (ap isRefusal e)) ∙ other q))
+        where
+          apart : Open x ≡ Put (amended (namedRow b r) r) → ⊥
+          apart h = let z : _≡_ {A = ℕ} 0 1 = cc in omega arith
+
+          other : isOpening r ≡ false → passes (namedRow b r) r ≡ Put (amended (namedRow b r) r)
+          other h = pick-no (isOpening r) _ _ h
+
+-- the row named, read where the table has it
+pub named-in : (b : Book) (r : Record) → r .account < 256 → getD (b .rows) (r .account) noRow ≡ namedRow b r
+named-in b r l = refl
+
+pub named-beyond : (b : Book) (r : Record) → Sound b → 256 ≤ r .account → noRow ≡ namedRow b r
+named-beyond b r s l = sym (List·getD-eq-default (b .rows) noRow (omega (arith, s .table)))
+
+-- a sound book never meets refusal 1
+pub never-one : (b : Book) (r : Record) → Sound b → refusalOf b r ≡ 1 → ⊥
+unfolding refusalOf
+never-one b r s e =
+    none (first-from 3 (rest b r) from-three) (sym (first-later 1 _ (rest b r) (ap not (sound← b s))) ∙ e)
+  where
+    none : (first (rest b r) ≡ 0) ⊎ (3 ≤ first (rest b r)) → first (rest b r) ≡ 1 → ⊥
+    none (inl q) h = omega arith
+    none (inr q) h = omega arith
+
+    from-three : From 3 (rest b r)
+    from-three = (
+      omega arith,
+      (
+        omega arith,
+        (
+          omega arith,
+          (
+            omega arith,
+            (
+              omega arith,
+              (
+                omega arith,
+                (
+                  omega arith,
+                  (omega arith, (omega arith, (omega arith, (omega arith, (omega arith, tt))))),
+                ),
+              ),
+            ),
+          ),
+        ),
+      ),
+    )
+
+pub refuse-number : (b : Book) (r : Record) (n : ℕ) → changeOf b r ≡ Refuse n → refusalOf b r ≡ n
+unfolding changeOf pick
+refuse-number b r n = by (refusalOf b r)
+  where
+    by : (m : ℕ) → decided m (passes (namedRow b r) r) ≡ Refuse n → m ≡ n
+    by zero h = absurd (passes-not (isOpening r) h)
+      where
+        passes-not : (t : Bool) → pick t (Open (openedRow (r .code) (r .account))) (Put (amended (namedRow b r) r)) ≡ Refuse n → ⊥
+        passes-not true q = let z : _≡_ {A = ℕ} 0 1 = cc in omega arith
+        passes-not false q = let z : _≡_ {A = ℕ} 0 1 = cc in omega arith
+    by (suc m) h = cc
