@@ -1,0 +1,55 @@
+-- What a record's answer shows, by the change that the record makes.
+use mathlib.Core.Bool.{Bool, true, false}
+use mathlib.Core.List.{List, [], _∷_}
+use mathlib.Core.Path.{_≡_, refl, sym, ap, _∙_}
+use Prim.Native.Nat.{ℕ, suc, _+_, _*_, _≤_}
+use native.Mathlib.Omega.{arith}
+use lib.Dec.{eqb}
+use lib.ListN.{length, set}
+use lib.Seq.{sets}
+use borrow.Author.Tests.{ne-eqb}
+use Rattle.sums.specs.Choice.{pick}
+use Rattle.sums.proofs.Choices.{pick-no}
+use Rattle.book.specs.declared.Book.{Book}
+use Rattle.book.specs.Sound.{Sound}
+use Rattle.dayfile.specs.declared.Record.{Record}
+use Rattle.rules.specs.declared.Change.{Change}
+use Rattle.rules.specs.declared.Change.the-variants.{Refuse, Put, Open}
+use Rattle.rules.specs.Effects.{changeOf}
+use Rattle.rules.proofs.Deciding.{never-one, refuse-number}
+use Rattle.desk.specs.declared.Outcome.the-variants.{Refused}
+use Rattle.desk.specs.Answers.{nobody, ofRecord, answerOf, carriedIn}
+use Rattle.desk.specs.Steps.{stepOf}
+use Rattle.run.specs.Told.{five}
+use Rattle.run.specs.Inner.{refusalBy, givenBy, carriedBy}
+
+-- the numbers of a record at a sound book, by its change
+abbrev pub numbersBy : Record → ℕ → Change → List ℕ
+numbersBy r count c = r .serial ∷ r .code ∷ r .account ∷ refusalBy c ∷ givenBy count c ∷ []
+
+pub carried-by : (count : ℕ) (r : Record) (c : Change) → carriedIn (answerOf count r c .outcome) ≡ carriedBy c
+unfolding pick
+carried-by count r (Refuse n) = by (eqb n 1)
+  where
+    by : (t : Bool) → carriedIn (pick t (nobody (Refused n)) (ofRecord r (Refused n)) .outcome) ≡ 0
+    by true = refl
+    by false = refl
+carried-by count r (Put x) = refl
+carried-by count r (Open x) = refl
+
+pub numbers-by : (b : Book) (r : Record) (c : Change) → Sound b → c ≡ changeOf b r → five (stepOf b r .answer) ≡ numbersBy r (b .count) c
+unfolding five stepOf
+numbers-by b r (Refuse n) s e =
+    ap five (ap (answerOf (b .count) r) (sym e) ∙ pick-no (eqb n 1) _ _ (ne-eqb n 1 (λ q. never-one b r s (refuse-number b r n (sym e) ∙ q))))
+numbers-by b r (Put x) s e = ap (λ c. five (answerOf (b .count) r c)) (sym e)
+numbers-by b r (Open x) s e = ap (λ c. five (answerOf (b .count) r c)) (sym e)
+
+-- five stores, one after the other
+pub five-stores : (l : List ℕ) (at a b c d e : ℕ)
+    → set (set (set (set (set l at a) (at + 1) b) (at + 2) c) (at + 3) d) (at + 4) e ≡ sets l at (a ∷ b ∷ c ∷ d ∷ e ∷ [])
+five-stores l at a b c d e =
+    let e₁ : at + 1 ≡ suc at = omega arith in
+    let e₂ : at + 2 ≡ suc (suc at) = omega arith in
+    let e₃ : at + 3 ≡ suc (suc (suc at)) = omega arith in
+    let e₄ : at + 4 ≡ suc (suc (suc (suc at))) = omega arith in
+    rw (e₁, e₂, e₃, e₄)

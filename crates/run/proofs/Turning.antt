@@ -1,0 +1,132 @@
+-- The record loop: what holds at each turn, one record more, and where it stops.
+use mathlib.Core.Bool.{Bool, true, false}
+use mathlib.Core.List.{List, [], _∷_}
+use mathlib.Core.Path.{_≡_, refl, sym, ap, _∙_}
+use Prim.Native.Nat.{ℕ, zero, suc, _+_, _-_, _*_, _≤_, _<_}
+use native.Mathlib.Omega.{arith}
+use lib.ListN.{length}
+use lib.Seq.{length-sets}
+use Rattle.sums.specs.Choice.{pick}
+use Rattle.book.specs.declared.Book.{Book}
+use Rattle.book.specs.Sound.{Sound}
+use Rattle.dayfile.specs.declared.Record.{Record}
+use Rattle.dayfile.specs.declared.Found.the-variants.{End as NoBytes, Cut as TooFew, Whole}
+use Rattle.dayfile.specs.Reading.{foundAt}
+use Rattle.rules.specs.declared.Change.{Change}
+use Rattle.rules.specs.declared.Change.the-variants.{Refuse, Put, Open}
+use Rattle.rules.specs.Effects.{changeOf, bookAfter}
+use Rattle.rules.proofs.SoundChange.{change-sound}
+use Rattle.desk.specs.Answers.{carriedIn, answerOf}
+use Rattle.desk.specs.Steps.{stepOf}
+use Rattle.run.specs.declared.Closing.{Closing}
+use Rattle.run.specs.declared.Closing.the-variants.{End, Cut, Long}
+use Rattle.run.specs.Runs.{closed, stopped, runOf}
+use Rattle.run.specs.Told.{five}
+use Rattle.run.specs.Inner.{putFive, tellOf, carriedBy}
+use Rattle.run.proofs.Numbers.{numbersBy, carried-by, numbers-by}
+
+-- s is the piece; with ₀ what was there where the loop began
+module _ (s : List ℕ) (most : ℕ) (tell : Bool) (room₀ : List ℕ) (b₀ : Book) (place₀ read₀ done₀ : ℕ) where
+  pub record Loop (room : List ℕ) (b : Book) (place read done : ℕ) : Type 0 where
+    pub within : read ≤ most
+    pub fewer : done ≤ read
+    pub sound : Sound b
+    pub same : length room ≡ length room₀
+    pub space : tell ≡ true → 5 * most ≤ length room₀
+    pub runs : runOf s (most - read) b place read done ≡ runOf s most b₀ place₀ read₀ done₀
+    pub tells : pick tell (tellOf s (most - read) b place read room) room ≡ pick tell (tellOf s most b₀ place₀ read₀ room₀) room₀
+
+pub carried-most : (c : Change) → carriedBy c ≤ 1
+carried-most (Refuse n) = omega arith
+carried-most (Put x) = omega arith
+carried-most (Open x) = omega arith
+
+-- the step, by the change
+step-book : (b : Book) (r : Record) (c : Change) → c ≡ changeOf b r → stepOf b r .book ≡ bookAfter b (r .account) c
+unfolding stepOf
+step-book b r c e = ap (bookAfter b (r .account)) (sym e)
+
+step-carried : (b : Book) (r : Record) (c : Change) → c ≡ changeOf b r → carriedIn (stepOf b r .answer .outcome) ≡ carriedBy c
+unfolding stepOf
+step-carried b r c e = ap (λ d. carriedIn (answerOf (b .count) r d .outcome)) (sym e) ∙ carried-by (b .count) r c
+
+module _ (s : List ℕ) (most : ℕ) (b : Book) (place read : ℕ) (r : Record) (next : ℕ) (l : read < most) (f : foundAt s place ≡ Whole r next) where
+  fuel : most - read ≡ suc (most - (read + 1))
+  fuel = omega arith
+
+  run-turn : (done : ℕ) → runOf s (most - read) b place read done
+      ≡ runOf s (most - (read + 1)) (stepOf b r .book) next (read + 1) (done + carriedIn (stepOf b r .answer .outcome))
+  unfolding runOf
+  run-turn done = rw (fuel, f)
+
+  tell-turn : (room : List ℕ) → tellOf s (most - read) b place read room
+      ≡ tellOf s (most - (read + 1)) (stepOf b r .book) next (read + 1) (putFive room read (five (stepOf b r .answer)))
+  unfolding tellOf
+  tell-turn room = rw (fuel, f)
+
+module _ (s : List ℕ) (most : ℕ) (tell : Bool) (room₀ : List ℕ) (b₀ : Book) (place₀ read₀ done₀ : ℕ)
+    (room : List ℕ) (b : Book) (place read done : ℕ) (g : Loop s most tell room₀ b₀ place₀ read₀ done₀ room b place read done) where
+  -- one record more, whose change is c
+  pub turn : (r : Record) (next : ℕ) (c : Change) (room′ : List ℕ) (b′ : Book) → read < most → foundAt s place ≡ Whole r next → c ≡ changeOf b r
+      → room′ ≡ pick tell (putFive room read (numbersBy r (b .count) c)) room → b′ ≡ bookAfter b (r .account) c
+      → Loop s most tell room₀ b₀ place₀ read₀ done₀ room′ b′ next (read + 1) (done + carriedBy c)
+  unfolding pick
+  turn r next c room′ b′ l f e er eb = record {
+    within = omega arith;
+    fewer = omega (arith, g .fewer, carried-most c);
+    sound = rw (eb, e) (change-sound b r (g .sound));
+    same = size tell er ∙ g .same;
+    space = g .space;
+    runs = rw (eb, ← (step-book b r c e), ← (step-carried b r c e)) (sym (run-turn s most b place read r next l f done) ∙ g .runs);
+    tells = rw (eb, ← (step-book b r c e)) (told tell er ∙ g .tells);
+  }
+    where
+      size : (t : Bool) → room′ ≡ pick t (putFive room read (numbersBy r (b .count) c)) room → length room′ ≡ length room
+      size true q = ap length q ∙ length-sets room (5 * read) (numbersBy r (b .count) c)
+      size false q = ap length q
+
+      told : (t : Bool) → room′ ≡ pick t (putFive room read (numbersBy r (b .count) c)) room
+          → pick t (tellOf s (most - (read + 1)) (stepOf b r .book) next (read + 1) room′) room′ ≡ pick t (tellOf s (most - read) b place read room) room
+      told true q =
+          ap (tellOf s (most - (read + 1)) (stepOf b r .book) next (read + 1)) (q ∙ ap (putFive room read) (sym (numbers-by b r c (g .sound) e)))
+          ∙ sym (tell-turn s most b place read r next l f room)
+      told false q = q
+
+  -- where the loop stops, nothing more is told
+  nothing-told : (t : Bool) → tellOf s (most - read) b place read room ≡ room → pick t (tellOf s (most - read) b place read room) room ≡ room
+  unfolding pick
+  nothing-told true h = h
+  nothing-told false h = refl
+
+  abbrev Finished : Closing → Type 0
+  Finished word =
+      (closed word b place read done ≡ runOf s most b₀ place₀ read₀ done₀)
+      × (room ≡ pick tell (tellOf s most b₀ place₀ read₀ room₀) room₀)
+
+  finish : (word : Closing) → runOf s (most - read) b place read done ≡ closed word b place read done → tellOf s (most - read) b place read room ≡ room → Finished word
+  finish word p q = (sym p ∙ g .runs, sym (nothing-told tell q) ∙ g .tells)
+
+  at-end : (n : ℕ) → foundAt s place ≡ NoBytes → (runOf s n b place read done ≡ closed End b place read done) × (tellOf s n b place read room ≡ room)
+  unfolding runOf tellOf
+  at-end zero f = (rw f, refl)
+  at-end (suc n) f = (rw f, rw f)
+
+  pub ends : foundAt s place ≡ NoBytes → Finished End
+  ends f = finish End (at-end (most - read) f .0) (at-end (most - read) f .1)
+
+  at-cut : (n : ℕ) → n ≡ suc (most - (read + 1)) → foundAt s place ≡ TooFew → (runOf s n b place read done ≡ closed Cut b place read done) × (tellOf s n b place read room ≡ room)
+  unfolding runOf tellOf
+  at-cut n e f = rw e (rw f, rw f)
+
+  pub cuts : read < most → foundAt s place ≡ TooFew → Finished Cut
+  cuts l f = let h = at-cut (most - read) (omega arith) f in finish Cut (h .0) (h .1)
+
+  at-most : (n : ℕ) → n ≡ 0 → (runOf s n b place read done ≡ stopped (foundAt s place) b place read done) × (tellOf s n b place read room ≡ room)
+  unfolding runOf tellOf
+  at-most n e = rw e (refl, refl)
+
+  pub long-cut : most ≤ read → foundAt s place ≡ TooFew → Finished Long
+  long-cut l f = let h = at-most (most - read) (omega arith) in finish Long (h .0 ∙ ap (λ x. stopped x b place read done) f) (h .1)
+
+  pub long-whole : (r : Record) (next : ℕ) → most ≤ read → foundAt s place ≡ Whole r next → Finished Long
+  long-whole r next l f = let h = at-most (most - read) (omega arith) in finish Long (h .0 ∙ ap (λ x. stopped x b place read done) f) (h .1)

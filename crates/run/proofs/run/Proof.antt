@@ -1,0 +1,285 @@
+-- `run::run` meets its contract: `Loop` of `Turning` holds at each turn, and what is left of the stated number falls.
+use borrow.Author.Needs.{needs}
+use mathlib.Core.Bool.{true, false}
+use mathlib.Core.List.{[], _∷_}
+use mathlib.Core.Logic.{⊎-elim}
+use mathlib.Core.Path.{_≡_, refl, sym, ap, _∙_}
+use Prim.Native.Nat.{ℕ, _-_, _<_, _+_}
+use native.Mathlib.Omega.{arith}
+use lib.ListN.{set}
+use borrow.Author.Tests.{lt-leb, le-leb}
+use Rattle.sums.specs.Choice.{pick}
+use Rattle.sums.proofs.Choices.{pass, stop, pick-same}
+use Rattle.book.proofs.RangesKept.{sound-ranges}
+use Rattle.rules.specs.Refusals.{namedRow}
+use Rattle.rules.specs.Effects.{changeOf, bookAfter}
+use Rattle.rules.specs.Inner.{SeenOf}
+use Rattle.rules.proofs.Deciding.{put-below, open-below, named-beyond}
+use Rattle.rules.proofs.Looking.{sees-nothing}
+use Rattle.rules.proofs.WhatIsSeen.{verdict-is}
+use Rattle.run.specs.Runs.{runOf}
+use Rattle.run.specs.Inner.{putFive, refusalBy, tellOf}
+use Rattle.run.proofs.Numbers.{numbersBy}
+use Rattle.run.proofs.Turning.{Loop, carried-most, turn, ends, cuts, long-cut, long-whole}
+use Rattle.run.proofs.run.Statement.{statement}
+use Rattle.run.proofs.run.Tie as tie
+
+abbrev Inv-loop : tie.InvT-loop
+Inv-loop piece most room₀ tell book₀ place₀ read₀ done₀ room book place read done =
+    Loop piece most tell room₀ book₀ place₀ read₀ done₀ room book place read done
+
+abbrev μ-loop : tie.MeasureT-loop
+μ-loop piece most room₀ tell book₀ place₀ read₀ done₀ room book place read done = most - read
+
+-- the row named, what was seen of the others, and so the change
+row-is : (c : tie.Joined3 Inv-loop μ-loop) → c .if3 .row ≡ namedRow (c .before .before .before .before .before .before .before .before .loop .book) (c .before .before .before .before .before .found .given .0 .0)
+row-is c =
+    ⊎-elim (λ w. w .2)
+    (λ w. w .1 ∙ c .before .no-row .ensures ∙ named-beyond (c .before .before .before .before .before .before .before .before .loop .book) (c .before .before .before .before .before .found .given .0 .0) (c .before .before .before .before .before .before .before .before .loop .inv .sound) (w .0 .left))
+    (c .if3 .came)
+
+seen-is : (c : tie.Joined4 Inv-loop μ-loop) → SeenOf (c .before .before .before .before .before .before .before .before .before .before .before .before .before .before .loop .book) (c .before .before .before .before .before .before .before .before .before .before .before .found .given .0 .0) (c .if4 .seen)
+seen-is c = ⊎-elim (λ w. rw (w .2) (w .1 .ensures)) (λ w. sees-nothing _ _ (w .0 .left) _) (c .if4 .came)
+
+change-is : (c : tie.After-change Inv-loop μ-loop) → c .change .result ≡ changeOf (c .before .before .before .before .before .before .before .before .before .before .before .before .before .before .before .loop .book) (c .before .before .before .before .before .before .before .before .before .before .before .before .found .given .0 .0)
+change-is c =
+    verdict-is _ (c .before .before .before .before .before .before .before .before .before .before .before .before .before .before .before .loop .inv .sound) _ _ _ _ (row-is (c .before .before .before .before .before .before .before)) (seen-is (c .before)) (c .change .ensures)
+
+-- the room after the record's numbers are told, or not
+told-is : (c : tie.Joined5 Inv-loop μ-loop) → c .if5 .room ≡ pick (c .before .before .before .before .before .before .before .before .before .before .before .before .before .before .before .before .before .before .before .args .tell)
+    (putFive (c .before .before .before .before .before .before .before .before .before .before .before .before .before .before .before .before .loop .room) (c .before .before .before .before .before .before .before .before .before .before .before .before .before .before .before .before .loop .read) (numbersBy (c .before .before .before .before .before .before .before .before .before .before .before .before .before .found .given .0 .0) (c .before .before .before .before .before .before .before .before .before .before .before .before .before .before .before .before .loop .book .count) (c .before .change .result)))
+    (c .before .before .before .before .before .before .before .before .before .before .before .before .before .before .before .before .loop .room)
+told-is c =
+    let r = c .before .before .before .before .before .before .before .before .before .before .before .before .before .found .given .0 .0 in
+    let l = c .before .before .before .before .before .before .before .before .before .before .before .before .before .before .before .before .loop in
+    ⊎-elim
+    (λ w. pass _ (w .0 .taken)
+    (w .7 ∙ w .4 .ensures ∙ ap (λ x. putFive (l .room) (l .read) (r .serial ∷ r .code ∷ r .account ∷ x ∷ w .3 .result ∷ [])) (w .2 .ensures)
+    ∙ ap (λ x. putFive (l .room) (l .read) (r .serial ∷ r .code ∷ r .account ∷ refusalBy (c .before .change .result) ∷ x ∷ [])) (w .3 .ensures)))
+    (λ w. stop _ (w .0 .left) (w .1)) (c .if5 .came)
+
+less-zero : (n : ℕ) → n - 0 ≡ n
+less-zero n = omega arith
+
+opened-below : (c : tie.After-known-told4 Inv-loop μ-loop) → c .before .before .before .before .before .before .before .before .before .before .before .before .before .before .before .before .before .before .before .before .before .loop .book .count < 256
+opened-below c = open-below _ (c .before .before .before .before .before .before .before .before .before .before .before .before .before .before .before .before .before .before .found .given .0 .0) _ (sym (change-is (c .before .before .before .before .before .before)) ∙ c .before .change4 .given .1)
+
+loop-holds : tie.Need-loop-holds Inv-loop μ-loop
+loop-holds c =
+    let a = c .before .before .args in
+    record {
+      within = omega arith;
+      fewer = omega arith;
+      sound = c .before .before .pre .0;
+      same = refl;
+      space = c .before .before .pre .1;
+      runs = ap (λ n. runOf (a .piece .now) n (a .b) 0 0 0) (less-zero (a .most));
+      tells = ap (λ n. pick (a .tell) (tellOf (a .piece .now) n (a .b) 0 0 (a .room .now)) (a .room .now)) (less-zero (a .most));
+    }
+
+found-at-requires : tie.Need-found-at-requires Inv-loop μ-loop
+found-at-requires c κs = search needs
+
+enum-told : tie.Need-enum-told Inv-loop μ-loop
+enum-told c = search needs
+
+enum-told-2 : tie.Need-enum-told-2 Inv-loop μ-loop
+enum-told-2 c = search needs
+
+enum-known-found : tie.Need-enum-known-found Inv-loop μ-loop
+enum-known-found c = search needs
+
+cast-i : tie.Need-cast-i Inv-loop μ-loop
+cast-i c = search needs
+
+no-row-requires : tie.Need-no-row-requires Inv-loop μ-loop
+no-row-requires c κs = search needs
+
+mul-row : tie.Need-mul-row Inv-loop μ-loop
+mul-row c = search needs
+
+element-copy-out-row : tie.Need-element-copy-out-row Inv-loop μ-loop
+element-copy-out-row c = search needs
+
+nothing-seen-requires : tie.Need-nothing-seen-requires Inv-loop μ-loop
+nothing-seen-requires c κs = search needs
+
+look-requires : tie.Need-look-requires Inv-loop μ-loop
+look-requires c κs = c .before .before .before .before .before .before .before .before .before .before .before .before .before .before .loop .inv .sound
+
+change-requires : tie.Need-change-requires Inv-loop μ-loop
+change-requires c κs = rw (row-is (c .before .before .before .before .before .before)) (sound-ranges _ (c .before .before .before .before .before .before .before .before .before .before .before .before .before .before .loop .inv .sound) _)
+
+refusal-by-requires : tie.Need-refusal-by-requires Inv-loop μ-loop
+refusal-by-requires c κs = search needs
+
+given-by-requires : tie.Need-given-by-requires Inv-loop μ-loop
+given-by-requires c κs = search needs
+
+put-five-requires : tie.Need-put-five-requires Inv-loop μ-loop
+put-five-requires c κs =
+    let l = c .before .before .before .before .before .before .before .before .before .before .before .before .before .before .before .before .before .before .before .loop in
+    let h = l .inv .space (c .before .before .before .if5 .taken) in
+    omega (arith, h, l .inv .same, c .before .before .before .before .before .before .before .before .before .before .before .before .before .before .if2 .left)
+
+wrapping-add-u16-requires : tie.Need-wrapping-add-u16-requires Inv-loop μ-loop
+wrapping-add-u16-requires c κs = search needs
+
+add-read : tie.Need-add-read Inv-loop μ-loop
+add-read c = omega (arith, c .before .before .before .before .before .before .before .before .before .before .before .before .if2 .left, c .before .before .before .before .before .before .before .before .before .before .before .before .before .before .before .before .before .before .before .before .fits .most)
+
+carried-by-requires : tie.Need-carried-by-requires Inv-loop μ-loop
+carried-by-requires c κs = search needs
+
+add-done : tie.Need-add-done Inv-loop μ-loop
+add-done c = omega (arith, c .before .before .before .before .before .before .before .before .before .before .before .before .before .if2 .left, c .before .before .before .before .before .before .before .before .before .before .before .before .before .before .before .before .before .before .loop .inv, c .carried-by .ensures, carried-most (c .before .before .before .change .result), c .before .before .before .before .before .before .before .before .before .before .before .before .before .before .before .before .before .before .before .before .before .fits .most)
+
+enum-known-change : tie.Need-enum-known-change Inv-loop μ-loop
+enum-known-change c = search needs
+
+loop-less : tie.Need-loop-less Inv-loop μ-loop
+loop-less c = omega (arith, c .before .before .before .before .before .before .before .before .before .before .before .before .before .before .before .before .before .if2 .left)
+
+loop-again : tie.Need-loop-again Inv-loop μ-loop
+loop-again c =
+    let l = c .before .before .before .before .before .before .before .before .before .before .before .before .before .before .before .before .before .before .before .before .before .before in
+    let v = l .loop in
+    rw (c .before .before .before .before .carried-by .ensures) (turn _ _ _ _ _ _ _ _ (v .room) (v .book) (v .place) (v .read) (v .done) (v .inv) _ _ _ _ _ (c .before .before .before .before .before .before .before .before .before .before .before .before .before .before .before .before .before .if2 .left)
+    (sym (c .before .before .before .before .before .before .before .before .before .before .before .before .before .before .before .before .before .before .before .before .before .found-at .ensures) ∙ c .before .before .before .before .before .before .before .before .before .before .before .before .before .before .before .before .before .before .before .found .given .1) (change-is (c .before .before .before .before .before .before .before)) (told-is (c .before .before .before .before .before .before)) (stop _ (lt-leb _ 3 (c .if6 .taken)) (ap (λ x. record { count = c .before .before .before .before .before .before .before .before .before .before .before .before .before .before .before .before .before .before .before .before .before .before .loop .book .count; serial = x; rows = c .before .before .before .before .before .before .before .before .before .before .before .before .before .before .before .before .before .before .before .before .before .before .loop .book .rows }) (c .before .before .before .before .before .wrapping-add-u16 .ensures)) ∙ ap (bookAfter (c .before .before .before .before .before .before .before .before .before .before .before .before .before .before .before .before .before .before .before .before .before .before .loop .book) ((c .before .before .before .before .before .before .before .before .before .before .before .before .before .before .before .before .before .before .before .found .given .0 .0) .account)) (sym (c .before .before .change2 .given .1))))
+
+loop-less-2 : tie.Need-loop-less-2 Inv-loop μ-loop
+loop-less-2 c = omega (arith, c .before .before .before .before .before .before .before .before .before .before .before .before .before .before .before .before .before .if2 .left)
+
+loop-again-2 : tie.Need-loop-again-2 Inv-loop μ-loop
+loop-again-2 c =
+    let l = c .before .before .before .before .before .before .before .before .before .before .before .before .before .before .before .before .before .before .before .before .before .before in
+    let v = l .loop in
+    rw (c .before .before .before .before .carried-by .ensures) (turn _ _ _ _ _ _ _ _ (v .room) (v .book) (v .place) (v .read) (v .done) (v .inv) _ _ _ _ _ (c .before .before .before .before .before .before .before .before .before .before .before .before .before .before .before .before .before .if2 .left)
+    (sym (c .before .before .before .before .before .before .before .before .before .before .before .before .before .before .before .before .before .before .before .before .before .found-at .ensures) ∙ c .before .before .before .before .before .before .before .before .before .before .before .before .before .before .before .before .before .before .before .found .given .1) (change-is (c .before .before .before .before .before .before .before)) (told-is (c .before .before .before .before .before .before)) (pass _ (le-leb _ 3 (c .if6 .left)) refl ∙ ap (bookAfter (c .before .before .before .before .before .before .before .before .before .before .before .before .before .before .before .before .before .before .before .before .before .before .loop .book) ((c .before .before .before .before .before .before .before .before .before .before .before .before .before .before .before .before .before .before .before .found .given .0 .0) .account)) (sym (c .before .before .change2 .given .1))))
+
+enum-known-change-2 : tie.Need-enum-known-change-2 Inv-loop μ-loop
+enum-known-change-2 c = search needs
+
+mul-new : tie.Need-mul-new Inv-loop μ-loop
+mul-new c = search needs
+
+element-set-from-new : tie.Need-element-set-from-new Inv-loop μ-loop
+element-set-from-new c = put-below _ (c .before .before .before .before .before .before .before .before .before .before .before .before .before .before .before .before .before .before .found .given .0 .0) _ (sym (change-is (c .before .before .before .before .before .before)) ∙ c .before .change3 .given .1)
+
+loop-less-3 : tie.Need-loop-less-3 Inv-loop μ-loop
+loop-less-3 c = omega (arith, c .before .before .before .before .before .before .before .before .before .before .before .before .before .before .before .before .if2 .left)
+
+loop-again-3 : tie.Need-loop-again-3 Inv-loop μ-loop
+loop-again-3 c =
+    let l = c .before .before .before .before .before .before .before .before .before .before .before .before .before .before .before .before .before .before .before .before .before in
+    let v = l .loop in
+    rw (c .before .before .before .carried-by .ensures) (turn _ _ _ _ _ _ _ _ (v .room) (v .book) (v .place) (v .read) (v .done) (v .inv) _ _ _ _ _ (c .before .before .before .before .before .before .before .before .before .before .before .before .before .before .before .before .if2 .left)
+    (sym (c .before .before .before .before .before .before .before .before .before .before .before .before .before .before .before .before .before .before .before .before .found-at .ensures) ∙ c .before .before .before .before .before .before .before .before .before .before .before .before .before .before .before .before .before .before .found .given .1) (change-is (c .before .before .before .before .before .before)) (told-is (c .before .before .before .before .before)) (ap (λ x. record { count = c .before .before .before .before .before .before .before .before .before .before .before .before .before .before .before .before .before .before .before .before .before .loop .book .count; serial = x; rows = set (c .before .before .before .before .before .before .before .before .before .before .before .before .before .before .before .before .before .before .before .before .before .loop .book .rows) ((c .before .before .before .before .before .before .before .before .before .before .before .before .before .before .before .before .before .before .found .given .0 .0) .account) (c .before .change3 .given .0 .0) }) (c .before .before .before .before .wrapping-add-u16 .ensures) ∙ ap (bookAfter (c .before .before .before .before .before .before .before .before .before .before .before .before .before .before .before .before .before .before .before .before .before .loop .book) ((c .before .before .before .before .before .before .before .before .before .before .before .before .before .before .before .before .before .before .found .given .0 .0) .account)) (sym (c .before .change3 .given .1))))
+
+enum-known-change-3 : tie.Need-enum-known-change-3 Inv-loop μ-loop
+enum-known-change-3 c = search needs
+
+cast-at : tie.Need-cast-at Inv-loop μ-loop
+cast-at c = let h = opened-below c in omega arith
+
+add-book : tie.Need-add-book Inv-loop μ-loop
+add-book c = let h = opened-below c in omega arith
+
+mul-new-2 : tie.Need-mul-new-2 Inv-loop μ-loop
+mul-new-2 c = let h = opened-below c in omega arith
+
+element-set-from-new-2 : tie.Need-element-set-from-new-2 Inv-loop μ-loop
+element-set-from-new-2 c = opened-below c
+
+loop-less-4 : tie.Need-loop-less-4 Inv-loop μ-loop
+loop-less-4 c = omega (arith, c .before .before .before .before .before .before .before .before .before .before .before .before .before .before .before .before .if2 .left)
+
+loop-again-4 : tie.Need-loop-again-4 Inv-loop μ-loop
+loop-again-4 c =
+    let l = c .before .before .before .before .before .before .before .before .before .before .before .before .before .before .before .before .before .before .before .before .before in
+    let v = l .loop in
+    rw (c .before .before .before .carried-by .ensures) (turn _ _ _ _ _ _ _ _ (v .room) (v .book) (v .place) (v .read) (v .done) (v .inv) _ _ _ _ _ (c .before .before .before .before .before .before .before .before .before .before .before .before .before .before .before .before .if2 .left)
+    (sym (c .before .before .before .before .before .before .before .before .before .before .before .before .before .before .before .before .before .before .before .before .found-at .ensures) ∙ c .before .before .before .before .before .before .before .before .before .before .before .before .before .before .before .before .before .before .found .given .1) (change-is (c .before .before .before .before .before .before)) (told-is (c .before .before .before .before .before)) (ap (λ x. record { count = c .before .before .before .before .before .before .before .before .before .before .before .before .before .before .before .before .before .before .before .before .before .loop .book .count + 1; serial = x; rows = set (c .before .before .before .before .before .before .before .before .before .before .before .before .before .before .before .before .before .before .before .before .before .loop .book .rows) (c .before .before .before .before .before .before .before .before .before .before .before .before .before .before .before .before .before .before .before .before .before .loop .book .count) (c .before .change4 .given .0 .0) }) (c .before .before .before .before .wrapping-add-u16 .ensures) ∙ ap (bookAfter (c .before .before .before .before .before .before .before .before .before .before .before .before .before .before .before .before .before .before .before .before .before .loop .book) ((c .before .before .before .before .before .before .before .before .before .before .before .before .before .before .before .before .before .before .found .given .0 .0) .account)) (sym (c .before .change4 .given .1))))
+
+same-length : tie.Need-same-length Inv-loop μ-loop
+same-length c = c .before .before .before .loop .inv .same
+
+returns : tie.Need-returns Inv-loop μ-loop
+returns c =
+    let v = c .before .before .before .loop in
+    ends _ _ _ _ _ _ _ _ (v .room) (v .book) (v .place) (v .read) (v .done) (v .inv) (sym (c .before .before .found-at .ensures) ∙ c .enum-told .given .1)
+
+same-length-2 : tie.Need-same-length-2 Inv-loop μ-loop
+same-length-2 c = c .before .before .before .before .loop .inv .same
+
+returns-2 : tie.Need-returns-2 Inv-loop μ-loop
+returns-2 c =
+    let v = c .before .before .before .before .loop in
+    long-cut _ _ _ _ _ _ _ _ (v .room) (v .book) (v .place) (v .read) (v .done) (v .inv) (c .if1 .taken) (sym (c .before .before .before .found-at .ensures) ∙ c .before .enum-told2 .given .1)
+
+same-length-3 : tie.Need-same-length-3 Inv-loop μ-loop
+same-length-3 c = c .before .before .before .before .loop .inv .same
+
+returns-3 : tie.Need-returns-3 Inv-loop μ-loop
+returns-3 c =
+    let v = c .before .before .before .before .loop in
+    cuts _ _ _ _ _ _ _ _ (v .room) (v .book) (v .place) (v .read) (v .done) (v .inv) (c .if1 .left) (sym (c .before .before .before .found-at .ensures) ∙ c .before .enum-told2 .given .1)
+
+same-length-4 : tie.Need-same-length-4 Inv-loop μ-loop
+same-length-4 c = c .before .before .before .before .before .loop .inv .same
+
+returns-4 : tie.Need-returns-4 Inv-loop μ-loop
+returns-4 c =
+    let v = c .before .before .before .before .before .loop in
+    long-whole _ _ _ _ _ _ _ _ (v .room) (v .book) (v .place) (v .read) (v .done) (v .inv) _ _ (c .if2 .taken) (sym (c .before .before .before .before .found-at .ensures) ∙ c .before .before .found .given .1)
+
+pub run-spec : {M : Type 1} → statement M
+run-spec =
+    tie.close
+    (tie.spec
+    Inv-loop
+    μ-loop
+    loop-holds
+    found-at-requires
+    enum-told
+    enum-told-2
+    enum-known-found
+    cast-i
+    no-row-requires
+    mul-row
+    element-copy-out-row
+    nothing-seen-requires
+    look-requires
+    change-requires
+    refusal-by-requires
+    given-by-requires
+    put-five-requires
+    wrapping-add-u16-requires
+    add-read
+    carried-by-requires
+    add-done
+    enum-known-change
+    loop-less
+    loop-again
+    loop-less-2
+    loop-again-2
+    enum-known-change-2
+    mul-new
+    element-set-from-new
+    loop-less-3
+    loop-again-3
+    enum-known-change-3
+    cast-at
+    add-book
+    mul-new-2
+    element-set-from-new-2
+    loop-less-4
+    loop-again-4
+    same-length
+    returns
+    same-length-2
+    returns-2
+    same-length-3
+    returns-3
+    same-length-4
+    returns-4)

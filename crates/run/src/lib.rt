@@ -1,0 +1,155 @@
+// The records of a piece of the day file, carried out one after the other.
+ghost use mathlib.Core.Bool.{true};
+ghost use mathlib.Core.List.{[], _∷_};
+ghost use mathlib.Core.Path.{_≡_};
+ghost use Prim.Native.Nat.{_+_, _*_, _≤_, min, _/_};
+ghost use lib.ListN.{length};
+ghost use Rattle.sums.specs.Choice.{pick};
+ghost use Rattle.book.specs.Sound.{Sound};
+ghost use Rattle.run.specs.Runs.{runOf, ranOf};
+ghost use Rattle.run.specs.Told.{toldOf, roomFor};
+ghost use Rattle.run.specs.Inner.{putFive, tellOf, refusalBy, givenBy, carriedBy};
+use book::Book;
+use dayfile::Found;
+use rules::Change;
+
+// Why the records stopped: at the end, at a cut, at the stated number, or since the book isn't sound.
+pub enum Closing {
+    End,
+    Cut,
+    Long,
+    Unsound,
+}
+
+pub struct Ran {
+    pub book: Book,
+    pub place: usize,
+    pub closing: Closing,
+    pub read: u64,
+    pub done: u64,
+}
+
+fn refusal_by(c: Change) -> u16
+    ensures { λ n. ⌜ n ≡ refusalBy c ⌝ }
+{
+    match c {
+        Change::Refuse(n) => n as u16,
+        Change::Put(_) => 0,
+        Change::Open(_) => 0,
+    }
+}
+
+fn given_by(count: u16, c: Change) -> u16
+    ensures { λ n. ⌜ n ≡ givenBy count c ⌝ }
+{
+    match c {
+        Change::Refuse(_) => 0,
+        Change::Put(_) => 0,
+        Change::Open(_) => count,
+    }
+}
+
+fn carried_by(c: Change) -> u64
+    ensures { λ n. ⌜ n ≡ carriedBy c ⌝ }
+{
+    match c {
+        Change::Refuse(_) => 0,
+        Change::Put(_) => 1,
+        Change::Open(_) => 1,
+    }
+}
+
+// Puts the numbers of the record that is number k.
+fn put_five(room: &mut [u16], k: u64, serial: u16, code: u8, account: u16, refusal: u16, given: u16)
+    requires { ⌜ 5 * (k + 1) ≤ length (now room) ⌝ }
+    ensures { λ _. ⌜ now (room .exit) ≡ putFive (now (room .entry)) k (serial ∷ code ∷ account ∷ refusal ∷ given ∷ []) ⌝ }
+{
+    let at = 5 * k as usize;
+    room[at] = serial;
+    room[at + 1] = code as u16;
+    room[at + 2] = account;
+    room[at + 3] = refusal;
+    room[at + 4] = given;
+}
+
+// The records of a piece at a sound book, with their numbers told where that is asked for.
+fn run(b: Book, piece: &[u8], most: u64, room: &mut [u16], tell: bool) -> Ran
+    requires { ⌜ Sound b × (tell ≡ true → 5 * most ≤ length (now room)) ⌝ }
+    ensures { λ r. ⌜ r ≡ runOf (now (piece .entry)) most b 0 0 0 ⌝ }
+    ensures { λ r. ⌜ now (room .exit) ≡ pick tell (tellOf (now (piece .entry)) most b 0 0 (now (room .entry))) (now (room .entry)) ⌝ }
+{
+    let mut book = b;
+    let mut place: usize = 0;
+    let mut read: u64 = 0;
+    let mut done: u64 = 0;
+    let closing = loop {
+        let found = dayfile::found_at(piece, place);
+        match found {
+            Found::End => {
+                break Closing::End;
+            }
+            Found::Cut => {
+                if most <= read {
+                    break Closing::Long;
+                }
+                break Closing::Cut;
+            }
+            Found::Whole(r, next) => {
+                if most <= read {
+                    break Closing::Long;
+                }
+                let i = r.account as usize;
+                let count = book.count;
+                let serial = book.serial;
+                let mut row = book::rows::no_row();
+                if i < 256 {
+                    row = book.rows[i];
+                }
+                let mut seen = rules::seeing::nothing_seen();
+                if (r.code == 7) | (r.code == 9) | (r.code == 10) | (r.code == 11) {
+                    seen = rules::seeing::look(book, r);
+                }
+                let change = rules::effects::change(row, count, serial, seen, r);
+                if tell {
+                    put_five(
+                        room,
+                        read,
+                        r.serial,
+                        r.code,
+                        r.account,
+                        refusal_by(change),
+                        given_by(count, change),
+                    );
+                }
+                let after = std::num::wrapping_add_u16(serial, 1);
+                place = next;
+                read += 1;
+                done += carried_by(change);
+                match change {
+                    Change::Refuse(n) => {
+                        if 3 < n {
+                            book.serial = after;
+                        }
+                    }
+                    Change::Put(new) => {
+                        book.serial = after;
+                        book.rows[i] = new;
+                    }
+                    Change::Open(new) => {
+                        let at = count as usize;
+                        book.serial = after;
+                        book.count = count + 1;
+                        book.rows[at] = new;
+                    }
+                }
+            }
+        }
+    };
+    Ran {
+        book,
+        place,
+        closing,
+        read,
+        done,
+    }
+}
