@@ -19,15 +19,17 @@ pub fn bit(t: bool) -> u64 {
     if t { 1 } else { 0 }
 }
 
-pub fn figures(name: &[u8], account: &[u8], f: Figures) {
+fn five(collateral: u64, need: u64, blocked: u64, deemed: u64, free: u64) {
+    word(b" collateral ", collateral);
+    word(b" need ", need);
+    word(b" blocked ", blocked);
+    word(b" deemed ", deemed);
+    word(b" free ", free);
+}
+
+pub fn figures(name: &[u8], f: Figures) {
     text(name);
-    text(b" ");
-    text(account);
     word(b": refusal ", f.refusal as u64);
-    word(b" collateral ", f.collateral);
-    word(b" need ", f.need);
-    word(b" blocked ", f.blocked);
-    word(b" deemed ", f.deemed);
-    word(b" free ", f.free);
+    five(f.collateral, f.need, f.blocked, f.deemed, f.free);
     end();
 }
