@@ -1,0 +1,86 @@
+// Books to ask about, made as values.
+use book::Book;
+use book::Kinds;
+use book::Row;
+use book::rows;
+
+// The amount in one kind: 0 cash, 1 fixed deposits, 2 bank guarantees, 3 government securities.
+pub fn kinds(kind: u8, n: u64) -> Kinds {
+    match kind {
+        0 => Kinds {
+            cash: n,
+            deposits: 0,
+            guarantees: 0,
+            securities: 0,
+        },
+        1 => Kinds {
+            cash: 0,
+            deposits: n,
+            guarantees: 0,
+            securities: 0,
+        },
+        2 => Kinds {
+            cash: 0,
+            deposits: 0,
+            guarantees: n,
+            securities: 0,
+        },
+        _ => Kinds {
+            cash: 0,
+            deposits: 0,
+            guarantees: 0,
+            securities: n,
+        },
+    }
+}
+
+pub fn with_kinds(r: Row, kind: u8, received: u64, allocated: u64) -> Row {
+    let full = rows::with_received(r, kinds(kind, received));
+    rows::with_allocated(full, kinds(kind, allocated))
+}
+
+// A live account with all of its collateral in allocated cash.
+fn account(code: u8, tm: u16, amount: u64, margin: u64) -> Row {
+    let r = with_kinds(rows::opened_row(code, tm), 0, amount, amount);
+    rows::with_margin(r, margin)
+}
+
+pub fn retired(code: u8, tm: u16) -> Row {
+    rows::with_live(rows::opened_row(code, tm), false)
+}
+
+// The book with row i put anew.
+pub fn with(book: Book, i: u8, r: Row) -> Book {
+    let mut b = book;
+    let at = i as usize;
+    b.rows[at] = r;
+    b
+}
+
+// The book with the account i, the last one.
+pub fn with_last(book: Book, i: u8, r: Row) -> Book {
+    let mut b = with(book, i, r);
+    b.count = i as u16 + 1;
+    b
+}
+
+// Annexure 4: CM 1000, TM-1 500, its clients A 300 and B 300, in rupees; A's margin is a and B's is b.
+pub fn annexure(a: u64, b: u64) -> Book {
+    let cm = with_last(book::fresh(), 0, account(0, 0, 100_000, 0));
+    let tm = with_last(cm, 1, account(1, 0, 50_000, 0));
+    let first = with_last(tm, 2, account(2, 1, 30_000, a));
+    with_last(first, 3, account(2, 1, 30_000, b))
+}
+
+// 255 TMs under the CM.
+pub fn full() -> Book {
+    let tm = rows::opened_row(1, 0);
+    let mut b = book::fresh();
+    b.count = 256;
+    let mut i: usize = 1;
+    while i < 256 {
+        b.rows[i] = tm;
+        i += 1;
+    }
+    b
+}
