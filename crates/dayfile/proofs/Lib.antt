@@ -2,3 +2,4 @@ mod Numbers
 mod Marks
 mod Amounts
 mod Looking
+pub mod Places
