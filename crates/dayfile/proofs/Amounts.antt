@@ -39,3 +39,21 @@ pub bytes-past : (b : ℕ) (l : List ℕ) → Bytes l → Bytes (past b l)
 unfolding past
 bytes-past zero l h = h
 bytes-past (suc b) l h = bytes-drop 8 l h
+
+pub field-named : (b x : ℕ) → (b ≡ 0 → ⊥) → field b x ≡ bytesOf 8 x
+unfolding field
+field-named zero x h = absurd (h refl)
+field-named (suc b) x h = refl
+
+pub field-unnamed : (b x : ℕ) → b ≡ 0 → field b x ≡ []
+unfolding field
+field-unnamed b x h = rw h refl
+
+length-field : (b x : ℕ) → b < 2 → length (field b x) ≡ 8 * b
+unfolding field
+length-field zero x h = refl
+length-field (suc zero) x h = length-bytesOf 8 x
+length-field (suc (suc b)) x h = absurd (omega arith)
+
+pub length-bit : (w n x : ℕ) → length (field (bit w n) x) ≡ 8 * bit w n
+length-bit w n x = length-field (bit w n) x (bit-lt w n)

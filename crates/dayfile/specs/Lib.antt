@@ -3,3 +3,4 @@ pub mod Records
 pub mod Written
 pub mod Reading
 pub mod Words
+pub mod Putting
