@@ -1,18 +1,18 @@
 -- What a record with no fault is known to be.
 use mathlib.Core.Bool.{Bool, true, false, not, _&&_, _||_}
-use mathlib.Core.List.{List, [], _∷_}
+use mathlib.Core.List.{List, _∷_}
 use mathlib.Core.Logic.{_⊎_, inl, inr}
-use mathlib.Core.Path.{_≡_, refl, sym, ap, _∙_}
-use Prim.Native.Nat.{ℕ, zero, suc, _+_, _*_, _/_, _≤_, _<_}
+use mathlib.Core.Path.{_≡_, refl}
+use Prim.Native.Nat.{ℕ, _≤_, _<_}
 use native.Mathlib.Omega.{arith}
 use lib.Dec.{leb, eqb}
 use borrow.Author.Tests.{leb-true, eqb-true, eqb-false, not-false}
 use Rattle.sums.specs.Choice.{pick}
 use Rattle.sums.specs.Table.{Line, _when_, first}
-use Rattle.sums.proofs.Choices.{and-split, or-else}
+use Rattle.sums.proofs.Choices.{and-split}
 use Rattle.book.specs.Rows.{ceiling}
 use Rattle.dayfile.specs.declared.Record.{Record}
-use Rattle.dayfile.specs.Records.{bit, knownCode, suits, goodAmount, goodAmounts, faults, faultOf}
+use Rattle.dayfile.specs.Records.{bit, knownCode, suits, goodAmount, goodAmounts, faultOf}
 
 -- each part of the judgement holds
 pub record Good (r : Record) : Type 0 where

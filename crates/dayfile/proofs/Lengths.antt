@@ -1,8 +1,8 @@
--- A good record's length comes from the ones of its second mark byte.
+-- A record's length comes from the ones of its second mark byte.
 use mathlib.Core.Path.{_≡_}
-use Prim.Native.Nat.{ℕ, _+_, _*_, _/_, _≤_, _<_}
+use Prim.Native.Nat.{ℕ, _+_, _*_, _/_, _^_, _≤_, _<_}
 use native.Mathlib.Omega.{arith}
-use lib.Count.{ones}
+use lib.Count.{ones, ones-le}
 use lib.ListN.{length, length-append}
 use Rattle.dayfile.specs.declared.Record.{Record}
 use Rattle.dayfile.specs.Records.{faultOf}
@@ -22,3 +22,7 @@ length-body r h =
 pub length-written : (r : Record) → faultOf r ≡ 0 → length (writtenOf r) ≡ sizeOf (r .named)
 unfolding writtenOf
 length-written r f = omega (arith, length-body r (suits-lt (r .code) (r .named) (good r f .suit)))
+
+-- "The longest record is 70 bytes.", whatever its code
+pub size-most : (named : ℕ) → named < 2 ^ 8 → sizeOf named ≤ 70
+size-most named h = omega (arith, ones-le 8 named h)

@@ -3,7 +3,9 @@ mod Marks
 mod Amounts
 mod Looking
 mod Rooms
-mod Lengths
 mod Answers
+mod Bodies
 pub mod Good
+pub mod Lengths
 pub mod Places
+pub mod RoundTrip

@@ -1,22 +1,21 @@
 -- Where a whole record ends, when there is none, and what its words can hold: what a loop over records needs.
-use mathlib.Core.Path.{_≡_, refl, sym, ap, _∙_}
+use mathlib.Core.Path.{_≡_, refl, sym, ap}
 use mathlib.Core.Bool.{Bool, true, false}
 use mathlib.Core.List.{List, [], _∷_}
-use Prim.Native.Nat.{ℕ, zero, suc, _+_, _*_, _^_, _≤_, _<_}
+use Prim.Native.Nat.{ℕ, suc, _+_, _*_, _^_, _≤_, _<_}
 use native.Mathlib.Omega.{arith}
 use lib.Count.{ones}
-use lib.Dec.{leb, lit<}
+use lib.Dec.{leb}
 use lib.ListN.{length, drop, length-drop}
 use borrow.Author.Tests.{leb-true}
 use Rattle.sums.specs.Choice.{pick}
 use Rattle.dayfile.specs.declared.Record.{Record}
-use Rattle.dayfile.specs.declared.Found.{Found}
 use Rattle.dayfile.specs.declared.Found.the-variants.{End, Cut, Whole}
-use Rattle.dayfile.specs.Bytes.{number, Bytes}
+use Rattle.dayfile.specs.Bytes.{Bytes}
 use Rattle.dayfile.specs.Records.{bit}
-use Rattle.dayfile.specs.Reading.{sizeOf, got, past, recordOf, foundFrom, foundAt}
+use Rattle.dayfile.specs.Reading.{sizeOf, recordOf, foundFrom, foundAt}
 use Rattle.dayfile.specs.Words.{WordsFit, AmountsFit}
-use Rattle.dayfile.proofs.Numbers.{number-lt, bytes-tail, bytes-drop}
+use Rattle.dayfile.proofs.Numbers.{number-lt, bytes-drop}
 use Rattle.dayfile.proofs.Amounts.{got-lt, bytes-past}
 use Rattle.dayfile.proofs.Looking.{found-end}
 
@@ -45,18 +44,18 @@ stands-from (c ∷ n ∷ l) at r next e =
     let p = picked (leb (4 + 8 * ones n) (length l)) (recordOf c n l) r (at + sizeOf n) next e in
     record { code = c; named = n; rest = l; bytes = refl; whole = leb-true _ _ (p .0); is = p .1; after = p .2 }
 
+pub named-from : (l : List ℕ) (at : ℕ) {r : Record} {next : ℕ} (w : Stands l at r next) → r .named ≡ w .named
+unfolding recordOf
+named-from l at w = ap (λ (x : Record). x .named) (w .is)
+
 module _ (s : List ℕ) (at : ℕ) {r : Record} {next : ℕ} (found : foundAt s at ≡ Whole r next) where
   pub stands : Stands (drop at s) at r next
   unfolding foundAt
   stands = stands-from (drop at s) at r next found
 
-  pub named-of : r .named ≡ stands .named
-  unfolding recordOf
-  named-of = ap (λ (x : Record). x .named) (stands .is)
-
   -- the place after a whole record: its length past its own place, within the piece
   pub next-is : next ≡ at + sizeOf (r .named)
-  next-is = rw named-of (stands .after)
+  next-is = rw (named-from (drop at s) at stands) (stands .after)
 
   pub next-least : at + 6 ≤ next
   next-least = omega (arith, next-is)
@@ -114,15 +113,15 @@ amounts-of c n l y =
 
 -- what was read out of bytes fits the record's words
 module _ (s : List ℕ) (at : ℕ) {r : Record} {next : ℕ} (y : Bytes s) (found : foundAt s at ≡ Whole r next) where
-  stood : Bytes (stands s at found .code ∷ stands s at found .named ∷ stands s at found .rest)
-  stood = rw (stands s at found .bytes) at (bytes-drop at s y)
+  stands-bytes : Bytes (stands s at found .code ∷ stands s at found .named ∷ stands s at found .rest)
+  stands-bytes = rw (stands s at found .bytes) at (bytes-drop at s y)
 
   pub words-fit : WordsFit r
   words-fit =
       let w = stands s at found in
-      rw (w .is) (words-of (w .code) (w .named) (w .rest) (stood 0) (stood 1) (λ i. stood (suc (suc i))))
+      rw (w .is) (words-of (w .code) (w .named) (w .rest) (stands-bytes 0) (stands-bytes 1) (λ i. stands-bytes (suc (suc i))))
 
   pub amounts-fit : AmountsFit r
   amounts-fit =
       let w = stands s at found in
-      rw (w .is) (amounts-of (w .code) (w .named) (w .rest) (λ i. stood (suc (suc i))))
+      rw (w .is) (amounts-of (w .code) (w .named) (w .rest) (λ i. stands-bytes (suc (suc i))))
