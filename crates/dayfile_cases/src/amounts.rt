@@ -2,6 +2,8 @@
 use crate::made;
 use crate::shown;
 use dayfile::Read;
+use dayfile::Record;
+use dayfile::Wrote;
 
 // What is printed of one amount.
 pub enum Way {
@@ -21,23 +23,31 @@ fn named(bit: u8) {
     }
 }
 
-// The refusal, or the amount that was read.
-fn read_back(bit: u8, x: u64) {
+fn read_made(bit: u8, x: u64) -> Read {
     let p = made::amount_piece(made::code_of(bit), made::mark_of(bit), x);
-    match dayfile::read_at(&p, 0) {
-        Read::Good(record, next) => {
-            shown::say(b" good");
-            shown::number(made::amount(record, bit));
-        }
+    dayfile::read_at(&p, 0)
+}
+
+fn refusal(read: Read) -> u64 {
+    match read {
         Read::Bad {
             reason,
             serial,
             code,
             account,
             next,
-        } => shown::number(reason as u64),
-        Read::End => shown::say(b" end"),
-        Read::Cut => shown::say(b" 2"),
+        } => reason as u64,
+        Read::Cut => 2,
+        Read::Good(record, next) => 0,
+        Read::End => 0,
+    }
+}
+
+// The refusal, or the amount that was read.
+fn read_back(bit: u8, x: u64) {
+    match read_made(bit, x) {
+        Read::Good(record, next) => shown::pair(b" good", made::amount(record, bit)),
+        other => shown::number(refusal(other)),
     }
 }
 
@@ -46,12 +56,16 @@ fn judged(bit: u8, x: u64) {
     shown::number(dayfile::fault_of(r) as u64);
 }
 
+fn written(record: Record) -> Wrote {
+    let mut room = [0u8; 70];
+    dayfile::write(record, &mut room)
+}
+
 // Retiring names no amount: the judge's number, and the writer's.
 fn unnamed(bit: u8) {
     let r = made::record(11, 0, bit, 1);
-    let mut room = [0u8; 70];
     shown::number(dayfile::fault_of(r) as u64);
-    shown::written(dayfile::write(r, &mut room));
+    shown::written(written(r));
 }
 
 fn one(way: Way, bit: u8, i: u8) {

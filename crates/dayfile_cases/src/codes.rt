@@ -17,29 +17,21 @@ fn read_marks(code: u8) -> Tally {
 
 // The second mark bytes that are good with a code: how many, the least and the greatest.
 fn good_marks(t: Tally) {
-    shown::say(b": good");
-    shown::number(t.good);
+    shown::pair(b": good", t.good);
     if 0 < t.good {
-        shown::say(b", from");
-        shown::number(t.first);
-        shown::say(b" to");
-        shown::number(t.last);
+        shown::pair(b", from", t.first);
+        shown::pair(b" to", t.last);
     }
 }
 
 fn line(code: u8) {
     let t = read_marks(code);
-    shown::say(b"code");
-    shown::number(code as u64);
+    shown::pair(b"code", code as u64);
     good_marks(t);
-    shown::say(b"; refusal 4:");
-    shown::number(t.fours);
-    shown::say(b", 5:");
-    shown::number(t.fives);
-    shown::say(b", 6:");
-    shown::number(t.sixes);
-    shown::say(b"; lengths in all");
-    shown::number(t.places);
+    shown::pair(b"; refusal 4:", t.fours);
+    shown::pair(b", 5:", t.fives);
+    shown::pair(b", 6:", t.sixes);
+    shown::pair(b"; lengths in all", t.places);
     shown::end_line();
 }
 

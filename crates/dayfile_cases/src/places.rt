@@ -5,7 +5,6 @@ use crate::tally;
 use crate::tally::Tally;
 use dayfile::Read;
 
-// A piece's first n bytes, read at a place.
 fn read_first(piece: &[u8], n: usize, place: usize) -> Read {
     if n <= piece.len() {
         dayfile::read_at(&piece[..n], place)
@@ -14,12 +13,18 @@ fn read_first(piece: &[u8], n: usize, place: usize) -> Read {
     }
 }
 
+// The first n bytes of a made piece, read at a place.
+fn read_made(code: u8, named: u8, n: usize, place: usize) -> Read {
+    let p = made::piece(code, named);
+    read_first(&p, n, place)
+}
+
 // Each piece shorter than n bytes, read.
-fn read_lengths(piece: &[u8], n: usize) -> Tally {
+fn read_shorter(code: u8, named: u8, n: usize) -> Tally {
     let mut t = tally::none();
     let mut k = 0;
     while k < n {
-        t = tally::with(t, read_first(piece, k, 0), k as u64);
+        t = tally::with(t, read_made(code, named, k, 0), k as u64);
         k += 1;
     }
     t
@@ -27,20 +32,14 @@ fn read_lengths(piece: &[u8], n: usize) -> Tally {
 
 // A record of n bytes, and what is read of it when it is cut.
 fn cut_line(code: u8, named: u8, n: usize) {
-    let p = made::piece(code, named);
-    let t = read_lengths(&p, n);
-    shown::say(b"code");
-    shown::number(code as u64);
-    shown::say(b", second mark byte");
-    shown::number(named as u64);
-    shown::say(b", bytes");
-    shown::number(n as u64);
+    let t = read_shorter(code, named, n);
+    shown::pair(b"code", code as u64);
+    shown::pair(b", second mark byte", named as u64);
+    shown::pair(b", bytes", n as u64);
     shown::say(b":");
-    shown::answer(read_first(&p, n, 0));
-    shown::say(b"; cut shorter, end:");
-    shown::number(t.ends);
-    shown::say(b", refusal 2:");
-    shown::number(t.cuts);
+    shown::answer(read_made(code, named, n, 0));
+    shown::pair(b"; cut shorter, end:", t.ends);
+    shown::pair(b", refusal 2:", t.cuts);
     shown::end_line();
 }
 
@@ -54,13 +53,10 @@ pub fn cut_lines() {
 }
 
 fn place_line(n: usize, place: usize) {
-    let p = made::piece(11, 0);
-    shown::say(b"bytes");
-    shown::number(n as u64);
-    shown::say(b", place");
-    shown::number(place as u64);
+    shown::pair(b"bytes", n as u64);
+    shown::pair(b", place", place as u64);
     shown::say(b":");
-    shown::answer(read_first(&p, n, place));
+    shown::answer(read_made(11, 0, n, place));
     shown::end_line();
 }
 
@@ -78,12 +74,10 @@ pub fn place_lines() {
 }
 
 pub fn p11() {
-    let p = made::piece(4, 255);
-    shown::say(b"P11, length");
-    shown::number(dayfile::size(255) as u64);
+    shown::pair(b"P11, length", dayfile::size(255) as u64);
     shown::say(b", 69 bytes:");
-    shown::answer(read_first(&p, 69, 0));
+    shown::answer(read_made(4, 255, 69, 0));
     shown::say(b"; 70 bytes:");
-    shown::answer(read_first(&p, 70, 0));
+    shown::answer(read_made(4, 255, 70, 0));
     shown::end_line();
 }

@@ -121,16 +121,11 @@ fn all_rooms(record: Record) -> Rooms {
 
 fn line(record: Record) {
     let t = all_rooms(record);
-    shown::say(b"code");
-    shown::number(record.code as u64);
-    shown::say(b" into rooms of 0 to 71: 15 and all kept");
-    shown::number(t.refused);
-    shown::say(b", written and the rest kept");
-    shown::number(t.written);
-    shown::say(b" from");
-    shown::number(t.shortest);
-    shown::say(b", others");
-    shown::number(t.others);
+    shown::pair(b"code", record.code as u64);
+    shown::pair(b" into rooms of 0 to 71: 15 and all kept", t.refused);
+    shown::pair(b", written and the rest kept", t.written);
+    shown::pair(b" from", t.shortest);
+    shown::pair(b", others", t.others);
     shown::end_line();
 }
 

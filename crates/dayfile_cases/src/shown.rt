@@ -12,6 +12,12 @@ pub fn number(n: u64) {
     io::print_decimal(1, n);
 }
 
+// A word with its number.
+pub fn pair(text: &[u8], n: u64) {
+    say(text);
+    number(n);
+}
+
 pub fn end_line() {
     say(b"\n");
 }
@@ -22,8 +28,7 @@ pub fn answer(read: Read) {
         Read::End => say(b" end"),
         Read::Cut => say(b" 2"),
         Read::Good(record, next) => {
-            say(b" good, next");
-            number(next as u64);
+            pair(b" good, next", next as u64);
         }
         Read::Bad {
             reason,
@@ -33,30 +38,21 @@ pub fn answer(read: Read) {
             next,
         } => {
             number(reason as u64);
-            say(b", serial");
-            number(serial as u64);
-            say(b", code");
-            number(code as u64);
-            say(b", account");
-            number(account as u64);
-            say(b", next");
-            number(next as u64);
+            pair(b", serial", serial as u64);
+            pair(b", code", code as u64);
+            pair(b", account", account as u64);
+            pair(b", next", next as u64);
         }
     }
 }
 
 // A record's words in their order.
 pub fn words(record: Record) {
-    say(b"serial");
-    number(record.serial as u64);
-    say(b", code");
-    number(record.code as u64);
-    say(b", named");
-    number(record.named as u64);
-    say(b", account");
-    number(record.account as u64);
-    say(b", amounts");
-    number(record.kinds.cash);
+    pair(b"serial", record.serial as u64);
+    pair(b", code", record.code as u64);
+    pair(b", named", record.named as u64);
+    pair(b", account", record.account as u64);
+    pair(b", amounts", record.kinds.cash);
     number(record.kinds.deposits);
     number(record.kinds.guarantees);
     number(record.kinds.securities);
@@ -69,8 +65,7 @@ pub fn words(record: Record) {
 pub fn written(wrote: Wrote) {
     match wrote {
         Wrote::Written(n) => {
-            say(b" written");
-            number(n as u64);
+            pair(b" written", n as u64);
         }
         Wrote::Refused(reason) => number(reason as u64),
     }

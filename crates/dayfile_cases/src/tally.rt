@@ -41,38 +41,38 @@ fn with_good(mut t: Tally, key: u64) -> Tally {
 }
 
 fn with_bad(mut t: Tally, reason: u8) -> Tally {
-    t.fours = add(t.fours, (reason == 4) as u64);
-    t.fives = add(t.fives, (reason == 5) as u64);
-    t.sixes = add(t.sixes, (reason == 6) as u64);
+    match reason {
+        4 => t.fours = add(t.fours, 1),
+        5 => t.fives = add(t.fives, 1),
+        _ => t.sixes = add(t.sixes, 1),
+    }
     t
 }
 
-fn with_place(mut t: Tally, next: usize) -> Tally {
-    t.places = add(t.places, next as u64);
-    t
-}
-
-fn with_end(mut t: Tally) -> Tally {
-    t.ends = add(t.ends, 1);
-    t
-}
-
-fn with_cut(mut t: Tally) -> Tally {
-    t.cuts = add(t.cuts, 1);
-    t
-}
-
-pub fn with(t: Tally, read: Read, key: u64) -> Tally {
+// The tally with one more that was read, and the key under which it was.
+pub fn with(mut t: Tally, read: Read, key: u64) -> Tally {
     match read {
-        Read::End => with_end(t),
-        Read::Cut => with_cut(t),
-        Read::Good(record, next) => with_place(with_good(t, key), next),
+        Read::End => {
+            t.ends = add(t.ends, 1);
+            t
+        }
+        Read::Cut => {
+            t.cuts = add(t.cuts, 1);
+            t
+        }
+        Read::Good(record, next) => {
+            t.places = add(t.places, next as u64);
+            with_good(t, key)
+        }
         Read::Bad {
             reason,
             serial,
             code,
             account,
             next,
-        } => with_place(with_bad(t, reason), next),
+        } => {
+            t.places = add(t.places, next as u64);
+            with_bad(t, reason)
+        }
     }
 }

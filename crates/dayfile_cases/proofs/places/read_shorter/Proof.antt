@@ -1,13 +1,13 @@
 use Prim.Native.Nat.{_≤_, _-_}
 use borrow.Author.Needs.{needs}
-use Rattle.dayfile_cases.proofs.places.read_lengths.Statement.{statement}
-use Rattle.dayfile_cases.proofs.places.read_lengths.Tie as tie
+use Rattle.dayfile_cases.proofs.places.read_shorter.Statement.{statement}
+use Rattle.dayfile_cases.proofs.places.read_shorter.Tie as tie
 
 abbrev Inv-loop : tie.InvT-loop
-Inv-loop piece n t₀ k₀ t k = k ≤ n
+Inv-loop code named n t₀ k₀ t k = k ≤ n
 
 abbrev μ-loop : tie.MeasureT-loop
-μ-loop piece n t₀ k₀ t k = n - k
+μ-loop code named n t₀ k₀ t k = n - k
 
 none-requires : tie.Need-none-requires Inv-loop μ-loop
 none-requires c κs = search needs
@@ -15,8 +15,8 @@ none-requires c κs = search needs
 loop-holds : tie.Need-loop-holds Inv-loop μ-loop
 loop-holds c = search needs
 
-read-first-requires : tie.Need-read-first-requires Inv-loop μ-loop
-read-first-requires c κs = search needs
+read-made-requires : tie.Need-read-made-requires Inv-loop μ-loop
+read-made-requires c κs = search needs
 
 with-requires : tie.Need-with-requires Inv-loop μ-loop
 with-requires c κs = search needs
@@ -33,15 +33,15 @@ loop-again c = search needs
 returns : tie.Need-returns Inv-loop μ-loop
 returns c = search needs
 
-pub read-lengths-spec : {M : Type 1} → statement M
-read-lengths-spec =
+pub read-shorter-spec : {M : Type 1} → statement M
+read-shorter-spec =
     tie.close
     (tie.spec
     Inv-loop
     μ-loop
     none-requires
     loop-holds
-    read-first-requires
+    read-made-requires
     with-requires
     add-k
     loop-less
