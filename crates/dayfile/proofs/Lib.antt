@@ -2,3 +2,10 @@ mod Numbers
 mod Marks
 mod Amounts
 mod Looking
+mod Rooms
+mod Answers
+mod Bodies
+pub mod Good
+pub mod Lengths
+pub mod Places
+pub mod RoundTrip

@@ -1,18 +1,15 @@
 -- What `foundAt` and `readAt` give, by what a reader tests.
 use mathlib.Core.Path.{_≡_, refl}
-use mathlib.Core.List.{List, [], _∷_}
+use mathlib.Core.List.{List}
 use Prim.Native.Nat.{ℕ, zero, suc, _+_, _-_, _*_, _≤_, _<_}
 use native.Mathlib.Omega.{arith}
 use lib.ListN.{length, drop, getD, length-drop, drop-of-length-le}
 use lib.Count.{ones}
-use lib.Dec.{leb}
 use lib.Seq.{drop-cons, drop-drop}
 use borrow.Author.Tests.{le-leb, lt-leb}
 use Rattle.sums.proofs.Choices.{pass, stop}
 use Rattle.dayfile.specs.declared.Record.{Record}
-use Rattle.dayfile.specs.declared.Found.{Found}
 use Rattle.dayfile.specs.declared.Found.the-variants.{End as NoBytes, Cut as TooFew, Whole}
-use Rattle.dayfile.specs.declared.Read.{Read}
 use Rattle.dayfile.specs.declared.Read.the-variants.{End, Cut, Good, Bad}
 use Rattle.dayfile.specs.Bytes.{number}
 use Rattle.dayfile.specs.Records.{bit, faultOf}

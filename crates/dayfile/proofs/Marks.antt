@@ -1,12 +1,10 @@
 -- Laws of the second mark byte: its ones are its bits.
 use mathlib.Core.Path.{_≡_, refl, sym, ap, _∙_}
-use Prim.Native.Nat.{ℕ, _+_, _*_, _/_, _%_, _≤_, _<_}
+use Prim.Native.Nat.{ℕ, _+_, _*_, _/_, _%_, _<_}
 use native.Mathlib.Nat.{mod-lt, div-one, div-div-eq-div-mul}
-use native.Mathlib.Omega.{arith}
-use lib.Count.{ones, ones-step, ones-le}
+use lib.Count.{ones, ones-step}
 use lib.Dec.{lit<}
 use Rattle.dayfile.specs.Records.{bit}
-use Rattle.dayfile.specs.Reading.{sizeOf}
 
 pub bit-lt : (w n : ℕ) → bit w n < 2
 bit-lt w n = mod-lt (n / w) (lit< tt)
@@ -22,7 +20,3 @@ ones-bits n =
 pub ones-zero : (n : ℕ) → n ≡ 0 → ones n ≡ 0
 unfolding ones
 ones-zero n e = rw e refl
-
--- "The longest record is 70 bytes."
-pub size-most : (named : ℕ) → named < 256 → sizeOf named ≤ 70
-size-most named h = omega (arith, ones-le 8 named h)

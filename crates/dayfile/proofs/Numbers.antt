@@ -2,7 +2,7 @@
 use mathlib.Core.Path.{_≡_, refl, sym, ap, ap₂, _∙_}
 use mathlib.Core.List.{List, [], _∷_, _++_}
 use Prim.Native.Nat.{ℕ, zero, suc, _+_, _*_, _/_, _%_, _^_, _≤_, _<_}
-use native.Mathlib.Nat.{pow-succ', mul-assoc, add-comm, one-le-pow, le-of-suc-le-suc, add-mul-div-right, add-mul-mod-self-right, mod-eq-of-lt, not-suc-le-zero, zero-add, suc-add, add-mul, add-assoc}
+use native.Mathlib.Nat.{pow-succ', mul-assoc, add-comm, one-le-pow, le-of-suc-le-suc, add-mul-div-right, add-mul-mod-self-right, mod-eq-of-lt, not-suc-le-zero, zero-add, suc-add, add-mul, add-assoc, mul-comm, div-add-mod', div-div-eq-div-mul}
 use native.Mathlib.Numerals.{add-one}
 use native.Mathlib.Omega.{arith}
 use lib.Arith.{mod-mul, digits-div, digits-lt}
@@ -69,12 +69,21 @@ bytesOf-number (suc k) (b ∷ l) h n =
     (rw (add-comm (b * 256 ^ k) (number k l), bytesOf-low k b (number k l))
     (bytesOf-number k l (bytes-tail b l h) (le-of-suc-le-suc n)))
 
+-- the first j bytes and the k after them
+pub bytesOf-add : (j k x : ℕ) → bytesOf (j + k) x ≡ bytesOf j (x / 256 ^ k) ++ bytesOf k (x % 256 ^ k)
+unfolding bytesOf
+bytesOf-add zero k x =
+    let e : x ≡ x % 256 ^ k + x / 256 ^ k * 256 ^ k = sym (add-comm (x % 256 ^ k) (x / 256 ^ k * 256 ^ k) ∙ div-add-mod' x (256 ^ k)) in
+    rw zero-add (ap (bytesOf k) e ∙ bytesOf-low k (x / 256 ^ k) (x % 256 ^ k))
+bytesOf-add (suc j) k x =
+    let e : x / 256 ^ (j + k) ≡ x / 256 ^ k / 256 ^ j = rw (pow-add, mul-comm (256 ^ j) (256 ^ k)) (sym (div-div-eq-div-mul x (256 ^ k) (256 ^ j))) in
+    rw (suc-add, e, bytesOf-add j k x)
+
 number-nil : (k : ℕ) → number k [] ≡ 0
 unfolding number
 number-nil zero = refl
 number-nil (suc k) = refl
 
--- the first j bytes and the k after them
 number-add : (j k : ℕ) (l : List ℕ) → number (j + k) l ≡ number j l * 256 ^ k + number k (drop j l)
 unfolding number
 number-add zero k l = rw zero-add (omega arith)

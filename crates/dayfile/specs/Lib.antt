@@ -2,3 +2,5 @@ pub mod Bytes
 pub mod Records
 pub mod Written
 pub mod Reading
+pub mod Words
+pub mod Putting

@@ -1,5 +1,4 @@
 -- Document 01, 'The day file': what stands at a place of a piece, and what the reader gives.
-use mathlib.Core.Bool.{Bool}
 use mathlib.Core.List.{List, [], _∷_}
 use mathlib.Core.Path.{_≡_}
 use Prim.Native.Nat.{ℕ, zero, suc, _+_, _*_}

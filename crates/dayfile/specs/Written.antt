@@ -1,6 +1,7 @@
 -- Document 01, 'The day file': a record's bytes, and what the writer does.
 use mathlib.Core.Bool.{Bool}
 use mathlib.Core.List.{List, [], _∷_, _++_}
+use mathlib.Core.Path.{_≡_}
 use Prim.Native.Nat.{ℕ, zero, suc}
 use lib.Dec.{leb, eqb}
 use lib.ListN.{length, drop}
@@ -54,3 +55,8 @@ roomAfter r room =
     pick (eqb (faultOf r) 0)
     (pick (hasRoom r room) (writtenOf r ++ drop (length (writtenOf r)) room) room)
     room
+
+-- what a call of the writer comes to: its answer, and what the room then holds
+pub record Writes (r : Record) (room : List ℕ) (answer : Wrote) (after : List ℕ) : Type 0 where
+  pub answers : answer ≡ wroteOf r room
+  pub leaves : after ≡ roomAfter r room

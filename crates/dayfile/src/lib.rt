@@ -3,11 +3,13 @@ use book::Kinds;
 
 mod reading;
 mod records;
+mod writing;
 
 pub use reading::found_at;
 pub use reading::read_at;
 pub use records::fault_of;
 pub use records::size;
+pub use writing::write;
 
 // A record. `named` is the second mark byte: the amounts that the record names; the others are 0.
 pub struct Record {

@@ -1,0 +1,20 @@
+use mathlib.Core.Path.{sym}
+use lib.Seq.{length-take-le}
+use borrow.Author.Needs.{needs}
+use Rattle.dayfile_cases.proofs.places.read_first.Statement.{statement}
+use Rattle.dayfile_cases.proofs.places.read_first.Tie as tie
+
+slice-aggregate-read-at : tie.Need-slice-aggregate-read-at
+slice-aggregate-read-at c = sym (length-take-le _ _ (c .before .if1 .taken))
+
+read-at-requires : tie.Need-read-at-requires
+read-at-requires c κs = search needs
+
+returns : tie.Need-returns
+returns c = search needs
+
+returns-2 : tie.Need-returns-2
+returns-2 c = search needs
+
+pub read-first-spec : {M : Type 1} → statement M
+read-first-spec = tie.close (tie.spec slice-aggregate-read-at read-at-requires returns returns-2)
