@@ -1,5 +1,6 @@
 -- Laws of a choice by a test, and of tests joined.
 use mathlib.Core.Bool.{Bool, true, false, _&&_, _||_, not, false≢true}
+use mathlib.Core.Logic.{_⊎_, inl, inr}
 use mathlib.Core.Path.{_≡_, refl, sym, _∙_}
 use Prim.Native.Nat.{ℕ}
 use Rattle.sums.specs.Choice.{pick}
@@ -38,8 +39,18 @@ pub and-split : (a b : Bool) → (a && b) ≡ true → (a ≡ true) × (b ≡ tr
 and-split true b e = (refl, e)
 and-split false b e = absurd (false≢true e)
 
+pub and-left : (a b : Bool) → (a && b) ≡ true → a ≡ true
+and-left a b e = and-split a b e .0
+
+pub and-right : (a b : Bool) → (a && b) ≡ true → b ≡ true
+and-right a b e = and-split a b e .1
+
 pub and-join : {a b : Bool} → a ≡ true → b ≡ true → (a && b) ≡ true
 and-join {a} {b} p q = rw p q
+
+pub or-split : (a b : Bool) → (a || b) ≡ true → (a ≡ true) ⊎ (b ≡ true)
+or-split true b e = inl refl
+or-split false b e = inr e
 
 -- b holds wherever a fails
 pub or-else : (a b : Bool) → (a || b) ≡ true → a ≡ false → b ≡ true
@@ -49,3 +60,9 @@ or-else false b e q = e
 pub or-from : (a b : Bool) → (a ≡ false → b ≡ true) → (a || b) ≡ true
 or-from true b h = refl
 or-from false b h = h refl
+
+pub or-left : {a : Bool} (b : Bool) → a ≡ true → (a || b) ≡ true
+or-left {a} b p = rw p
+
+pub or-right : (a : Bool) {b : Bool} → b ≡ true → (a || b) ≡ true
+or-right a p = or-from a _ (λ q. p)

@@ -1,0 +1,5 @@
+pub mod Needs
+pub mod Keeps
+pub mod Opens
+pub mod OneRow
+pub mod RowFacts

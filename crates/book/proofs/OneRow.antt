@@ -1,0 +1,76 @@
+-- What a change of one row, and a row more, do to a book's rows and to its view.
+use mathlib.Core.Path.{_≡_, refl, sym, _∙_, ap}
+use mathlib.Core.Logic.{_⊎_}
+use Prim.Native.Nat.{ℕ, _+_, _≤_, _<_, min}
+use native.Mathlib.Omega.{arith}
+use native.Mathlib.Decide.{ℕ-discrete}
+use lib.ListN.{length}
+use lib.Seq.{getD-set-same, getD-set-other}
+use Rattle.book.specs.declared.Row.{Row}
+use Rattle.book.specs.declared.Book.{Book}
+use Rattle.book.specs.View.{blocked, Shaped}
+use Rattle.book.specs.Rows.{noRow, rowAt, collateral, view, withRow, withNew}
+use Rattle.book.proofs.Keeps.{Kept}
+use Rattle.book.proofs.Opens.{Opened}
+
+pub row-same : (b : Book) (i : ℕ) (r : Row) → i < length (b .rows) → rowAt (withRow b i r) i ≡ r
+row-same b i r l = getD-set-same (b .rows) i r noRow l
+
+pub row-other : (b : Book) (i j : ℕ) (r : Row) → (j ≡ i → ⊥) → rowAt (withRow b i r) j ≡ rowAt b j
+row-other b i j r ne = getD-set-other (b .rows) i j r noRow ne
+
+-- what holds of the new row and the old, and of any row and itself, holds of all rows of the two books
+pub at-all : (P : ℕ → Row → Row → Type 0) (b : Book) (i : ℕ) (r : Row) → i < length (b .rows)
+    → P i r (rowAt b i) → ((j : ℕ) → P j (rowAt b j) (rowAt b j)) → (j : ℕ) → P j (rowAt (withRow b i r) j) (rowAt b j)
+at-all P b i r l p q j = by (ℕ-discrete j i)
+  where
+    by : Dec (j ≡ i) → P j (rowAt (withRow b i r) j) (rowAt b j)
+    by (yes e) = rw e (rw (row-same b i r l) p)
+    by (no e) = rw (row-other b i j r e) (q j)
+
+module _ (b : Book) (i : ℕ) (r : Row) (l : i < length (b .rows)) (ec : r .code ≡ rowAt b i .code) (et : r .tm ≡ rowAt b i .tm) where
+  pub same-code : (j : ℕ) → rowAt (withRow b i r) j .code ≡ rowAt b j .code
+  same-code = at-all (λ j x y. x .code ≡ y .code) b i r l ec (λ j. refl)
+
+  pub same-tm : (j : ℕ) → rowAt (withRow b i r) j .tm ≡ rowAt b j .tm
+  same-tm = at-all (λ j x y. x .tm ≡ y .tm) b i r l et (λ j. refl)
+
+  -- the margin doesn't rise, and collateral stays no lower than blocked
+  pub row-kept : r .margin ≤ rowAt b i .margin → blocked (view b) i ≤ collateral r → Kept (view b) (view (withRow b i r))
+  row-kept m c = record {
+    count = refl;
+    code = same-code;
+    tm = same-tm;
+    margin = at-all (λ j x y. x .margin ≤ y .margin) b i r l m (λ j. omega arith);
+    collateral = at-all (λ j x y. blocked (view b) j ≤ collateral x) b i r l c (λ j. omega arith);
+  }
+
+  -- the shape goes by code and TM alone
+  pub row-shaped : Shaped (view b) → Shaped (view (withRow b i r))
+  row-shaped s = record {
+    some = s .some;
+    top = same-code 0 ∙ s .top;
+    sorts = λ j p q. rw (same-code j) (s .sorts j p q);
+    tms = λ j q e. rw (same-tm j) (rw (same-code (rowAt b j .tm)) (s .tms j q (sym (same-code j) ∙ e)));
+  }
+
+-- an opening, where the table has room
+module _ (b : Book) (r : Row) (room : b .count < length (b .rows)) where
+  pub new : rowAt (withNew b r) (b .count) ≡ r
+  new = getD-set-same (b .rows) (b .count) r noRow room
+
+  pub below : (i : ℕ) → i < b .count → rowAt (withNew b r) i ≡ rowAt b i
+  below i q = getD-set-other (b .rows) (b .count) i r noRow (λ e. omega arith)
+
+  pub row-opened : r .margin ≡ 0 → (r .code ≡ 1) ⊎ ((r .code ≡ 2) ⊎ (r .code ≡ 3))
+      → (r .code ≡ 2 → (r .tm < b .count) × (rowAt b (r .tm) .code ≡ 1)) → Opened (view b) (view (withNew b r))
+  row-opened m k t = record {
+    count = refl;
+    code = λ i q. ap (λ x. x .code) (below i q);
+    tm = λ i q. ap (λ x. x .tm) (below i q);
+    margin = λ i q. ap (λ x. x .margin) (below i q);
+    collateral = λ i q. ap collateral (below i q);
+    no-margin = rw new m;
+    sort = rw new k;
+    its-tm = rw new t;
+  }
