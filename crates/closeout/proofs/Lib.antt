@@ -1,0 +1,5 @@
+pub mod Groups
+pub mod Payments
+pub mod Fund
+pub mod Limits
+pub mod Cells
