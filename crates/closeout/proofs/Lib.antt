@@ -3,3 +3,7 @@ pub mod Payments
 pub mod Fund
 pub mod Limits
 pub mod Cells
+pub mod Steps
+pub mod Rooms
+pub mod Turns
+pub mod Pass

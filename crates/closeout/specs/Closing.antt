@@ -5,7 +5,7 @@ use Prim.Native.Nat.{ℕ, zero, suc, _*_}
 use lib.Dec.{leb, eqb}
 use lib.ListN.{length, getD}
 use Rattle.sums.specs.Sum.{all}
-use Rattle.sums.specs.Table.{Line, _when_, first}
+use Rattle.sums.specs.Table.{_when_, first}
 use Rattle.book.specs.declared.Row.{Row}
 use Rattle.book.specs.declared.Book.{Book}
 use Rattle.book.specs.Rows.{ceiling, rowAt, view}

@@ -1,6 +1,6 @@
 -- Document 01, 'Close-out': the four amounts of each account, for losses l over a view of a book.
 use mathlib.Core.List.{List, [], _∷_, _++_}
-use Prim.Native.Nat.{ℕ, zero, suc, _+_, _-_, min}
+use Prim.Native.Nat.{ℕ, zero, suc, _-_, min}
 use Rattle.sums.specs.Choice.{pick}
 use Rattle.sums.specs.Sum.{sum, only}
 use Rattle.book.specs.View.{View, isCM, isClient, isClientOf}
