@@ -1,7 +1,6 @@
 -- What keeps a book covered.
 use mathlib.Core.Path.{_≡_, ap}
-use mathlib.Core.Bool.{Bool, true, false}
-use Prim.Native.Nat.{ℕ, _+_, _-_, _≤_, min}
+use Prim.Native.Nat.{ℕ, _≤_}
 use native.Mathlib.Omega.{arith}
 use Rattle.sums.specs.Sum.{sum, only}
 use Rattle.sums.proofs.Sums.{sum-le, only-le}

@@ -3,3 +3,8 @@ pub mod Keeps
 pub mod Opens
 pub mod OneRow
 pub mod RowFacts
+pub mod SoundTest
+pub mod SoundAfter
+pub mod LiveClients
+pub mod FreshSound
+pub mod Differences

@@ -1,15 +1,14 @@
 -- The need of each sort of account, what it is deemed, and who is a client of whom.
-use mathlib.Core.Path.{_≡_, refl, ap}
-use mathlib.Core.Bool.{Bool, true, false}
-use Prim.Native.Nat.{ℕ, _+_, _-_, _≤_, min}
+use mathlib.Core.Path.{_≡_, ap}
+use mathlib.Core.Bool.{true}
+use Prim.Native.Nat.{ℕ, _≤_}
 use native.Mathlib.Omega.{arith}
 use lib.Dec.{eqb}
 use borrow.Author.Tests.{eqb-true, eq-eqb}
-use Rattle.sums.specs.Sum.{only}
 use Rattle.sums.specs.Choice.{pick}
 use Rattle.sums.proofs.Sums.{only-le}
 use Rattle.sums.proofs.Choices.{and-split, and-join}
-use Rattle.book.specs.View.{View, isCM, isTM, isClient, isCP, isClientOf, members, deemedOf, ownDeemed, needTM, deemedTM, needCM, need, deemed}
+use Rattle.book.specs.View.{View, isTM, isClient, isCP, isClientOf, members, deemedOf, ownDeemed, needTM, deemedTM, needCM, need, deemed}
 
 module _ (v : View) (i : ℕ) where
   pub need-CM : v .code i ≡ 0 → need v i ≡ needCM v

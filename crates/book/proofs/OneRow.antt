@@ -1,7 +1,7 @@
 -- What a change of one row, and a row more, do to a book's rows and to its view.
 use mathlib.Core.Path.{_≡_, refl, sym, _∙_, ap}
 use mathlib.Core.Logic.{_⊎_}
-use Prim.Native.Nat.{ℕ, _+_, _≤_, _<_, min}
+use Prim.Native.Nat.{ℕ, _≤_, _<_}
 use native.Mathlib.Omega.{arith}
 use native.Mathlib.Decide.{ℕ-discrete}
 use lib.ListN.{length}
@@ -61,6 +61,9 @@ module _ (b : Book) (r : Row) (room : b .count < length (b .rows)) where
 
   pub below : (i : ℕ) → i < b .count → rowAt (withNew b r) i ≡ rowAt b i
   below i q = getD-set-other (b .rows) (b .count) i r noRow (λ e. omega arith)
+
+  pub above : (i : ℕ) → b .count < i → rowAt (withNew b r) i ≡ rowAt b i
+  above i q = getD-set-other (b .rows) (b .count) i r noRow (λ e. omega arith)
 
   pub row-opened : r .margin ≡ 0 → (r .code ≡ 1) ⊎ ((r .code ≡ 2) ⊎ (r .code ≡ 3))
       → (r .code ≡ 2 → (r .tm < b .count) × (rowAt b (r .tm) .code ≡ 1)) → Opened (view b) (view (withNew b r))

@@ -1,13 +1,11 @@
 -- What the tests of one row say as facts, both ways.
-use mathlib.Core.Path.{_≡_, refl}
-use mathlib.Core.Bool.{Bool, true, false, not, _&&_, _||_}
-use Prim.Native.Nat.{ℕ, _≤_, _<_}
-use lib.Dec.{eqb, leb, ltb}
+use mathlib.Core.Path.{_≡_}
+use mathlib.Core.Bool.{true, false}
 use borrow.Author.Tests.{eqb-true, eq-eqb, leb-true, le-leb, not-true}
 use Rattle.sums.proofs.Choices.{and-left, and-right, and-join}
 use Rattle.book.specs.declared.Kinds.{Kinds}
 use Rattle.book.specs.declared.Row.{Row}
-use Rattle.book.specs.Rows.{ceiling, noKinds, noRow}
+use Rattle.book.specs.Rows.{noKinds, noRow}
 use Rattle.book.specs.Sound.{kindsZero, kindsWithin, kindsCapped, noAmounts, isBlank, inRange, KindsWithin, ceilings, InRange}
 
 pub within→ : (a b : Kinds) → kindsWithin a b ≡ true → KindsWithin a b

@@ -1,0 +1,48 @@
+-- A fresh book is sound.
+use mathlib.Core.Path.{_≡_, refl}
+use mathlib.Core.Bool.{true, false}
+use Prim.Native.Nat.{ℕ, zero, suc, _≤_, _<_}
+use native.Mathlib.Omega.{arith}
+use lib.ListN.{getD, replicate}
+use Rattle.sums.specs.Sum.{sum}
+use Rattle.book.specs.View.{needCM}
+use Rattle.book.specs.Rows.{noRow, rowAt, freshBook}
+use Rattle.book.specs.Sound.{InRange, Sound, noAmounts, soundB}
+use Rattle.book.proofs.SoundTest.{sound←}
+
+getD-same : {A : Type 0} (n i : ℕ) (a : A) → getD (replicate n a) i a ≡ a
+getD-same zero i a = refl
+getD-same (suc n) zero a = refl
+getD-same (suc n) (suc i) a = getD-same n i a
+
+-- account 0 is the only one
+alone : (P : ℕ → Type 0) → P 0 → (i : ℕ) → i < 1 → P i
+alone P p zero l = p
+alone P p (suc i) l = absurd (omega arith)
+
+pub fresh-sound : Sound freshBook
+unfolding sum needCM freshBook
+fresh-sound = record {
+  table = refl;
+  most = omega arith;
+  top-live = refl;
+  blank = blank;
+  shaped = record {
+    some = omega arith;
+    top = refl;
+    sorts = λ i p l. absurd (omega arith);
+    tms = alone (λ i. rowAt freshBook i .code ≡ 2 → (rowAt freshBook i .tm < i) × (rowAt freshBook (rowAt freshBook i .tm) .code ≡ 1)) (λ e. absurd (omega arith));
+  };
+  no-tm = alone (λ i. (rowAt freshBook i .code ≡ 2 → ⊥) → rowAt freshBook i .tm ≡ 0) (λ ne. refl);
+  tm-live = alone (λ i. rowAt freshBook i .code ≡ 2 → rowAt freshBook i .live ≡ true → rowAt freshBook (rowAt freshBook i .tm) .live ≡ true) (λ e p. refl);
+  retired = alone (λ i. rowAt freshBook i .live ≡ false → noAmounts (rowAt freshBook i) ≡ true) (λ e. refl);
+  ranges = alone (λ i. InRange (rowAt freshBook i)) (omega arith);
+  covered = omega arith;
+}
+  where
+    blank : (i : ℕ) → 1 ≤ i → rowAt freshBook i ≡ noRow
+    blank zero h = absurd (omega arith)
+    blank (suc i) h = getD-same 255 i noRow
+
+pub fresh-test : soundB freshBook ≡ true
+fresh-test = sound← freshBook fresh-sound

@@ -1,0 +1,28 @@
+-- Who has no live client.
+use mathlib.Core.Path.{_≡_, ap, _∙_, sym}
+use mathlib.Core.Bool.{Bool, true, false, not, _&&_}
+use Prim.Native.Nat.{ℕ, _<_}
+use lib.Dec.{eqb}
+use borrow.Author.Tests.{eq-eqb, not-true, not-false}
+use Rattle.sums.specs.Sum.{all}
+use Rattle.sums.proofs.Sums.{all-at}
+use Rattle.sums.proofs.Choices.{and-join, clash}
+use Rattle.book.specs.declared.Book.{Book}
+use Rattle.book.specs.Rows.{rowAt, hasLiveClient}
+use Rattle.book.specs.Sound.{Sound}
+
+abbrev liveClient : Book → ℕ → ℕ → Bool
+liveClient b t i = eqb (rowAt b i .code) 2 && eqb (rowAt b i .tm) t && rowAt b i .live
+
+-- where the test fails
+pub no-live-client : (b : Book) (t : ℕ) → hasLiveClient b t ≡ false
+    → (j : ℕ) → j < b .count → rowAt b j .code ≡ 2 → rowAt b j .tm ≡ t → rowAt b j .live ≡ true → ⊥
+unfolding hasLiveClient
+no-live-client b t h j l c e p =
+    clash (and-join (and-join (eq-eqb _ _ c) (eq-eqb _ _ e)) p)
+    (not-true (liveClient b t j) (all-at (b .count) (λ i. not (liveClient b t i)) (not-false (all (b .count) (λ i. not (liveClient b t i))) h) j l))
+
+-- an account that is no TM, in a sound book
+pub no-TM-no-client : (b : Book) (t : ℕ) → Sound b → (rowAt b t .code ≡ 1 → ⊥)
+    → (j : ℕ) → j < b .count → rowAt b j .code ≡ 2 → rowAt b j .tm ≡ t → ⊥
+no-TM-no-client b t s ne j l c e = ne (sym (ap (λ i. rowAt b i .code) e) ∙ s .shaped .tms j l c .1)

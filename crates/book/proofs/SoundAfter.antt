@@ -1,0 +1,178 @@
+-- A sound book stays sound: after each change of one row, after an opening, and whatever its serial.
+use mathlib.Core.Path.{_≡_, refl, sym, _∙_, ap}
+use mathlib.Core.Bool.{true, false}
+use mathlib.Core.Logic.{_⊎_}
+use Prim.Native.Nat.{ℕ, _+_, _-_, _≤_, _<_}
+use native.Mathlib.Omega.{arith}
+use native.Mathlib.Decide.{ℕ-discrete}
+use lib.ListN.{length, length-set}
+use Rattle.sums.proofs.Choices.{clash}
+use Rattle.book.specs.declared.Kinds.{Kinds}
+use Rattle.book.specs.declared.Row.{Row}
+use Rattle.book.specs.declared.Book.{Book}
+use Rattle.book.specs.View.{blocked, free, Covered}
+use Rattle.book.specs.Rows.{ceiling, rowAt, total, collateral, view, openedRow, plusKinds, lessKinds, withReceived, withAllocated, withPledged, withMargin, withLive, withRow, withNew}
+use Rattle.book.specs.Sound.{noAmounts, KindsWithin, ceilings, InRange, Sound}
+use Rattle.book.proofs.Keeps.{kept-covered}
+use Rattle.book.proofs.Opens.{Opened, opened-covered, opened-shaped}
+use Rattle.book.proofs.OneRow.{row-other, at-all, same-code, same-tm, row-kept, row-shaped, new, below, above, row-opened}
+
+-- soundness doesn't look at the serial
+pub serial-sound : (b : Book) (n : ℕ) → Sound b → Sound (record { count = b .count; serial = n; rows = b .rows })
+serial-sound b n s = record {
+  table = s .table;
+  most = s .most;
+  top-live = s .top-live;
+  blank = s .blank;
+  shaped = s .shaped;
+  no-tm = s .no-tm;
+  tm-live = s .tm-live;
+  retired = s .retired;
+  ranges = s .ranges;
+  covered = s .covered;
+}
+
+-- an account's row is in the table
+pub in-table : (b : Book) → Sound b → (i : ℕ) → i < b .count → i < length (b .rows)
+in-table b s i m = omega (arith, s .table, s .most)
+
+-- row i changes, keeps code and TM, and is in range; a client that is live after it has a live TM
+module _ (b : Book) (s : Sound b) (i : ℕ) (m : i < b .count) (r : Row) (ec : r .code ≡ rowAt b i .code) (et : r .tm ≡ rowAt b i .tm) where
+  row-sound : InRange r → (r .live ≡ false → noAmounts r ≡ true) → rowAt (withRow b i r) 0 .live ≡ true
+      → ((j : ℕ) → j < b .count → rowAt b j .code ≡ 2 → rowAt (withRow b i r) j .live ≡ true → rowAt (withRow b i r) (rowAt b j .tm) .live ≡ true)
+      → Covered (view (withRow b i r)) → Sound (withRow b i r)
+  row-sound ranges retired top tms c = record {
+    table = length-set (b .rows) i r ∙ s .table;
+    most = s .most;
+    top-live = top;
+    blank = λ j h. row-other b i j r (λ e. omega arith) ∙ s .blank j h;
+    shaped = row-shaped b i r l ec et (s .shaped);
+    no-tm = λ j h ne. tm j ∙ s .no-tm j h (λ e. ne (code j ∙ e));
+    tm-live = λ j h e p. rw (tm j) (tms j h (sym (code j) ∙ e) p);
+    retired = λ j h. at-all (λ k x y. (y .live ≡ false → noAmounts y ≡ true) → x .live ≡ false → noAmounts x ≡ true) b i r l
+        (λ q. retired) (λ k q. q) j (s .retired j h);
+    ranges = λ j h. at-all (λ k x y. InRange y → InRange x) b i r l (λ q. ranges) (λ k q. q) j (s .ranges j h);
+    covered = c;
+  }
+    where
+      l : i < length (b .rows)
+      l = in-table b s i m
+
+      code : (j : ℕ) → rowAt (withRow b i r) j .code ≡ rowAt b j .code
+      code = same-code b i r l ec et
+
+      tm : (j : ℕ) → rowAt (withRow b i r) j .tm ≡ rowAt b j .tm
+      tm = same-tm b i r l ec et
+
+module _ (b : Book) (s : Sound b) (i : ℕ) (m : i < b .count) (live : rowAt b i .live ≡ true) where
+  -- a live row's amounts change within the ranges, and the CM stays covered
+  pub amounts-sound : (r : Row) → r .code ≡ rowAt b i .code → r .tm ≡ rowAt b i .tm → r .live ≡ true → InRange r
+      → Covered (view (withRow b i r)) → Sound (withRow b i r)
+  amounts-sound r ec et el f c =
+      row-sound b s i m r ec et f (clash el) (lives 0 ∙ s .top-live)
+      (λ j h e p. lives (rowAt b j .tm) ∙ s .tm-live j h e (sym (lives j) ∙ p)) c
+    where
+      lives : (j : ℕ) → rowAt (withRow b i r) j .live ≡ rowAt b j .live
+      lives = at-all (λ j x y. x .live ≡ y .live) b i r (in-table b s i m) (el ∙ sym live) (λ j. refl)
+
+  -- the margin doesn't rise, and collateral stays no lower than blocked
+  pub kept-sound : (r : Row) → r .code ≡ rowAt b i .code → r .tm ≡ rowAt b i .tm → r .live ≡ true → InRange r
+      → r .margin ≤ rowAt b i .margin → blocked (view b) i ≤ collateral r → Sound (withRow b i r)
+  kept-sound r ec et el f hm hb =
+      amounts-sound r ec et el f
+      (kept-covered (view b) (view (withRow b i r)) (row-kept b i r (in-table b s i m) ec et hm hb) (s .shaped .top) (s .covered))
+
+  -- 10 does not apply
+  pub receive-sound : (k : Kinds) → KindsWithin (plusKinds (rowAt b i .received) k) ceilings
+      → Sound (withRow b i (withReceived (rowAt b i) (plusKinds (rowAt b i .received) k)))
+  receive-sound k h = kept-sound _ refl refl live (omega (arith, s .ranges i m)) (omega arith) (omega arith)
+
+  -- 11 does not apply
+  pub hand-back-sound : (k : Kinds) → KindsWithin k (lessKinds (rowAt b i .received) (rowAt b i .allocated))
+      → Sound (withRow b i (withReceived (rowAt b i) (lessKinds (rowAt b i .received) k)))
+  hand-back-sound k h = kept-sound _ refl refl live (omega (arith, s .ranges i m)) (omega arith) (omega arith)
+
+  pub allocate-sound : (k : Kinds) → KindsWithin k (lessKinds (rowAt b i .received) (rowAt b i .allocated))
+      → Sound (withRow b i (withAllocated (rowAt b i) (plusKinds (rowAt b i .allocated) k)))
+  allocate-sound k h = kept-sound _ refl refl live (omega (arith, s .ranges i m)) (omega arith) (omega arith)
+
+  -- 11 and 12 do not apply
+  pub release-sound : (k : Kinds) → KindsWithin k (rowAt b i .allocated) → total k ≤ free (view b) i
+      → Sound (withRow b i (withAllocated (rowAt b i) (lessKinds (rowAt b i .allocated) k)))
+  release-sound k h f = kept-sound _ refl refl live (omega (arith, s .ranges i m)) (omega arith) (omega arith)
+
+  -- 10 does not apply
+  pub pledge-sound : (y : ℕ) → rowAt b i .pledged + y ≤ ceiling → Sound (withRow b i (withPledged (rowAt b i) (rowAt b i .pledged + y)))
+  pledge-sound y h = kept-sound _ refl refl live (omega (arith, s .ranges i m)) (omega arith) (omega arith)
+
+  -- 11 and 12 do not apply
+  pub unpledge-sound : (y : ℕ) → y ≤ rowAt b i .pledged → y ≤ free (view b) i → Sound (withRow b i (withPledged (rowAt b i) (rowAt b i .pledged - y)))
+  unpledge-sound y h f = kept-sound _ refl refl live (omega (arith, s .ranges i m)) (omega arith) (omega arith)
+
+  -- 13 does not apply
+  pub margin-sound : (y : ℕ) → y ≤ ceiling → Covered (view (withRow b i (withMargin (rowAt b i) y))) → Sound (withRow b i (withMargin (rowAt b i) y))
+  margin-sound y h c = amounts-sound _ refl refl live (omega (arith, s .ranges i m)) c
+
+  -- 13 never applies to a margin that doesn't rise
+  pub margin-falls : (y : ℕ) → y ≤ rowAt b i .margin → Sound (withRow b i (withMargin (rowAt b i) y))
+  margin-falls y h = kept-sound _ refl refl live (omega (arith, s .ranges i m)) h (omega arith)
+
+-- 7, 8 and 14 do not apply
+module _ (b : Book) (s : Sound b) (i : ℕ) (m : i < b .count) (ne : i ≡ 0 → ⊥) (none : noAmounts (rowAt b i) ≡ true)
+    (alone : (j : ℕ) → j < b .count → rowAt b j .code ≡ 2 → rowAt b j .tm ≡ i → rowAt b j .live ≡ true → ⊥) where
+  abbrev gone : Row
+  gone = withLive (rowAt b i) false
+
+  pub retire-sound : Sound (withRow b i (withLive (rowAt b i) false))
+  retire-sound =
+      row-sound b s i m gone refl refl (same-range (s .ranges i m)) (λ q. none)
+      (ap (λ r. r .live) (row-other b i 0 gone (λ e. ne (sym e))) ∙ s .top-live)
+      (λ j h e p. tms j h e (at-all (λ j x y. x .live ≡ true → y .live ≡ true) b i gone (in-table b s i m) (λ q. clash q refl) (λ j q. q) j p)
+      (ℕ-discrete (rowAt b j .tm) i))
+      (kept-covered (view b) (view (withRow b i gone)) (row-kept b i gone (in-table b s i m) refl refl (omega arith) (omega arith)) (s .shaped .top) (s .covered))
+    where
+      same-range : InRange (rowAt b i) → InRange gone
+      same-range f = record { received = f .received; allocated = f .allocated; pledged = f .pledged; margin = f .margin }
+
+      tms : (j : ℕ) → j < b .count → rowAt b j .code ≡ 2 → rowAt b j .live ≡ true → Dec (rowAt b j .tm ≡ i)
+          → rowAt (withRow b i gone) (rowAt b j .tm) .live ≡ true
+      tms j h e p (yes q) = absurd (alone j h e q p)
+      tms j h e p (no q) = ap (λ r. r .live) (row-other b i (rowAt b j .tm) gone q) ∙ s .tm-live j h e p
+
+-- 7, 8 and 9 do not apply: code 1, 2 or 3, and for 2 a live TM
+module _ (b : Book) (s : Sound b) (c t : ℕ) (room : b .count < 256) (sort : (c ≡ 1) ⊎ ((c ≡ 2) ⊎ (c ≡ 3)))
+    (tm : c ≡ 2 → (t < b .count) × (rowAt b t .code ≡ 1) × (rowAt b t .live ≡ true)) (no-tm : (c ≡ 2 → ⊥) → t ≡ 0) where
+  abbrev opened : Book
+  opened = withNew b (openedRow c t)
+
+  space : b .count < length (b .rows)
+  space = omega (arith, s .table)
+
+  one-more : Opened (view b) (view opened)
+  one-more = row-opened b (openedRow c t) space refl sort (λ e. (tm e .0, tm e .1))
+
+  -- what holds of the new row, and of each that was there, holds of all
+  each : (P : Row → Type 0) → P (openedRow c t) → ((j : ℕ) → j < b .count → P (rowAt b j)) → (j : ℕ) → j < b .count + 1 → P (rowAt opened j)
+  each P p q j l = by (ℕ-discrete j (b .count))
+    where
+      by : Dec (j ≡ b .count) → P (rowAt opened j)
+      by (yes e) = rw e (rw (new b (openedRow c t) space) p)
+      by (no e) = rw (below b (openedRow c t) space j (omega arith)) (q j (omega arith))
+
+  still-live : (j : ℕ) → j < b .count → rowAt b j .live ≡ true → rowAt opened j .live ≡ true
+  still-live j l p = ap (λ r. r .live) (below b (openedRow c t) space j l) ∙ p
+
+  pub open-sound : Sound (withNew b (openedRow c t))
+  open-sound = record {
+    table = length-set (b .rows) (b .count) (openedRow c t) ∙ s .table;
+    most = omega arith;
+    top-live = still-live 0 (s .shaped .some) (s .top-live);
+    blank = λ j h. above b (openedRow c t) space j (omega arith) ∙ s .blank j (omega arith);
+    shaped = opened-shaped (view b) (view opened) one-more (s .shaped);
+    no-tm = each (λ r. (r .code ≡ 2 → ⊥) → r .tm ≡ 0) no-tm (s .no-tm);
+    tm-live = each (λ r. r .code ≡ 2 → r .live ≡ true → rowAt opened (r .tm) .live ≡ true) (λ e p. still-live t (tm e .0) (tm e .2))
+        (λ j l e p. still-live (rowAt b j .tm) (omega (arith, s .shaped .tms j l e .0)) (s .tm-live j l e p));
+    retired = each (λ r. r .live ≡ false → noAmounts r ≡ true) (λ q. refl) (s .retired);
+    ranges = each InRange (omega arith) (s .ranges);
+    covered = opened-covered (view b) (view opened) one-more (s .shaped) (s .covered);
+  }
