@@ -8,3 +8,6 @@ pub mod SoundAfter
 pub mod LiveClients
 pub mod FreshSound
 pub mod Differences
+pub mod RowTests
+pub mod NeedSums
+pub mod StandingRefusals

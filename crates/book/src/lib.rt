@@ -1,5 +1,13 @@
 // The collateral book of one clearing member: its rows, its soundness, an account's standing.
 ghost use mathlib.Core.Path.{_≡_};
+ghost use Rattle.book.specs.Rows.{freshBook};
+ghost use Rattle.book.specs.Sound.{soundB};
+ghost use Rattle.book.specs.Asked.{standingOf};
+
+mod blocking;
+mod needs;
+pub mod rows;
+mod sound;
 
 // Received or allocated collateral by kind, in paise.
 pub struct Kinds {
@@ -39,3 +47,52 @@ pub struct Figures {
 
 // The largest amount, in paise.
 pub const CEILING: u64 = 10_000_000_000_000;
+
+pub fn fresh() -> Book
+    ensures { λ r. ⌜ r ≡ freshBook ⌝ }
+{
+    let blank = rows::no_row();
+    let mut table = [blank; 256];
+    table[0] = rows::opened_row(0, 0);
+    Book {
+        count: 1,
+        serial: 0,
+        rows: table,
+    }
+}
+
+// Ranges are tested before anything is added, so that no sum can pass a word.
+pub fn is_sound(b: Book) -> bool
+    ensures { λ r. ⌜ r ≡ soundB b ⌝ }
+{
+    if b.count < 1 {
+        return false;
+    }
+    if b.count > 256 {
+        return false;
+    }
+    if !sound::rows_sound(b) {
+        return false;
+    }
+    let table = b.rows;
+    sound::width(table);
+    let need = needs::need_cm(b);
+    need <= needs::collateral_of(b.rows[0])
+}
+
+pub fn standing(b: Book, account: u16) -> Figures
+    ensures { λ r. ⌜ r ≡ standingOf b account ⌝ }
+{
+    if !is_sound(b) {
+        return blocking::refused(1);
+    }
+    let i = account as usize;
+    let n = b.count as usize;
+    if i >= n {
+        return blocking::refused(7);
+    }
+    if !b.rows[i].live {
+        return blocking::refused(7);
+    }
+    blocking::figures(b, i)
+}

@@ -1,0 +1,31 @@
+-- Which refusal a standing gives, and the answer with it.
+use mathlib.Core.Path.{_≡_, refl, ap, _∙_}
+use mathlib.Core.Bool.{true, false, not}
+use mathlib.Core.List.{[], _∷_}
+use Prim.Native.Nat.{ℕ}
+use Rattle.sums.specs.Table.{_when_, first}
+use Rattle.sums.proofs.Tables.{first-here, first-later}
+use Rattle.book.specs.declared.Book.{Book}
+use Rattle.book.specs.declared.Figures.{Figures}
+use Rattle.book.specs.Rows.{view}
+use Rattle.book.specs.Sound.{soundB}
+use Rattle.book.specs.Asked.{isLive, standingRefusal, figuresOf, answered, standingOf}
+
+module _ (b : Book) (i : ℕ) where
+  pub unsound-refused : soundB b ≡ false → standingRefusal b i ≡ 1
+  unfolding standingRefusal
+  unsound-refused e = first-here 1 (not (soundB b)) ((7 when not (isLive b i)) ∷ []) (ap not e)
+
+  pub dead-refused : soundB b ≡ true → isLive b i ≡ false → standingRefusal b i ≡ 7
+  unfolding standingRefusal
+  dead-refused e l =
+      first-later 1 (not (soundB b)) ((7 when not (isLive b i)) ∷ []) (ap not e) ∙ first-here 7 (not (isLive b i)) [] (ap not l)
+
+  pub live-answered : soundB b ≡ true → isLive b i ≡ true → standingRefusal b i ≡ 0
+  unfolding standingRefusal first
+  live-answered e l =
+      first-later 1 (not (soundB b)) ((7 when not (isLive b i)) ∷ []) (ap not e) ∙ first-later 7 (not (isLive b i)) [] (ap not l)
+
+  pub standing-by : {r : Figures} (n : ℕ) → standingRefusal b i ≡ n → r ≡ answered n (figuresOf (view b) i) → r ≡ standingOf b i
+  unfolding standingOf
+  standing-by n e h = rw e h
