@@ -13,7 +13,7 @@ use Rattle.book.specs.declared.Row.{Row}
 use Rattle.book.specs.declared.Book.{Book}
 use Rattle.book.specs.View.{View, isClientOf, members, ofClients, ownDeemed, needTM, deemedTM, needCM, Shaped}
 use Rattle.book.specs.Rows.{rowAt, collateral, view, withRow}
-use Rattle.book.proofs.Needs.{client-of}
+use Rattle.book.proofs.NeedLaws.{client-of}
 use Rattle.book.proofs.OneRow.{at-all, same-code, same-tm}
 
 -- the same accounts, with the same amounts but those of row k

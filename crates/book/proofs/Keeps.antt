@@ -5,7 +5,7 @@ use native.Mathlib.Omega.{arith}
 use Rattle.sums.specs.Sum.{sum, only}
 use Rattle.sums.proofs.Sums.{sum-le, only-le}
 use Rattle.book.specs.View.{View, isClientOf, members, ownDeemed, needTM, deemedTM, needCM, blocked, Covered}
-use Rattle.book.proofs.Needs.{need-CM, need-TM, need-client, need-CP, client-code, members-le}
+use Rattle.book.proofs.NeedLaws.{need-CM, need-TM, need-client, need-CP, client-code, members-le}
 
 -- the same accounts; margins did not rise, and no collateral fell below what was blocked of it
 pub record Kept (v w : View) : Type 0 where

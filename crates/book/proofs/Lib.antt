@@ -1,4 +1,4 @@
-pub mod Needs
+pub mod NeedLaws
 pub mod Keeps
 pub mod Opens
 pub mod OneRow

@@ -25,23 +25,6 @@ noRow = record { code = 0; live = false; tm = 0; received = noKinds; allocated =
 abbrev pub openedRow : ℕ → ℕ → Row
 openedRow code tm = record { code = code; live = true; tm = tm; received = noKinds; allocated = noKinds; pledged = 0; margin = 0 }
 
--- "Receive adds to received; hand back takes from it": kind by kind
-abbrev pub plusKinds : Kinds → Kinds → Kinds
-plusKinds a b = record {
-  cash = a .cash + b .cash;
-  deposits = a .deposits + b .deposits;
-  guarantees = a .guarantees + b .guarantees;
-  securities = a .securities + b .securities;
-}
-
-abbrev pub lessKinds : Kinds → Kinds → Kinds
-lessKinds a b = record {
-  cash = a .cash - b .cash;
-  deposits = a .deposits - b .deposits;
-  guarantees = a .guarantees - b .guarantees;
-  securities = a .securities - b .securities;
-}
-
 -- account i's row
 abbrev pub rowAt : Book → ℕ → Row
 rowAt b i = getD (b .rows) i noRow
@@ -62,10 +45,6 @@ view b = record {
   collateral = λ i. collateral (rowAt b i);
   margin = λ i. rowAt b i .margin;
 }
-
--- "a TM with a live client"
-unfoldable pub hasLiveClient : Book → ℕ → Bool
-hasLiveClient b t = not (all (b .count) (λ i. not (eqb (rowAt b i .code) 2 && eqb (rowAt b i .tm) t && rowAt b i .live)))
 
 -- "number 0 is the CM and is there from the start, live. In a fresh book it is the only account and all amounts are 0.";
 -- "the next serial, 0 at first"

@@ -7,7 +7,7 @@ use borrow.Author.Tests.{eqb-true}
 use Rattle.sums.specs.Sum.{sum, only}
 use Rattle.sums.proofs.Sums.{sum-add}
 use Rattle.book.specs.View.{View, isCM, isClientOf, ofClients, Shaped}
-use Rattle.book.proofs.Needs.{client-code, client-tm}
+use Rattle.book.proofs.NeedLaws.{client-code, client-tm}
 use Rattle.closeout.specs.Columns.{own, short, leftTM, fromTM, asked, leftCM, fromCM}
 use Rattle.closeout.proofs.Groups.{CM-first, of-CM}
 use Rattle.closeout.proofs.Payments.{fromTM-client, fromCM-CM, fromCM-other, asked-CM}

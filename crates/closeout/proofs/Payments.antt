@@ -10,7 +10,7 @@ use Rattle.sums.specs.Choice.{pick}
 use Rattle.sums.proofs.Sums.{only-most}
 use Rattle.sums.proofs.Choices.{pick-yes, pick-no}
 use Rattle.book.specs.View.{View, isCM, isClient, isClientOf, Shaped}
-use Rattle.book.proofs.Needs.{client-code, client-tm}
+use Rattle.book.proofs.NeedLaws.{client-code, client-tm}
 use Rattle.closeout.specs.Columns.{own, short, leftTM, fromTM, asked, leftCM, fromCM, uncovered}
 use Rattle.closeout.proofs.Groups.{CM-first}
 
