@@ -7,3 +7,4 @@ pub mod Steps
 pub mod Rooms
 pub mod Turns
 pub mod Pass
+pub mod Answers

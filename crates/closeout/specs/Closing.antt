@@ -36,9 +36,12 @@ refusalOf b losses room =
     )
 
 -- "A refusal leaves the room untouched and gives a total of 0."
+abbrev pub noTotal : ℕ → Closed
+noTotal n = record { refusal = n; total = 0 }
+
 abbrev pub answered : ℕ → ℕ → Closed
 answered zero t = record { refusal = 0; total = t }
-answered (suc n) t = record { refusal = suc n; total = 0 }
+answered (suc n) t = noTotal (suc n)
 
 unfoldable pub closedOf : Book → List ℕ → List ℕ → Closed
 closedOf b losses room = answered (refusalOf b losses room) (total (view b) (lossAt losses))
