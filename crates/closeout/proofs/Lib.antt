@@ -8,3 +8,4 @@ pub mod Rooms
 pub mod Turns
 pub mod Pass
 pub mod Answers
+pub mod Carried

@@ -1,6 +1,6 @@
 -- Rows of four put into a room, one after the other.
 use mathlib.Core.Path.{_≡_, sym, _∙_, ap}
-use mathlib.Core.List.{List, [], _∷_, _++_, append-assoc, append-nil}
+use mathlib.Core.List.{List, [], _∷_, _++_, append-nil}
 use Prim.Native.Nat.{ℕ, suc, _+_, _*_, _≤_}
 use native.Mathlib.Numerals.{add-one}
 use native.Mathlib.Omega.{arith}
@@ -32,7 +32,7 @@ module _ (f : ℕ → List ℕ) (of-four : (i : ℕ) → length (f i) ≡ 4) whe
       ap (drop (4 * i + 4)) e ∙ ap (λ (m : ℕ). drop (m + 4) (rowsTo f i ++ drop (4 * i) r₀)) (sym n)
       ∙ drop-append-add (rowsTo f i) (drop (4 * i) r₀) 4 ∙ drop-drop 4 (4 * i) r₀ ∙ ap (λ (m : ℕ). drop m r₀) k in
       let next : rowsTo f (i + 1) ≡ rowsTo f i ++ f i = ap (rowsTo f) (add-one i) in
-      cc (append-assoc (rowsTo f i) (f i) (drop (4 * (i + 1)) r₀))
+      cc
 
   -- a room that is exactly the rows
   pub rows-all : (r₀ r : List ℕ) (n : ℕ) → length r₀ ≡ 4 * n → r ≡ rowsTo f n ++ drop (4 * n) r₀ → r ≡ rowsTo f n
