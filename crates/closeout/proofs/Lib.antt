@@ -1,0 +1,11 @@
+pub mod Groups
+pub mod Payments
+pub mod Fund
+pub mod Limits
+pub mod Cells
+pub mod Steps
+pub mod Rooms
+pub mod Turns
+pub mod Pass
+pub mod Answers
+pub mod Carried

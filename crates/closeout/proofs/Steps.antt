@@ -1,0 +1,75 @@
+-- One account further: what is left of each collateral after it.
+use mathlib.Core.Path.{_≡_, refl}
+use mathlib.Core.Bool.{Bool, true, false}
+use Prim.Native.Nat.{ℕ, _+_, _-_, _*_, _≤_, _<_, min}
+use native.Mathlib.Omega.{arith}
+use borrow.Author.Tests.{eqb-true, eq-eqb}
+use Rattle.sums.specs.Sum.{sum, only}
+use Rattle.sums.proofs.Sums.{sum-step, sum-zero, sum-most, only-zero}
+use Rattle.book.specs.View.{View, isCM, isClient, isClientOf, Shaped}
+use Rattle.book.proofs.BySort.{client-code, client-tm}
+use Rattle.closeout.specs.Columns.{own, short, leftTM, fromTM, asked, leftCM, uncovered}
+use Rattle.closeout.proofs.Payments.{fromTM-other, asked-CM, asked-other, uncovered-le}
+
+spend : (c w a : ℕ) → c - (w + a) ≡ (c - w) - min a (c - w)
+spend c w a = omega arith
+
+same : (a b : ℕ) → a - (b + 0) ≡ a - b
+same a b = omega arith
+
+-- who doesn't name t is not its client
+pub not-named : (v : View) (t i : ℕ) → (v .tm i ≡ t → ⊥) → isClientOf v t i ≡ false
+not-named v t i ne = by (isClientOf v t i) refl
+  where
+    by : (b : Bool) → isClientOf v t i ≡ b → isClientOf v t i ≡ false
+    by true e = absurd (ne (client-tm v t i e))
+    by false e = e
+
+module _ (v : View) (l : ℕ → ℕ) where
+  -- the CM's collateral: less what it bears of i's loss
+  pub leftCM-step : (i : ℕ) → leftCM v l (i + 1) ≡ leftCM v l i - min (asked v l i) (leftCM v l i)
+  leftCM-step i = rw (sum-step i (asked v l)) (spend (v .collateral 0) (sum i (asked v l)) (asked v l i))
+
+  -- t's collateral after an account that is not its client
+  pub leftTM-other : (t i : ℕ) → isClientOf v t i ≡ false → leftTM v l t (i + 1) ≡ leftTM v l t i
+  leftTM-other t i e =
+      rw (sum-step i (λ j. only (isClientOf v t j) (short v l j)))
+      (rw e (same (v .collateral t - own v l t) (sum i (λ j. only (isClientOf v t j) (short v l j)))))
+
+  leftTM-client : (i : ℕ) → v .code i ≡ 2 → leftTM v l (v .tm i) (i + 1) ≡ leftTM v l (v .tm i) i - fromTM v l i
+  unfolding fromTM
+  leftTM-client i e =
+      rw (sum-step i (λ j. only (isClientOf v (v .tm i) j) (short v l j)))
+      (rw (e, eq-eqb (v .tm i) (v .tm i) refl)
+      (spend (v .collateral (v .tm i) - own v l (v .tm i)) (sum i (λ j. only (isClientOf v (v .tm i) j) (short v l j))) (short v l i)))
+
+  -- the collateral of the account that i names, whatever i's sort
+  pub leftTM-named : (i : ℕ) → leftTM v l (v .tm i) (i + 1) ≡ leftTM v l (v .tm i) i - fromTM v l i
+  leftTM-named i = by (isClient v i) refl
+    where
+      by : (b : Bool) → isClient v i ≡ b → leftTM v l (v .tm i) (i + 1) ≡ leftTM v l (v .tm i) i - fromTM v l i
+      by true e = leftTM-client i (eqb-true (v .code i) 2 e)
+      by false e = omega (arith, leftTM-other (v .tm i) i (rw e), fromTM-other v l i e)
+
+  -- no account asks for more than its loss
+  pub asked-le-loss : (i : ℕ) → asked v l i ≤ l i
+  asked-le-loss i = by (isCM v i) refl
+    where
+      by : (b : Bool) → isCM v i ≡ b → asked v l i ≤ l i
+      by true e = omega (arith, asked-CM v l i (eqb-true (v .code i) 0 e))
+      by false e = omega (arith, asked-other v l i e)
+
+  -- what the first i leave uncovered, where no loss passes k
+  pub uncovered-most : (k i : ℕ) → ((j : ℕ) → j < i → l j ≤ k) → sum i (uncovered v l) ≤ i * k
+  uncovered-most k i h = sum-most i k (uncovered v l) (λ j m. omega (arith, uncovered-le v l j, asked-le-loss j, h j m))
+
+module _ (v : View) (s : Shaped v) (l : ℕ → ℕ) where
+  -- no client comes before its TM
+  pub leftTM-own : (t : ℕ) → t < v .count → leftTM v l t (t + 1) ≡ v .collateral t - own v l t
+  leftTM-own t m =
+      omega (
+        arith,
+        sum-zero (t + 1) (λ j. only (isClientOf v t j) (short v l j))
+            (λ j q. only-zero (isClientOf v t j) (short v l j)
+            (λ e. absurd (omega (arith, s .tms j (omega arith) (client-code v t j e) .0, client-tm v t j e)))),
+      )

@@ -1,0 +1,104 @@
+// What each account pays, in one rising pass: own collateral, the TM's, the CM's, and what is left uncovered.
+ghost use mathlib.Core.Path.{_≡_};
+ghost use Prim.Native.Nat.{_+_, _≤_, min};
+ghost use lib.ListN.{length, replicate};
+ghost use Rattle.sums.specs.Choice.{pick};
+ghost use Rattle.book.specs.Rows.{collateral, view};
+ghost use Rattle.book.specs.Sound.{InRange};
+ghost use Rattle.closeout.specs.Columns.{four, rowsTo, total};
+ghost use Rattle.closeout.specs.Closing.{lossAt};
+ghost use Rattle.closeout.specs.Inner.{paidBy, fourOf, putAt, Checked};
+use book::Book;
+use book::Row;
+
+// One account's four amounts, what its collateral keeps after its own loss, and what the CM's collateral bears.
+pub(crate) struct Paid {
+    own: u64,
+    tm: u64,
+    cm: u64,
+    uncovered: u64,
+    kept: u64,
+    borne: u64,
+}
+
+fn lesser(a: u64, b: u64) -> u64
+    ensures { λ x. ⌜ x ≡ min a b ⌝ }
+{
+    if a < b { a } else { b }
+}
+
+fn choose(t: bool, a: u64, b: u64) -> u64
+    ensures { λ x. ⌜ x ≡ pick t a b ⌝ }
+{
+    if t { a } else { b }
+}
+
+fn collateral_of(r: Row) -> u64
+    requires { ⌜ InRange r ⌝ }
+    ensures { λ x. ⌜ x ≡ collateral r ⌝ }
+{
+    let a = r.allocated;
+    a.cash + a.deposits + a.guarantees + a.securities + r.pledged
+}
+
+// One account, whose TM's collateral has `tm` left, and the CM's `cm`.
+fn pay(r: Row, loss: u64, tm: u64, cm: u64) -> Paid
+    requires { ⌜ InRange r ⌝ }
+    ensures { λ p. ⌜ p ≡ paidBy r loss tm cm ⌝ }
+{
+    let c = collateral_of(r);
+    let own = lesser(loss, c);
+    let short = loss - own;
+    let from_tm = choose(r.code == 2, lesser(short, tm), 0);
+    let asked = choose(r.code == 0, loss, short - from_tm);
+    let borne = lesser(asked, cm);
+    Paid {
+        own: own,
+        tm: from_tm,
+        cm: choose(r.code == 0, 0, borne),
+        uncovered: asked - borne,
+        kept: c - own,
+        borne: borne,
+    }
+}
+
+fn put(room: &mut [u64], at: usize, p: Paid)
+    requires { ⌜ at + 4 ≤ length (now room) ⌝ }
+    ensures { λ _. ⌜ now (room .exit) ≡ putAt (now (room .entry)) at (fourOf p) ⌝ }
+{
+    room[at] = p.own;
+    room[at + 1] = p.tm;
+    room[at + 2] = p.cm;
+    room[at + 3] = p.uncovered;
+}
+
+fn zeros() -> [u64; 256]
+    ensures { λ x. ⌜ x ≡ replicate 256 0 ⌝ }
+{
+    [0u64; 256]
+}
+
+// The rows, and the total left uncovered. left[t] is what account t's collateral has left after its own loss and the
+// clients passed: a TM's row comes before its clients'.
+pub(crate) fn fill(b: Book, losses: &[u64], room: &mut [u64]) -> u64
+    requires { ⌜ Checked b (now losses) (now room) ⌝ }
+    ensures { λ x. ⌜ (now (room .exit) ≡ rowsTo (four (view b) (lossAt (now (losses .entry)))) (b .count)) × (x ≡ total (view b) (lossAt (now (losses .entry)))) ⌝ }
+{
+    let mut left = zeros();
+    let mut cm = collateral_of(b.rows[0]);
+    let mut uncovered: u64 = 0;
+    let n = b.count as usize;
+    let mut i: usize = 0;
+    while i < n {
+        let r = b.rows[i];
+        let t = r.tm as usize;
+        let p = pay(r, losses[i], left[t], cm);
+        put(room, 4 * i, p);
+        left[t] = left[t] - p.tm;
+        left[i] = p.kept;
+        cm -= p.borne;
+        uncovered += p.uncovered;
+        i += 1;
+    }
+    uncovered
+}
