@@ -8,7 +8,7 @@ use borrow.Author.Tests.{eqb-true, eq-eqb}
 use Rattle.sums.specs.Choice.{pick}
 use Rattle.sums.proofs.Sums.{only-le}
 use Rattle.sums.proofs.Choices.{and-split, and-join}
-use Rattle.book.specs.View.{View, isTM, isClient, isCP, isClientOf, members, deemedOf, ownDeemed, needTM, deemedTM, needCM, need, deemed}
+use Rattle.rows.specs.View.{View, isTM, isClient, isCP, isClientOf, members, deemedOf, ownDeemed, needTM, deemedTM, needCM, need, deemed}
 
 module _ (v : View) (i : ℕ) where
   pub need-CM : v .code i ≡ 0 → need v i ≡ needCM v

@@ -9,10 +9,10 @@ use lib.ListN.{length}
 use borrow.Author.Tests.{ne-eqb}
 use Rattle.sums.specs.Sum.{sum, only}
 use Rattle.sums.proofs.Sums.{sum-one}
-use Rattle.book.specs.declared.Row.{Row}
-use Rattle.book.specs.declared.Book.{Book}
-use Rattle.book.specs.View.{View, isClientOf, members, ofClients, ownDeemed, needTM, deemedTM, needCM, Shaped}
-use Rattle.book.specs.Rows.{rowAt, collateral, view, withRow}
+use Rattle.rows.specs.declared.Row.{Row}
+use Rattle.rows.specs.declared.Book.{Book}
+use Rattle.rows.specs.View.{View, isClientOf, members, ofClients, ownDeemed, needTM, deemedTM, needCM, Shaped}
+use Rattle.rows.specs.Rows.{rowAt, collateral, view, withRow}
 use Rattle.book.proofs.BySort.{client-of}
 use Rattle.book.proofs.OneRow.{at-all, same-code, same-tm}
 

@@ -5,9 +5,10 @@ use Prim.Native.Nat.{ℕ, zero, suc, _≤_, _<_}
 use native.Mathlib.Omega.{arith}
 use lib.ListN.{getD, replicate}
 use Rattle.sums.specs.Sum.{sum}
-use Rattle.book.specs.View.{needCM}
-use Rattle.book.specs.Rows.{noRow, rowAt, freshBook}
-use Rattle.book.specs.Sound.{InRange, Sound, noAmounts, soundB}
+use Rattle.rows.specs.View.{needCM}
+use Rattle.rows.specs.Rows.{noRow, rowAt, freshBook}
+use Rattle.rows.specs.Ranges.{InRange, noAmounts}
+use Rattle.book.specs.Sound.{Sound, soundB}
 use Rattle.book.proofs.SoundTest.{sound←}
 
 getD-same : {A : Type 0} (n i : ℕ) (a : A) → getD (replicate n a) i a ≡ a

@@ -4,7 +4,7 @@ use Prim.Native.Nat.{ℕ, _≤_}
 use native.Mathlib.Omega.{arith}
 use Rattle.sums.specs.Sum.{sum, only}
 use Rattle.sums.proofs.Sums.{sum-le, only-le}
-use Rattle.book.specs.View.{View, isClientOf, members, ownDeemed, needTM, deemedTM, needCM, blocked, Covered}
+use Rattle.rows.specs.View.{View, isClientOf, members, ownDeemed, needTM, deemedTM, needCM, blocked, Covered}
 use Rattle.book.proofs.BySort.{need-CM, need-TM, need-client, need-CP, client-code, members-le}
 
 -- the same accounts; margins did not rise, and no collateral fell below what was blocked of it

@@ -3,10 +3,9 @@ pub mod Differences
 pub mod FreshSound
 pub mod Keeps
 pub mod LiveClients
-pub mod NeedSums
 pub mod OneRow
 pub mod Opens
-pub mod RangesKept
+pub mod SoundRanges
 pub mod RowFacts
 pub mod RowTests
 pub mod SoundAfter

@@ -7,8 +7,8 @@ use borrow.Author.Tests.{eq-eqb, not-true, not-false}
 use Rattle.sums.specs.Sum.{all}
 use Rattle.sums.proofs.Sums.{all-at}
 use Rattle.sums.proofs.Choices.{and-join, clash}
-use Rattle.book.specs.declared.Book.{Book}
-use Rattle.book.specs.Rows.{rowAt, hasLiveClient}
+use Rattle.rows.specs.declared.Book.{Book}
+use Rattle.rows.specs.Rows.{rowAt, hasLiveClient}
 use Rattle.book.specs.Sound.{Sound}
 
 abbrev liveClient : Book → ℕ → ℕ → Bool

@@ -6,10 +6,10 @@ use native.Mathlib.Omega.{arith}
 use native.Mathlib.Decide.{ℕ-discrete}
 use lib.ListN.{length}
 use lib.Seq.{getD-set-same, getD-set-other}
-use Rattle.book.specs.declared.Row.{Row}
-use Rattle.book.specs.declared.Book.{Book}
-use Rattle.book.specs.View.{blocked, Shaped}
-use Rattle.book.specs.Rows.{noRow, rowAt, collateral, view, withRow, withNew}
+use Rattle.rows.specs.declared.Row.{Row}
+use Rattle.rows.specs.declared.Book.{Book}
+use Rattle.rows.specs.View.{blocked, Shaped}
+use Rattle.rows.specs.Rows.{noRow, rowAt, collateral, view, withRow, withNew}
 use Rattle.book.proofs.Keeps.{Kept}
 use Rattle.book.proofs.Opens.{Opened}
 

@@ -6,7 +6,7 @@ use native.Mathlib.Omega.{arith}
 use native.Mathlib.Decide.{ℕ-discrete}
 use Rattle.sums.specs.Sum.{sum, only}
 use Rattle.sums.proofs.Sums.{sum-step, sum-eq, sum-zero, only-zero}
-use Rattle.book.specs.View.{View, isTM, isCP, isClientOf, members, ofClients, ownDeemed, needTM, deemedTM, needCM, Shaped, Covered}
+use Rattle.rows.specs.View.{View, isTM, isCP, isClientOf, members, ofClients, ownDeemed, needTM, deemedTM, needCM, Shaped, Covered}
 use Rattle.book.proofs.BySort.{client-code, client-tm}
 
 -- w is v with one account more, whose margin is 0 and which is a TM, a CP or a client of one of v's TMs

@@ -3,10 +3,11 @@ use mathlib.Core.Path.{_≡_}
 use mathlib.Core.Bool.{true, false}
 use borrow.Author.Tests.{eqb-true, eq-eqb, leb-true, le-leb, not-true}
 use Rattle.sums.proofs.Choices.{and-left, and-right, and-join}
-use Rattle.book.specs.declared.Kinds.{Kinds}
-use Rattle.book.specs.declared.Row.{Row}
-use Rattle.book.specs.Rows.{noKinds, noRow}
-use Rattle.book.specs.Sound.{kindsZero, kindsWithin, kindsCapped, noAmounts, isBlank, inRange, KindsWithin, ceilings, InRange}
+use Rattle.rows.specs.declared.Kinds.{Kinds}
+use Rattle.rows.specs.declared.Row.{Row}
+use Rattle.rows.specs.Rows.{noKinds, noRow}
+use Rattle.rows.specs.Ranges.{kindsZero, kindsWithin, kindsCapped, noAmounts, inRange, KindsWithin, ceilings, InRange}
+use Rattle.book.specs.Sound.{isBlank}
 
 pub within→ : (a b : Kinds) → kindsWithin a b ≡ true → KindsWithin a b
 within→ a b e = search (and-left, and-right, leb-true)

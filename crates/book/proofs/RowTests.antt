@@ -11,13 +11,14 @@ use Rattle.sums.specs.Sum.{all}
 use Rattle.sums.specs.Choice.{pick}
 use Rattle.sums.proofs.Sums.{all-at}
 use Rattle.sums.proofs.Choices.{pick-yes, and-split}
-use Rattle.book.specs.declared.Kinds.{Kinds}
-use Rattle.book.specs.declared.Row.{Row}
-use Rattle.book.specs.declared.Book.{Book}
-use Rattle.book.specs.View.{needCM}
-use Rattle.book.specs.Rows.{ceiling, rowAt, collateral, view}
-use Rattle.book.specs.Sound.{kindsCapped, kindsWithin, inRange, isBlank, isTop, goodClient, goodSort, goodRetired, goodRow, rowSound, ceilings, KindsWithin, soundB, InRange, Sound}
-use Rattle.book.specs.Inner.{Ranged, Slot}
+use Rattle.rows.specs.declared.Kinds.{Kinds}
+use Rattle.rows.specs.declared.Row.{Row}
+use Rattle.rows.specs.declared.Book.{Book}
+use Rattle.rows.specs.View.{needCM}
+use Rattle.rows.specs.Rows.{ceiling, rowAt, collateral, view}
+use Rattle.rows.specs.Ranges.{kindsCapped, kindsWithin, inRange, ceilings, KindsWithin, InRange}
+use Rattle.book.specs.Sound.{isBlank, isTop, goodClient, goodSort, goodRetired, goodRow, rowSound, soundB, Sound}
+use Rattle.rows.specs.Inner.{Ranged, Slot}
 
 and-four : (a b c d : Bool) → (a && b && c && d) ≡ true → (a ≡ true) × (b ≡ true) × (c ≡ true) × (d ≡ true)
 and-four a b c d h =

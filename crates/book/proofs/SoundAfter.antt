@@ -7,12 +7,13 @@ use native.Mathlib.Omega.{arith}
 use native.Mathlib.Decide.{ℕ-discrete}
 use lib.ListN.{length, length-set}
 use Rattle.sums.proofs.Choices.{clash}
-use Rattle.book.specs.declared.Kinds.{Kinds}
-use Rattle.book.specs.declared.Row.{Row}
-use Rattle.book.specs.declared.Book.{Book}
-use Rattle.book.specs.View.{blocked, free, Covered}
-use Rattle.book.specs.Rows.{ceiling, rowAt, total, collateral, view, openedRow, plusKinds, lessKinds, withReceived, withAllocated, withPledged, withMargin, withLive, withRow, withNew}
-use Rattle.book.specs.Sound.{noAmounts, KindsWithin, ceilings, InRange, Sound}
+use Rattle.rows.specs.declared.Kinds.{Kinds}
+use Rattle.rows.specs.declared.Row.{Row}
+use Rattle.rows.specs.declared.Book.{Book}
+use Rattle.rows.specs.View.{blocked, free, Covered}
+use Rattle.rows.specs.Rows.{ceiling, rowAt, total, collateral, view, openedRow, plusKinds, lessKinds, withReceived, withAllocated, withPledged, withMargin, withLive, withRow, withNew}
+use Rattle.rows.specs.Ranges.{noAmounts, KindsWithin, ceilings, InRange}
+use Rattle.book.specs.Sound.{Sound}
 use Rattle.book.proofs.Keeps.{kept-covered}
 use Rattle.book.proofs.Opens.{Opened, opened-covered, opened-shaped}
 use Rattle.book.proofs.OneRow.{row-other, at-all, same-code, same-tm, row-kept, row-shaped, new, below, above, row-opened}

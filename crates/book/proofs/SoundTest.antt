@@ -11,10 +11,11 @@ use borrow.Author.Tests.{eqb-true, eq-eqb, ne-eqb, leb-true, le-leb, ltb-true, l
 use Rattle.sums.specs.Choice.{pick}
 use Rattle.sums.proofs.Sums.{all-at, all-from}
 use Rattle.sums.proofs.Choices.{pick-yes, pick-no, and-left, and-right, and-join, or-split, or-else, or-from, or-left, or-right}
-use Rattle.book.specs.declared.Row.{Row}
-use Rattle.book.specs.declared.Book.{Book}
-use Rattle.book.specs.Rows.{noRow, rowAt}
-use Rattle.book.specs.Sound.{noAmounts, isBlank, isTop, goodClient, goodSort, goodRetired, inRange, goodRow, rowSound, soundB, InRange, Sound}
+use Rattle.rows.specs.declared.Row.{Row}
+use Rattle.rows.specs.declared.Book.{Book}
+use Rattle.rows.specs.Rows.{noRow, rowAt}
+use Rattle.rows.specs.Ranges.{noAmounts, inRange, InRange}
+use Rattle.book.specs.Sound.{isBlank, isTop, goodClient, goodSort, goodRetired, goodRow, rowSound, soundB, Sound}
 use Rattle.book.proofs.RowFacts.{range→, range←, blank→, blank←}
 
 -- "a client whose TM is a lower-numbered TM row. A live client's TM is live."

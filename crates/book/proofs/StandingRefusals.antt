@@ -5,9 +5,9 @@ use mathlib.Core.List.{[], _∷_}
 use Prim.Native.Nat.{ℕ}
 use Rattle.sums.specs.Table.{_when_, first}
 use Rattle.sums.proofs.Tables.{first-here, first-later}
-use Rattle.book.specs.declared.Book.{Book}
+use Rattle.rows.specs.declared.Book.{Book}
 use Rattle.book.specs.declared.Figures.{Figures}
-use Rattle.book.specs.Rows.{view}
+use Rattle.rows.specs.Rows.{view}
 use Rattle.book.specs.Sound.{soundB}
 use Rattle.book.specs.Asked.{isLive, standingRefusal, figuresOf, answered, standingOf}
 

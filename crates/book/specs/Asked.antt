@@ -4,10 +4,10 @@ use mathlib.Core.List.{List, [], _∷_}
 use Prim.Native.Nat.{ℕ, zero, suc}
 use lib.Dec.{ltb}
 use Rattle.sums.specs.Table.{Line, _when_, first}
-use Rattle.book.specs.declared.Book.{Book}
+use Rattle.rows.specs.declared.Book.{Book}
 use Rattle.book.specs.declared.Figures.{Figures}
-use Rattle.book.specs.View.{View, need, blocked, deemed, free}
-use Rattle.book.specs.Rows.{rowAt, view}
+use Rattle.rows.specs.View.{View, need, blocked, deemed, free}
+use Rattle.rows.specs.Rows.{rowAt, view}
 use Rattle.book.specs.Sound.{soundB}
 
 -- the account's number was given, and it is live

@@ -6,24 +6,11 @@ use lib.Dec.{eqb, ltb, leb}
 use lib.ListN.{length}
 use Rattle.sums.specs.Sum.{all}
 use Rattle.sums.specs.Choice.{pick}
-use Rattle.book.specs.declared.Kinds.{Kinds}
-use Rattle.book.specs.declared.Row.{Row}
-use Rattle.book.specs.declared.Book.{Book}
-use Rattle.book.specs.View.{needCM, Shaped, Covered}
-use Rattle.book.specs.Rows.{ceiling, noRow, rowAt, collateral, view}
-
-abbrev pub kindsZero : Kinds → Bool
-kindsZero k = eqb (k .cash) 0 && eqb (k .deposits) 0 && eqb (k .guarantees) 0 && eqb (k .securities) 0
-
--- each kind of a at most that of b
-abbrev pub kindsWithin : Kinds → Kinds → Bool
-kindsWithin a b = leb (a .cash) (b .cash) && leb (a .deposits) (b .deposits) && leb (a .guarantees) (b .guarantees) && leb (a .securities) (b .securities)
-
-abbrev pub kindsCapped : Kinds → Bool
-kindsCapped k = leb (k .cash) ceiling && leb (k .deposits) ceiling && leb (k .guarantees) ceiling && leb (k .securities) ceiling
-
-abbrev pub noAmounts : Row → Bool
-noAmounts r = kindsZero (r .received) && kindsZero (r .allocated) && eqb (r .pledged) 0 && eqb (r .margin) 0
+use Rattle.rows.specs.declared.Row.{Row}
+use Rattle.rows.specs.declared.Book.{Book}
+use Rattle.rows.specs.View.{needCM, Shaped, Covered}
+use Rattle.rows.specs.Rows.{noRow, rowAt, collateral, view}
+use Rattle.rows.specs.Ranges.{noAmounts, inRange, InRange}
 
 -- "rows beyond the number are all zero"
 abbrev pub isBlank : Row → Bool
@@ -45,10 +32,6 @@ goodSort i r t = (eqb (r .code) 1 || eqb (r .code) 3) && eqb (r .tm) 0 || goodCl
 abbrev pub goodRetired : Row → Bool
 goodRetired r = r .live || noAmounts r
 
--- "Received (each kind), pledged and margin are at most the ceiling. Allocated is at most received in each kind."
-abbrev pub inRange : Row → Bool
-inRange r = kindsCapped (r .received) && kindsWithin (r .allocated) (r .received) && leb (r .pledged) ceiling && leb (r .margin) ceiling
-
 -- row i of a book with n accounts, where t is the row that it names as its TM
 unfoldable pub goodRow : ℕ → ℕ → Row → Row → Bool
 goodRow n i r t = pick (ltb i n) (pick (eqb i 0) (isTop r) (goodSort i r t) && goodRetired r && inRange r) (isBlank r)
@@ -63,18 +46,6 @@ soundB b =
     leb 1 (b .count) && leb (b .count) 256 && all 256 (rowSound b) && leb (needCM (view b)) (collateral (rowAt b 0)) && eqb (length (b .rows)) 256
 
 -- The same as facts.
-
-abbrev pub KindsWithin : Kinds → Kinds → Type 0
-KindsWithin a b = (a .cash ≤ b .cash) × (a .deposits ≤ b .deposits) × (a .guarantees ≤ b .guarantees) × (a .securities ≤ b .securities)
-
-abbrev pub ceilings : Kinds
-ceilings = record { cash = ceiling; deposits = ceiling; guarantees = ceiling; securities = ceiling }
-
-pub record InRange (r : Row) : Type 0 where
-  pub received : KindsWithin (r .received) ceilings
-  pub allocated : KindsWithin (r .allocated) (r .received)
-  pub pledged : r .pledged ≤ ceiling
-  pub margin : r .margin ≤ ceiling
 
 pub record Sound (b : Book) : Type 0 where
   pub table : length (b .rows) ≡ 256

@@ -1,20 +1,14 @@
 // A standing's figures, and the answer that has none.
 ghost use mathlib.Core.Path.{_≡_};
 ghost use Prim.Native.Nat.{_<_};
-ghost use Rattle.book.specs.View.{blockedOf};
-ghost use Rattle.book.specs.Rows.{view};
+ghost use Rattle.rows.specs.Rows.{view};
 ghost use Rattle.book.specs.Asked.{figuresOf, noFigures};
-ghost use Rattle.book.specs.Inner.{Ranged};
-use super::Book;
+ghost use Rattle.rows.specs.Inner.{Ranged};
 use super::Figures;
-use super::needs::collateral_of;
-use super::needs::need_of;
-
-pub(crate) fn blocked_of(need: u64, collateral: u64) -> u64
-    ensures { λ x. ⌜ x ≡ blockedOf need collateral ⌝ }
-{
-    if need <= collateral { need } else { collateral }
-}
+use rows::Book;
+use rows::needs::blocked_of;
+use rows::needs::collateral_of;
+use rows::needs::need_of;
 
 pub(crate) fn figures(b: Book, i: usize) -> Figures
     requires { ⌜ Ranged b × (i < b .count) ⌝ }

@@ -1,40 +1,13 @@
 // The collateral book of one clearing member: its rows, its soundness, an account's standing.
 ghost use mathlib.Core.Path.{_≡_};
-ghost use Rattle.book.specs.Rows.{freshBook};
+ghost use Rattle.rows.specs.Rows.{freshBook};
 ghost use Rattle.book.specs.Sound.{soundB};
 ghost use Rattle.book.specs.Asked.{standingOf};
 
 mod blocking;
-pub mod inner;
-mod needs;
-pub mod rows;
 mod sound;
 
-// Received or allocated collateral by kind, in paise.
-pub struct Kinds {
-    pub cash: u64,
-    pub deposits: u64,
-    pub guarantees: u64,
-    pub securities: u64,
-}
-
-// An account. `code` is the code of the record that opened it (1 TM, 2 client, 3 CP) and 0 for the CM; `tm` is a
-// client's TM and 0 for any other row.
-pub struct Row {
-    pub code: u8,
-    pub live: bool,
-    pub tm: u16,
-    pub received: Kinds,
-    pub allocated: Kinds,
-    pub pledged: u64,
-    pub margin: u64,
-}
-
-pub struct Book {
-    pub count: u16,
-    pub serial: u16,
-    pub rows: [Row; 256],
-}
+use rows::Book;
 
 // A standing's five figures, behind the refusal number or 0.
 pub struct Figures {
@@ -46,15 +19,12 @@ pub struct Figures {
     pub free: u64,
 }
 
-// The largest amount, in paise.
-pub const CEILING: u64 = 10_000_000_000_000;
-
 pub fn fresh() -> Book
     ensures { λ r. ⌜ r ≡ freshBook ⌝ }
 {
-    let blank = rows::no_row();
+    let blank = rows::words::no_row();
     let mut table = [blank; 256];
-    table[0] = rows::opened_row(0, 0);
+    table[0] = rows::words::opened_row(0, 0);
     Book {
         count: 1,
         serial: 0,
@@ -77,8 +47,8 @@ pub fn is_sound(b: Book) -> bool
     }
     let table = b.rows;
     sound::width(table);
-    let need = needs::need_cm(b);
-    need <= needs::collateral_of(b.rows[0])
+    let need = rows::needs::need_cm(b);
+    need <= rows::needs::collateral_of(b.rows[0])
 }
 
 pub fn standing(b: Book, account: u16) -> Figures

@@ -4,39 +4,14 @@ ghost use lib.Dec.{eqb};
 ghost use lib.ListN.{length};
 ghost use Rattle.sums.specs.Sum.{all};
 ghost use Rattle.sums.specs.Choice.{pick};
-ghost use Rattle.book.specs.Sound.{noAmounts, isTop, goodSort, inRange, goodRow, rowSound};
-ghost use Rattle.book.specs.Inner.{Slot};
-use super::Book;
-use super::CEILING;
-use super::Row;
-
-fn no_amounts(r: Row) -> bool
-    ensures { λ x. ⌜ x ≡ noAmounts r ⌝ }
-{
-    let k = r.received;
-    let a = r.allocated;
-    ((k.cash == 0) & (k.deposits == 0) & (k.guarantees == 0) & (k.securities == 0))
-        & ((a.cash == 0) & (a.deposits == 0) & (a.guarantees == 0) & (a.securities == 0))
-        & (r.pledged == 0)
-        & (r.margin == 0)
-}
-
-fn in_range(r: Row) -> bool
-    ensures { λ x. ⌜ x ≡ inRange r ⌝ }
-{
-    let k = r.received;
-    let a = r.allocated;
-    ((k.cash <= CEILING)
-        & (k.deposits <= CEILING)
-        & (k.guarantees <= CEILING)
-        & (k.securities <= CEILING))
-        & ((a.cash <= k.cash)
-            & (a.deposits <= k.deposits)
-            & (a.guarantees <= k.guarantees)
-            & (a.securities <= k.securities))
-        & (r.pledged <= CEILING)
-        & (r.margin <= CEILING)
-}
+ghost use Rattle.rows.specs.Ranges.{noAmounts, inRange};
+ghost use Rattle.book.specs.Sound.{isTop, goodSort, goodRow, rowSound};
+ghost use Rattle.rows.specs.Inner.{Slot};
+use rows::Book;
+use rows::Row;
+use rows::needs::slot;
+use rows::ranges::in_range;
+use rows::ranges::no_amounts;
 
 fn is_top(r: Row) -> bool
     ensures { λ x. ⌜ x ≡ isTop r ⌝ }
@@ -70,13 +45,6 @@ fn good_row(n: usize, i: usize, r: Row, t: Row) -> bool
     } else {
         (r.code == 0) & !r.live & (r.tm == 0) & no_amounts(r)
     }
-}
-
-// The place of the TM that the row names; any place serves where the book has no such row.
-pub(crate) fn slot(r: Row) -> usize
-    ensures { λ x. ⌜ Slot r x ⌝ }
-{
-    if r.tm < 256 { r.tm as usize } else { 0 }
 }
 
 pub(crate) fn rows_sound(b: Book) -> bool

@@ -1,8 +1,8 @@
 // Books to ask about, made as values.
-use book::Book;
-use book::Kinds;
-use book::Row;
 use book::rows;
+use rows::Book;
+use rows::Kinds;
+use rows::Row;
 
 // The amount in one kind: 0 cash, 1 fixed deposits, 2 bank guarantees, 3 government securities.
 pub fn kinds(kind: u8, n: u64) -> Kinds {

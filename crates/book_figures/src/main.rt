@@ -4,9 +4,9 @@ mod books;
 mod print;
 mod unsound;
 
-use book::Book;
 use print::figures;
 use print::word;
+use rows::Book;
 
 // The standings of the CM, TM-1, A and B, where A's margin is a and B's is b.
 fn standings(name: &[u8], a: u64, b: u64) {

@@ -1,10 +1,10 @@
 // Books that break one sentence of 'A sound book' each, beside the nearest sound ones.
 use crate::books;
 use crate::print;
-use book::Book;
-use book::CEILING;
-use book::Row;
 use book::rows;
+use rows::Book;
+use rows::CEILING;
+use rows::Row;
 
 fn sound(name: &[u8], b: Book) {
     print::text(name);

@@ -10,8 +10,8 @@ use Rattle.sums.specs.Table.{first}
 use Rattle.sums.proofs.Sums.{all-at}
 use Rattle.sums.proofs.Choices.{and-split}
 use Rattle.sums.proofs.Tables.{first-here, first-later}
-use Rattle.book.specs.declared.Book.{Book}
-use Rattle.book.specs.Rows.{ceiling, rowAt, view}
+use Rattle.rows.specs.declared.Book.{Book}
+use Rattle.rows.specs.Rows.{ceiling, rowAt, view}
 use Rattle.book.specs.Sound.{soundB}
 use Rattle.closeout.specs.declared.Closed.{Closed}
 use Rattle.closeout.specs.Columns.{four, rowsTo, total}

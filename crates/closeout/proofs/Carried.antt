@@ -6,8 +6,8 @@ use Prim.Native.Nat.{ℕ, zero, suc, _+_, _*_, _≤_, _<_, min}
 use native.Mathlib.Omega.{arith}
 use lib.ListN.{getD}
 use Rattle.sums.specs.Sum.{sum}
-use Rattle.book.specs.declared.Book.{Book}
-use Rattle.book.specs.Rows.{rowAt, collateral, view}
+use Rattle.rows.specs.declared.Book.{Book}
+use Rattle.rows.specs.Rows.{rowAt, collateral, view}
 use Rattle.book.specs.Sound.{soundB, Sound}
 use Rattle.book.proofs.SoundTest.{sound→}
 use Rattle.closeout.specs.Columns.{four, rowsTo, total, beyond}

@@ -8,7 +8,7 @@ use lib.ListN.{length, getD, length-append, List·getD-append}
 use lib.Seq.{getD-append-add}
 use Rattle.sums.specs.Sum.{sum}
 use Rattle.sums.proofs.Sums.{sum-eq}
-use Rattle.book.specs.View.{View}
+use Rattle.rows.specs.View.{View}
 use Rattle.closeout.specs.Columns.{own, fromTM, fromCM, uncovered, four, rowsTo, total}
 use Rattle.closeout.proofs.Payments.{own-alone}
 

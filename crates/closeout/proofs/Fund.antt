@@ -6,7 +6,7 @@ use Prim.Native.Nat.{ℕ, _+_, _-_, _≤_, _<_, min}
 use native.Mathlib.Omega.{arith}
 use Rattle.sums.specs.Sum.{sum, only}
 use Rattle.sums.proofs.Sums.{sum-term, sum-le, sum-eq, sum-zero, sum-add, only-add, waterfall}
-use Rattle.book.specs.View.{View, isTM, isCP, isClientOf, members, ofClients, ownDeemed, needTM, deemedTM, needCM, Shaped, Covered}
+use Rattle.rows.specs.View.{View, isTM, isCP, isClientOf, members, ofClients, ownDeemed, needTM, deemedTM, needCM, Shaped, Covered}
 use Rattle.book.proofs.BySort.{members-le}
 use Rattle.closeout.specs.Columns.{own, short, leftTM, asked, uncovered, total, beyond}
 use Rattle.closeout.proofs.Groups.{group, regroup}

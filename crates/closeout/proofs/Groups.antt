@@ -8,7 +8,7 @@ use lib.Dec.{eqb}
 use borrow.Author.Tests.{eqb-true, eq-eqb, ne-eqb}
 use Rattle.sums.specs.Sum.{sum, only}
 use Rattle.sums.proofs.Sums.{sum-eq, sum-zero, sum-add, sum-single, sum-only, sum-swap, only-zero, only-add}
-use Rattle.book.specs.View.{View, isCM, isTM, isClient, isClientOf, members, ofClients, Shaped}
+use Rattle.rows.specs.View.{View, isCM, isTM, isClient, isClientOf, members, ofClients, Shaped}
 
 -- f of a TM and of all its clients
 abbrev pub group : View → (ℕ → ℕ) → ℕ → ℕ

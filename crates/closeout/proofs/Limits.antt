@@ -6,7 +6,7 @@ use native.Mathlib.Omega.{arith}
 use borrow.Author.Tests.{eqb-true}
 use Rattle.sums.specs.Sum.{sum, only}
 use Rattle.sums.proofs.Sums.{sum-add}
-use Rattle.book.specs.View.{View, isCM, isClientOf, ofClients, Shaped}
+use Rattle.rows.specs.View.{View, isCM, isClientOf, ofClients, Shaped}
 use Rattle.book.proofs.BySort.{client-code, client-tm}
 use Rattle.closeout.specs.Columns.{own, short, leftTM, fromTM, asked, leftCM, fromCM}
 use Rattle.closeout.proofs.Groups.{CM-first, of-CM}

@@ -8,9 +8,9 @@ use lib.Dec.{eqb}
 use lib.ListN.{length, getD, set, drop, length-set}
 use Rattle.sums.specs.Sum.{sum}
 use Rattle.sums.proofs.Sums.{sum-step}
-use Rattle.book.specs.declared.Row.{Row}
-use Rattle.book.specs.declared.Book.{Book}
-use Rattle.book.specs.Rows.{ceiling, rowAt, collateral, view}
+use Rattle.rows.specs.declared.Row.{Row}
+use Rattle.rows.specs.declared.Book.{Book}
+use Rattle.rows.specs.Rows.{ceiling, rowAt, collateral, view}
 use Rattle.book.specs.Sound.{Sound}
 use Rattle.closeout.specs.declared.pays.Paid.{Paid}
 use Rattle.closeout.specs.Columns.{leftTM, asked, leftCM, uncovered, four, rowsTo, total}

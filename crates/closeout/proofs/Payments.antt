@@ -9,7 +9,7 @@ use Rattle.sums.specs.Sum.{sum}
 use Rattle.sums.specs.Choice.{pick}
 use Rattle.sums.proofs.Sums.{only-most}
 use Rattle.sums.proofs.Choices.{pick-yes, pick-no}
-use Rattle.book.specs.View.{View, isCM, isClient, isClientOf, Shaped}
+use Rattle.rows.specs.View.{View, isCM, isClient, isClientOf, Shaped}
 use Rattle.book.proofs.BySort.{client-code, client-tm}
 use Rattle.closeout.specs.Columns.{own, short, leftTM, fromTM, asked, leftCM, fromCM, uncovered}
 use Rattle.closeout.proofs.Groups.{CM-first}

@@ -6,7 +6,7 @@ use native.Mathlib.Omega.{arith}
 use borrow.Author.Tests.{eqb-true, eq-eqb}
 use Rattle.sums.specs.Sum.{sum, only}
 use Rattle.sums.proofs.Sums.{sum-step, sum-zero, sum-most, only-zero}
-use Rattle.book.specs.View.{View, isCM, isClient, isClientOf, Shaped}
+use Rattle.rows.specs.View.{View, isCM, isClient, isClientOf, Shaped}
 use Rattle.book.proofs.BySort.{client-code, client-tm}
 use Rattle.closeout.specs.Columns.{own, short, leftTM, fromTM, asked, leftCM, uncovered}
 use Rattle.closeout.proofs.Payments.{fromTM-other, asked-CM, asked-other, uncovered-le}

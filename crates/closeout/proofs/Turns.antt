@@ -10,9 +10,9 @@ use lib.Seq.{getD-set-same, getD-set-other}
 use borrow.Author.Tests.{eqb-true}
 use Rattle.sums.specs.Choice.{pick}
 use Rattle.sums.proofs.Choices.{pick-yes, pick-no}
-use Rattle.book.specs.declared.Book.{Book}
-use Rattle.book.specs.View.{View, isCM, isClient, Shaped}
-use Rattle.book.specs.Rows.{rowAt, collateral, view}
+use Rattle.rows.specs.declared.Book.{Book}
+use Rattle.rows.specs.View.{View, isCM, isClient, Shaped}
+use Rattle.rows.specs.Rows.{rowAt, collateral, view}
 use Rattle.closeout.specs.Columns.{own, short, leftTM, fromTM, asked, leftCM, fromCM, uncovered}
 use Rattle.closeout.specs.Inner.{paidOf, tmBy, askedBy, paidBy}
 use Rattle.closeout.proofs.Payments.{over, fromTM-other, fromTM-client}

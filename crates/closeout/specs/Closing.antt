@@ -6,9 +6,9 @@ use lib.Dec.{leb, eqb}
 use lib.ListN.{length, getD}
 use Rattle.sums.specs.Sum.{all}
 use Rattle.sums.specs.Table.{_when_, first}
-use Rattle.book.specs.declared.Row.{Row}
-use Rattle.book.specs.declared.Book.{Book}
-use Rattle.book.specs.Rows.{ceiling, rowAt, view}
+use Rattle.rows.specs.declared.Row.{Row}
+use Rattle.rows.specs.declared.Book.{Book}
+use Rattle.rows.specs.Rows.{ceiling, rowAt, view}
 use Rattle.book.specs.Sound.{soundB}
 use Rattle.closeout.specs.declared.Closed.{Closed}
 use Rattle.closeout.specs.Columns.{four, rowsTo, total}

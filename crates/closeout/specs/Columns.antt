@@ -3,7 +3,7 @@ use mathlib.Core.List.{List, [], _∷_, _++_}
 use Prim.Native.Nat.{ℕ, zero, suc, _-_, min}
 use Rattle.sums.specs.Choice.{pick}
 use Rattle.sums.specs.Sum.{sum, only}
-use Rattle.book.specs.View.{View, isCM, isClient, isClientOf}
+use Rattle.rows.specs.View.{View, isCM, isClient, isClientOf}
 
 -- "A client or CP pays the lesser of loss and collateral from its own. A TM's collateral first pays the TM's own loss"; "The
 -- CM's collateral pays the CM's own loss"

@@ -5,10 +5,10 @@ use Prim.Native.Nat.{ℕ, _+_, _-_, _*_, _≤_, _<_, min}
 use lib.Dec.{eqb}
 use lib.ListN.{length, take, drop}
 use Rattle.sums.specs.Choice.{pick}
-use Rattle.book.specs.declared.Row.{Row}
-use Rattle.book.specs.declared.Book.{Book}
-use Rattle.book.specs.View.{View}
-use Rattle.book.specs.Rows.{ceiling, collateral}
+use Rattle.rows.specs.declared.Row.{Row}
+use Rattle.rows.specs.declared.Book.{Book}
+use Rattle.rows.specs.View.{View}
+use Rattle.rows.specs.Rows.{ceiling, collateral}
 use Rattle.book.specs.Sound.{Sound}
 use Rattle.closeout.specs.declared.pays.Paid.{Paid}
 use Rattle.closeout.specs.Columns.{own, fromTM, asked, leftCM, fromCM, uncovered}

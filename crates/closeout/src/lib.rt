@@ -3,10 +3,10 @@ ghost use mathlib.Core.Path.{_≡_};
 ghost use Prim.Native.Nat.{_≤_};
 ghost use lib.ListN.{length};
 ghost use Rattle.closeout.specs.Closing.{goodLoss, goodLosses, noTotal, closedOf, roomOf};
-use book::Book;
-use book::CEILING;
-use book::Row;
 use book::is_sound;
+use rows::Book;
+use rows::CEILING;
+use rows::Row;
 
 mod pays;
 

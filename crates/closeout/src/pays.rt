@@ -3,13 +3,13 @@ ghost use mathlib.Core.Path.{_≡_};
 ghost use Prim.Native.Nat.{_+_, _≤_, min};
 ghost use lib.ListN.{length, replicate};
 ghost use Rattle.sums.specs.Choice.{pick};
-ghost use Rattle.book.specs.Rows.{collateral, view};
-ghost use Rattle.book.specs.Sound.{InRange};
+ghost use Rattle.rows.specs.Rows.{collateral, view};
+ghost use Rattle.rows.specs.Ranges.{InRange};
 ghost use Rattle.closeout.specs.Columns.{four, rowsTo, total};
 ghost use Rattle.closeout.specs.Closing.{lossAt};
 ghost use Rattle.closeout.specs.Inner.{paidBy, fourOf, putAt, Checked};
-use book::Book;
-use book::Row;
+use rows::Book;
+use rows::Row;
 
 // One account's four amounts, what its collateral keeps after its own loss, and what the CM's collateral bears.
 pub(crate) struct Paid {

@@ -1,7 +1,7 @@
 // The books of the cases, in paise; all collateral is allocated cash.
-use book::Book;
-use book::Kinds;
-use book::Row;
+use rows::Book;
+use rows::Kinds;
+use rows::Row;
 
 fn cash(amount: u64) -> Kinds {
     Kinds {

@@ -1,5 +1,5 @@
 // Close-outs worked out and printed: document 01's figures, each refusal with its neighbours, a full book.
-use book::CEILING;
+use rows::CEILING;
 
 mod books;
 mod show;

@@ -1,6 +1,6 @@
 // A case's line: its name, the refusal, the total, and the room row by row.
-use book::Book;
 use closeout::Closed;
+use rows::Book;
 
 pub(crate) fn begin(name: &[u8], c: Closed) {
     io::write_all(1, name);

@@ -4,7 +4,7 @@ use mathlib.Core.List.{List, [], _∷_}
 use Prim.Native.Nat.{ℕ, _/_, _%_}
 use lib.Dec.{leb, eqb}
 use Rattle.sums.specs.Table.{Line, _when_, first}
-use Rattle.book.specs.Rows.{ceiling}
+use Rattle.rows.specs.Rows.{ceiling}
 use Rattle.dayfile.specs.declared.Record.{Record}
 
 -- "In the second, bit 0 is cash, 1 fixed deposits, 2 bank guarantees, 3 government securities, 4 pledged, 5 margin": the

@@ -1,5 +1,5 @@
 // The day file: what stands at a place of a piece, and a record's bytes.
-use book::Kinds;
+use rows::Kinds;
 
 mod reading;
 mod records;

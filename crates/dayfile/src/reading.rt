@@ -10,7 +10,7 @@ use crate::Read;
 use crate::Record;
 use crate::records::fault_of;
 use crate::records::size;
-use book::Kinds;
+use rows::Kinds;
 
 fn number2(piece: &[u8], place: usize) -> u16
     requires { ⌜ place + 2 ≤ length (now piece) ⌝ }

@@ -3,7 +3,7 @@ ghost use mathlib.Core.Path.{_≡_};
 ghost use Rattle.dayfile.specs.Records.{knownCode, suits, goodAmount, goodAmounts, faultOf};
 ghost use Rattle.dayfile.specs.Reading.{sizeOf};
 use crate::Record;
-use book::CEILING;
+use rows::CEILING;
 
 // The length in bytes of a record with this second mark byte.
 pub fn size(named: u8) -> usize

@@ -1,8 +1,8 @@
 // Pieces and records to read and to write.
 ghost use mathlib.Core.Path.{_≡_};
 ghost use lib.ListN.{length};
-use book::Kinds;
 use dayfile::Record;
+use rows::Kinds;
 
 // 70 bytes: serial 7, account 9, and eight amounts of 1, whatever the second mark byte names.
 pub fn piece(code: u8, named: u8) -> [u8; 70]
@@ -102,8 +102,8 @@ pub fn value(i: u8) -> u64 {
     match i {
         0 => 0,
         1 => 1,
-        2 => book::CEILING,
-        3 => book::CEILING + 1,
+        2 => rows::CEILING,
+        3 => rows::CEILING + 1,
         _ => 18446744073709551615,
     }
 }
@@ -119,7 +119,7 @@ pub fn four_kinds() -> Record {
             cash: 1,
             deposits: 258,
             guarantees: 3,
-            securities: book::CEILING,
+            securities: rows::CEILING,
         },
         pledged: 0,
         margin: 0,

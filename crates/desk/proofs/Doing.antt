@@ -10,7 +10,7 @@ use borrow.Author.Tests.{ne-eqb, le-leb, lt-leb}
 use Rattle.sums.specs.Choice.{pick}
 use Rattle.sums.proofs.Choices.{pass, stop}
 use Rattle.sums.proofs.Tables.{first-here}
-use Rattle.book.specs.declared.Book.{Book}
+use Rattle.rows.specs.declared.Book.{Book}
 use Rattle.book.specs.Sound.{soundB, Sound}
 use Rattle.dayfile.specs.declared.Record.{Record}
 use Rattle.dayfile.specs.declared.Found.{Found}

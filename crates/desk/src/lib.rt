@@ -3,9 +3,9 @@ ghost use mathlib.Core.Path.{_≡_};
 ghost use Rattle.book.specs.Sound.{Sound};
 ghost use Rattle.desk.specs.Answers.{nobody, ofRecord};
 ghost use Rattle.desk.specs.Steps.{stepOf, nextOf};
-use book::Book;
 use dayfile::Found;
 use dayfile::Record;
+use rows::Book;
 use rules::Change;
 
 // What became of a record; the end is no refusal.
@@ -65,7 +65,7 @@ fn step(b: Book, r: Record) -> Done
     let i = r.account as usize;
     let count = book.count;
     let serial = book.serial;
-    let mut row = book::rows::no_row();
+    let mut row = rows::words::no_row();
     if i < 256 {
         row = book.rows[i];
     }

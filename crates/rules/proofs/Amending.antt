@@ -4,8 +4,8 @@ use mathlib.Core.Path.{_≡_, refl}
 use Prim.Native.Nat.{ℕ, _+_, _-_}
 use borrow.Author.Tests.{ne-eqb}
 use Rattle.sums.specs.Choice.{pick}
-use Rattle.book.specs.declared.Row.{Row}
-use Rattle.book.specs.Rows.{withLive, withReceived, withAllocated, withPledged, withMargin, plusKinds, lessKinds}
+use Rattle.rows.specs.declared.Row.{Row}
+use Rattle.rows.specs.Rows.{withLive, withReceived, withAllocated, withPledged, withMargin, plusKinds, lessKinds}
 use Rattle.dayfile.specs.declared.Record.{Record}
 use Rattle.rules.specs.Effects.{amended}
 

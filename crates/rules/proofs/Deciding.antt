@@ -13,9 +13,9 @@ use Rattle.sums.specs.Choice.{pick}
 use Rattle.sums.specs.Table.{Line, first}
 use Rattle.sums.proofs.Choices.{pick-no}
 use Rattle.sums.proofs.Tables.{From, first-from, first-later}
-use Rattle.book.specs.declared.Row.{Row}
-use Rattle.book.specs.declared.Book.{Book}
-use Rattle.book.specs.Rows.{noRow, rowAt, openedRow}
+use Rattle.rows.specs.declared.Row.{Row}
+use Rattle.rows.specs.declared.Book.{Book}
+use Rattle.rows.specs.Rows.{noRow, rowAt, openedRow}
 use Rattle.book.specs.Sound.{Sound}
 use Rattle.book.proofs.SoundTest.{sound←}
 use Rattle.dayfile.specs.declared.Record.{Record}

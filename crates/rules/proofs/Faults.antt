@@ -9,7 +9,7 @@ use borrow.Author.Tests.{leb-true, eqb-true, not-false}
 use Rattle.sums.specs.Table.{Line, _when_, first}
 use Rattle.sums.proofs.Choices.{and-split}
 use Rattle.sums.proofs.Tables.{Numbered, first-fails, first-none}
-use Rattle.book.specs.Rows.{ceiling}
+use Rattle.rows.specs.Rows.{ceiling}
 use Rattle.dayfile.specs.declared.Record.{Record}
 use Rattle.dayfile.specs.Records.{bit, knownCode, suits, goodAmount, goodAmounts, faults, faultOf}
 use Rattle.rules.specs.Inner.{AmountsIn}

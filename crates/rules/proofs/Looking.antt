@@ -8,9 +8,9 @@ use lib.Dec.{leb, ltb, eqb}
 use lib.ListN.{length}
 use borrow.Author.Tests.{eqb-true, eqb-false, le-ltb, lt-ltb, leb-true, leb-false}
 use Rattle.sums.proofs.Choices.{or-split, or-fails}
-use Rattle.book.specs.declared.Book.{Book}
-use Rattle.book.specs.View.{View, free, needCM}
-use Rattle.book.specs.Rows.{ceiling, rowAt, collateral, view, withRow, withMargin, hasLiveClient}
+use Rattle.rows.specs.declared.Book.{Book}
+use Rattle.rows.specs.View.{View, free, needCM}
+use Rattle.rows.specs.Rows.{ceiling, rowAt, collateral, view, withRow, withMargin, hasLiveClient}
 use Rattle.book.specs.Sound.{Sound}
 use Rattle.book.proofs.OneRow.{at-all}
 use Rattle.book.proofs.SoundAfter.{in-table}

@@ -9,10 +9,10 @@ use borrow.Author.Tests.{ltb-true, eqb-true, not-false}
 use Rattle.sums.specs.Table.{Line, _when_, first}
 use Rattle.sums.proofs.Choices.{and-split}
 use Rattle.sums.proofs.Tables.{first-fails, first-none, first-clear}
-use Rattle.book.specs.declared.Row.{Row}
-use Rattle.book.specs.declared.Book.{Book}
-use Rattle.book.specs.View.{free}
-use Rattle.book.specs.Rows.{view, hasLiveClient}
+use Rattle.rows.specs.declared.Row.{Row}
+use Rattle.rows.specs.declared.Book.{Book}
+use Rattle.rows.specs.View.{free}
+use Rattle.rows.specs.Rows.{view, hasLiveClient}
 use Rattle.book.specs.Sound.{soundB, Sound}
 use Rattle.book.specs.Asked.{isLive}
 use Rattle.book.proofs.SoundTest.{sound→}

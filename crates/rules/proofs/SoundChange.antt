@@ -9,11 +9,12 @@ use lib.Dec.{leb, ltb, eqb}
 use borrow.Author.Tests.{ltb-false, leb-false, eqb-true, eqb-false, not-true, not-false}
 use Rattle.sums.specs.Choice.{pick}
 use Rattle.sums.proofs.Choices.{or-fails, pick-yes, pick-no}
-use Rattle.book.specs.declared.Row.{Row}
-use Rattle.book.specs.declared.Book.{Book}
-use Rattle.book.specs.View.{free, Covered}
-use Rattle.book.specs.Rows.{ceiling, rowAt, total, view, openedRow, withRow, withNew, plusKinds, lessKinds, hasLiveClient}
-use Rattle.book.specs.Sound.{KindsWithin, kindsCapped, kindsWithin, noAmounts, Sound}
+use Rattle.rows.specs.declared.Row.{Row}
+use Rattle.rows.specs.declared.Book.{Book}
+use Rattle.rows.specs.View.{free, Covered}
+use Rattle.rows.specs.Rows.{ceiling, rowAt, total, view, openedRow, withRow, withNew, plusKinds, lessKinds, hasLiveClient}
+use Rattle.rows.specs.Ranges.{KindsWithin, kindsCapped, kindsWithin, noAmounts}
+use Rattle.book.specs.Sound.{Sound}
 use Rattle.book.proofs.RowFacts.{within→, capped→}
 use Rattle.book.proofs.SoundAfter.{serial-sound, receive-sound, hand-back-sound, allocate-sound, release-sound, pledge-sound, unpledge-sound, margin-sound, retire-sound, open-sound}
 use Rattle.book.proofs.LiveClients.{no-live-client}

@@ -9,11 +9,12 @@ use borrow.Author.Tests.{ltb-true, eqb-true, not-false}
 use Rattle.sums.specs.Table.{Line, _when_, first}
 use Rattle.sums.proofs.Choices.{and-split, and-same}
 use Rattle.sums.proofs.Tables.{first-later, first-on, first-beyond}
-use Rattle.book.specs.declared.Row.{Row}
-use Rattle.book.specs.declared.Book.{Book}
-use Rattle.book.specs.View.{free}
-use Rattle.book.specs.Rows.{ceiling, rowAt, total, view, hasLiveClient}
-use Rattle.book.specs.Sound.{noAmounts, soundB, Sound}
+use Rattle.rows.specs.declared.Row.{Row}
+use Rattle.rows.specs.declared.Book.{Book}
+use Rattle.rows.specs.View.{free}
+use Rattle.rows.specs.Rows.{ceiling, rowAt, total, view, hasLiveClient}
+use Rattle.rows.specs.Ranges.{noAmounts}
+use Rattle.book.specs.Sound.{soundB, Sound}
 use Rattle.book.specs.Asked.{isLive}
 use Rattle.book.proofs.SoundTest.{sound←}
 use Rattle.dayfile.specs.declared.Record.{Record}

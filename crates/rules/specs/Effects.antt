@@ -3,9 +3,9 @@ use mathlib.Core.Bool.{Bool, false}
 use Prim.Native.Nat.{ℕ, zero, suc, _+_, _-_, _%_}
 use lib.Dec.{leb, eqb}
 use Rattle.sums.specs.Choice.{pick}
-use Rattle.book.specs.declared.Row.{Row}
-use Rattle.book.specs.declared.Book.{Book}
-use Rattle.book.specs.Rows.{openedRow, withLive, withReceived, withAllocated, withPledged, withMargin, withRow, withNew, plusKinds, lessKinds}
+use Rattle.rows.specs.declared.Row.{Row}
+use Rattle.rows.specs.declared.Book.{Book}
+use Rattle.rows.specs.Rows.{openedRow, withLive, withReceived, withAllocated, withPledged, withMargin, withRow, withNew, plusKinds, lessKinds}
 use Rattle.dayfile.specs.declared.Record.{Record}
 use Rattle.rules.specs.declared.Change.{Change}
 use Rattle.rules.specs.declared.Change.the-variants.{Refuse, Put, Open}

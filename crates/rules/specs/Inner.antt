@@ -5,11 +5,11 @@ use mathlib.Core.Path.{_≡_}
 use Prim.Native.Nat.{ℕ, _≤_, _<_}
 use lib.Dec.{ltb, eqb}
 use Rattle.sums.specs.Table.{Line, _when_, first}
-use Rattle.book.specs.declared.Row.{Row}
-use Rattle.book.specs.declared.Book.{Book}
-use Rattle.book.specs.View.{free}
-use Rattle.book.specs.Rows.{ceiling, view, hasLiveClient}
-use Rattle.book.specs.Sound.{KindsWithin, ceilings}
+use Rattle.rows.specs.declared.Row.{Row}
+use Rattle.rows.specs.declared.Book.{Book}
+use Rattle.rows.specs.View.{free}
+use Rattle.rows.specs.Rows.{ceiling, view, hasLiveClient}
+use Rattle.rows.specs.Ranges.{KindsWithin, ceilings}
 use Rattle.dayfile.specs.declared.Record.{Record}
 use Rattle.dayfile.specs.Records.{faults}
 use Rattle.rules.specs.declared.Change.{Change}

@@ -4,11 +4,12 @@ use mathlib.Core.List.{List, [], _∷_, _++_}
 use Prim.Native.Nat.{ℕ, _+_}
 use lib.Dec.{leb, ltb, eqb}
 use Rattle.sums.specs.Table.{Line, _when_, first}
-use Rattle.book.specs.declared.Row.{Row}
-use Rattle.book.specs.declared.Book.{Book}
-use Rattle.book.specs.View.{View, needCM, free}
-use Rattle.book.specs.Rows.{ceiling, rowAt, total, view, withRow, withMargin, plusKinds, lessKinds, hasLiveClient}
-use Rattle.book.specs.Sound.{kindsCapped, kindsWithin, noAmounts, soundB}
+use Rattle.rows.specs.declared.Row.{Row}
+use Rattle.rows.specs.declared.Book.{Book}
+use Rattle.rows.specs.View.{View, needCM, free}
+use Rattle.rows.specs.Rows.{ceiling, rowAt, total, view, withRow, withMargin, plusKinds, lessKinds, hasLiveClient}
+use Rattle.rows.specs.Ranges.{kindsCapped, kindsWithin, noAmounts}
+use Rattle.book.specs.Sound.{soundB}
 use Rattle.book.specs.Asked.{isLive}
 use Rattle.dayfile.specs.declared.Record.{Record}
 use Rattle.dayfile.specs.Records.{faults}

@@ -5,10 +5,10 @@ use crate::kinds::less;
 use crate::kinds::less_kinds;
 use crate::kinds::plus_kinds;
 use crate::refusals::refusal;
-use book::Row;
 use dayfile::Record;
+use rows::Row;
 ghost use mathlib.Core.Path.{_≡_};
-ghost use Rattle.book.specs.Sound.{InRange};
+ghost use Rattle.rows.specs.Ranges.{InRange};
 ghost use Rattle.rules.specs.Effects.{amended, passes};
 ghost use Rattle.rules.specs.Inner.{AmountsIn, changeBy};
 
@@ -18,14 +18,14 @@ fn amend(row: Row, r: Record) -> Row
 {
     let code = r.code;
     match code {
-        4 => book::rows::with_received(row, plus_kinds(row.received, r.kinds)),
-        5 => book::rows::with_received(row, less_kinds(row.received, r.kinds)),
-        6 => book::rows::with_allocated(row, plus_kinds(row.allocated, r.kinds)),
-        7 => book::rows::with_allocated(row, less_kinds(row.allocated, r.kinds)),
-        8 => book::rows::with_pledged(row, row.pledged + r.pledged),
-        9 => book::rows::with_pledged(row, less(row.pledged, r.pledged)),
-        10 => book::rows::with_margin(row, r.margin),
-        _ => book::rows::with_live(row, false),
+        4 => rows::words::with_received(row, plus_kinds(row.received, r.kinds)),
+        5 => rows::words::with_received(row, less_kinds(row.received, r.kinds)),
+        6 => rows::words::with_allocated(row, plus_kinds(row.allocated, r.kinds)),
+        7 => rows::words::with_allocated(row, less_kinds(row.allocated, r.kinds)),
+        8 => rows::words::with_pledged(row, row.pledged + r.pledged),
+        9 => rows::words::with_pledged(row, less(row.pledged, r.pledged)),
+        10 => rows::words::with_margin(row, r.margin),
+        _ => rows::words::with_live(row, false),
     }
 }
 
@@ -35,7 +35,7 @@ fn passing(row: Row, r: Record) -> Change
 {
     let opening = (1 <= r.code) & (r.code <= 3);
     if opening {
-        return Change::Open(book::rows::opened_row(r.code, r.account));
+        return Change::Open(rows::words::opened_row(r.code, r.account));
     }
     Change::Put(amend(row, r))
 }

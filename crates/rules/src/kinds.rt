@@ -1,11 +1,11 @@
 // Amounts kind by kind.
-use book::Kinds;
+use rows::Kinds;
 ghost use mathlib.Core.Path.{_≡_};
 ghost use mathlib.Core.Bool.{_&&_};
 ghost use Prim.Native.Nat.{_+_, _-_, _<_, _≤_};
 ghost use lib.Dec.{leb};
-ghost use Rattle.book.specs.Rows.{total, plusKinds, lessKinds, ceiling};
-ghost use Rattle.book.specs.Sound.{kindsCapped, kindsWithin, KindsWithin, ceilings};
+ghost use Rattle.rows.specs.Rows.{total, plusKinds, lessKinds, ceiling};
+ghost use Rattle.rows.specs.Ranges.{kindsCapped, kindsWithin, KindsWithin, ceilings};
 
 // a less b, or 0
 pub(crate) fn less(a: u64, b: u64) -> u64
@@ -35,15 +35,6 @@ pub(crate) fn less_kinds(a: Kinds, b: Kinds) -> Kinds
         guarantees: less(a.guarantees, b.guarantees),
         securities: less(a.securities, b.securities),
     }
-}
-
-pub(crate) fn kinds_within(a: Kinds, b: Kinds) -> bool
-    ensures { λ r. ⌜ r ≡ kindsWithin a b ⌝ }
-{
-    (a.cash <= b.cash)
-        & (a.deposits <= b.deposits)
-        & (a.guarantees <= b.guarantees)
-        & (a.securities <= b.securities)
 }
 
 pub(crate) fn kinds_total(k: Kinds) -> u64

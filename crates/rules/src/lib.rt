@@ -1,5 +1,5 @@
 // Document 01's rules for one record: the refusal that meets it, and what it does to the row named.
-use book::Row;
+use rows::Row;
 
 pub mod effects;
 mod kinds;

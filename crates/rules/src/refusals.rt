@@ -1,21 +1,21 @@
 // The tests of the refusal table, on the row named and what was seen of the others.
 use crate::Seen;
 use crate::kinds::kinds_total;
-use crate::kinds::kinds_within;
 use crate::kinds::less_kinds;
 use crate::kinds::plus_kinds;
-use book::Kinds;
-use book::Row;
 use dayfile::Record;
+use rows::CEILING;
+use rows::Row;
+use rows::ranges::kinds_capped;
+use rows::ranges::kinds_within;
+use rows::ranges::no_amounts;
 ghost use mathlib.Core.Path.{_≡_};
 ghost use mathlib.Core.Bool.{_&&_};
 ghost use Prim.Native.Nat.{_+_, _-_, _<_, _≤_};
-ghost use Rattle.book.specs.Rows.{ceiling};
-ghost use Rattle.book.specs.Sound.{kindsCapped, noAmounts, InRange};
+ghost use Rattle.rows.specs.Rows.{ceiling};
+ghost use Rattle.rows.specs.Ranges.{kindsCapped, noAmounts, InRange};
 ghost use Rattle.rules.specs.Refusals.{wrongSort, noNumberLeft, pastCeiling, tooMuch, beyondFree, losesCover, notRetirable};
 ghost use Rattle.rules.specs.Inner.{AmountsIn, refusalBy};
-
-const CEILING: u64 = 10_000_000_000_000;
 
 fn wrong_sort(row: Row, r: Record) -> bool
     ensures { λ x. ⌜ x ≡ wrongSort row r ⌝ }
@@ -29,15 +29,6 @@ fn no_number_left(count: u16, r: Record) -> bool
     ensures { λ x. ⌜ x ≡ noNumberLeft count r ⌝ }
 {
     (1 <= r.code) & (r.code <= 3) & (256 <= count)
-}
-
-fn kinds_capped(k: Kinds) -> bool
-    ensures { λ x. ⌜ x ≡ kindsCapped k ⌝ }
-{
-    (k.cash <= CEILING)
-        & (k.deposits <= CEILING)
-        & (k.guarantees <= CEILING)
-        & (k.securities <= CEILING)
 }
 
 fn past_ceiling(row: Row, r: Record) -> bool
@@ -66,20 +57,6 @@ fn beyond_free(free: u64, r: Record) -> bool
 {
     let asked = kinds_total(r.kinds);
     (r.code == 7) & (free < asked) | (r.code == 9) & (free < r.pledged)
-}
-
-fn kinds_zero(k: Kinds) -> bool
-    ensures { λ x. ⌜ x ≡ Rattle.book.specs.Sound.kindsZero k ⌝ }
-{
-    (k.cash == 0) & (k.deposits == 0) & (k.guarantees == 0) & (k.securities == 0)
-}
-
-fn no_amounts(row: Row) -> bool
-    ensures { λ x. ⌜ x ≡ noAmounts row ⌝ }
-{
-    let received = kinds_zero(row.received);
-    let allocated = kinds_zero(row.allocated);
-    received & allocated & (row.pledged == 0) & (row.margin == 0)
 }
 
 fn not_retirable(row: Row, tied: bool, r: Record) -> bool

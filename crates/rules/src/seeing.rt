@@ -1,7 +1,7 @@
 // What the verdict on a record needs of the other rows: only releases, unpledges, margins and retirings ask.
 use crate::Seen;
-use book::Book;
 use dayfile::Record;
+use rows::Book;
 ghost use mathlib.Core.Path.{_≡_};
 ghost use Rattle.book.specs.Sound.{Sound};
 ghost use Rattle.rules.specs.Inner.{SeenOf, nothing};
@@ -28,24 +28,24 @@ pub fn look(b: Book, r: Record) -> Seen
     }
     if (r.code == 7) | (r.code == 9) {
         return Seen {
-            free: book::inner::free_of(b, i),
+            free: rows::asking::free_of(b, i),
             uncovered: false,
             tied: false,
         };
     }
     if r.code == 10 {
-        if book::CEILING < r.margin {
+        if rows::CEILING < r.margin {
             return nothing_seen();
         }
         return Seen {
             free: 0,
-            uncovered: !book::inner::covered_with(b, i, r.margin),
+            uncovered: !rows::asking::covered_with(b, i, r.margin),
             tied: false,
         };
     }
     Seen {
         free: 0,
         uncovered: false,
-        tied: book::inner::has_live_client(b, i),
+        tied: rows::asking::has_live_client(b, i),
     }
 }

@@ -7,7 +7,7 @@ use native.Mathlib.Omega.{arith}
 use lib.ListN.{length}
 use lib.Seq.{length-sets}
 use Rattle.sums.specs.Choice.{pick}
-use Rattle.book.specs.declared.Book.{Book}
+use Rattle.rows.specs.declared.Book.{Book}
 use Rattle.book.specs.Sound.{Sound}
 use Rattle.dayfile.specs.declared.Record.{Record}
 use Rattle.dayfile.specs.declared.Found.the-variants.{End as NoBytes, Cut as TooFew, Whole}

@@ -6,7 +6,7 @@ use Prim.Native.Nat.{ℕ, zero, suc, _+_, _*_, _≤_}
 use lib.ListN.{length}
 use lib.Seq.{sets}
 use Rattle.sums.specs.Choice.{pick}
-use Rattle.book.specs.declared.Book.{Book}
+use Rattle.rows.specs.declared.Book.{Book}
 use Rattle.rules.specs.declared.Change.{Change}
 use Rattle.rules.specs.declared.Change.the-variants.{Refuse, Put, Open}
 use Rattle.dayfile.specs.declared.Found.{Found}

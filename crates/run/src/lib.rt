@@ -9,8 +9,8 @@ ghost use Rattle.book.specs.Sound.{Sound};
 ghost use Rattle.run.specs.Runs.{runOf, ranOf};
 ghost use Rattle.run.specs.Told.{toldOf, roomFor};
 ghost use Rattle.run.specs.Inner.{putFive, tellOf, refusalBy, givenBy, carriedBy};
-use book::Book;
 use dayfile::Found;
+use rows::Book;
 use rules::Change;
 
 // Why the records stopped: at the end, at a cut, at the stated number, or since the book isn't sound.
@@ -101,7 +101,7 @@ fn run(b: Book, piece: &[u8], most: u64, room: &mut [u16], tell: bool) -> Ran
                 let i = r.account as usize;
                 let count = book.count;
                 let serial = book.serial;
-                let mut row = book::rows::no_row();
+                let mut row = rows::words::no_row();
                 if i < 256 {
                     row = book.rows[i];
                 }

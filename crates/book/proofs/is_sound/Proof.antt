@@ -5,7 +5,7 @@ use borrow.Author.Needs.{needs}
 use borrow.Author.Tests.{lt-leb, le-leb, eq-eqb, not-true, not-false}
 use Rattle.sums.specs.Sum.{all}
 use Rattle.book.specs.Sound.{rowSound, soundB}
-use Rattle.book.specs.Inner.{Ranged}
+use Rattle.rows.specs.Inner.{Ranged}
 use Rattle.book.proofs.RowTests.{rows-ranged}
 use Rattle.book.proofs.is_sound.Statement.{statement}
 use Rattle.book.proofs.is_sound.Tie as tie

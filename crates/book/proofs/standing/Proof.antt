@@ -4,8 +4,8 @@ use native.Mathlib.Omega.{arith}
 use borrow.Author.Needs.{needs}
 use borrow.Author.Tests.{lt-ltb, le-ltb, not-true, not-false}
 use Rattle.book.specs.Sound.{soundB}
-use Rattle.book.specs.Rows.{rowAt}
-use Rattle.book.specs.Inner.{Ranged}
+use Rattle.rows.specs.Rows.{rowAt}
+use Rattle.rows.specs.Inner.{Ranged}
 use Rattle.book.proofs.RowTests.{sound-test-ranged}
 use Rattle.book.proofs.StandingRefusals.{unsound-refused, dead-refused, live-answered, standing-by}
 use Rattle.book.proofs.standing.Statement.{statement}

@@ -6,7 +6,7 @@ use native.Mathlib.Omega.{arith}
 use borrow.Author.Needs.{needs}
 use Rattle.sums.specs.Sum.{all}
 use Rattle.sums.proofs.Sums.{all-none, all-step}
-use Rattle.book.specs.Rows.{rowAt}
+use Rattle.rows.specs.Rows.{rowAt}
 use Rattle.closeout.specs.Closing.{lossAt, goodLoss}
 use Rattle.closeout.proofs.good_losses.Statement.{statement}
 use Rattle.closeout.proofs.good_losses.Tie as tie

@@ -3,8 +3,8 @@ use mathlib.Core.Logic.{⊎-elim, inl, inr}
 use mathlib.Core.Path.{_≡_, sym, ap, _∙_}
 use Prim.Native.Nat.{_<_}
 use native.Mathlib.Omega.{arith}
-use Rattle.book.specs.declared.Book.{Book}
-use Rattle.book.proofs.RangesKept.{sound-ranges}
+use Rattle.rows.specs.declared.Book.{Book}
+use Rattle.book.proofs.SoundRanges.{sound-ranges}
 use Rattle.rules.specs.Refusals.{namedRow}
 use Rattle.rules.specs.Effects.{changeOf, movedOn}
 use Rattle.rules.specs.Inner.{SeenOf}

@@ -10,7 +10,7 @@ use lib.ListN.{set}
 use borrow.Author.Tests.{lt-leb, le-leb}
 use Rattle.sums.specs.Choice.{pick}
 use Rattle.sums.proofs.Choices.{pass, stop, pick-same}
-use Rattle.book.proofs.RangesKept.{sound-ranges}
+use Rattle.book.proofs.SoundRanges.{sound-ranges}
 use Rattle.rules.specs.Refusals.{namedRow}
 use Rattle.rules.specs.Effects.{changeOf, bookAfter}
 use Rattle.rules.specs.Inner.{SeenOf}

@@ -5,8 +5,8 @@ use Prim.Native.Nat.{ℕ, _+_, _-_, _≤_, _<_}
 use native.Mathlib.Omega.{arith}
 use lib.ListN.{length, getD, set}
 use borrow.Author.Needs.{needs}
-use Rattle.book.specs.declared.Book.{Book}
-use Rattle.book.specs.Rows.{rowAt}
+use Rattle.rows.specs.declared.Book.{Book}
+use Rattle.rows.specs.Rows.{rowAt}
 use Rattle.closeout.specs.declared.pays.Paid.{Paid}
 use Rattle.closeout.specs.Inner.{Checked}
 use Rattle.closeout.proofs.Pass.{Passed, start, finish, sum-fits, tm-has, cm-has, named-low, turn}

@@ -1,7 +1,7 @@
 -- `rules::effects::amend` meets its contract: each arm is one code's effect.
 use borrow.Author.Needs.{needs}
 use mathlib.Core.Path.{sym, ap, _∙_}
-use Rattle.book.specs.Rows.{withReceived, withAllocated, withPledged}
+use Rattle.rows.specs.Rows.{withReceived, withAllocated, withPledged}
 use Rattle.rules.proofs.Amending.{by-receive, by-hand-back, by-allocate, by-release, by-pledge, by-unpledge, by-margin, by-other}
 use Rattle.rules.proofs.effects.amend.Statement.{statement}
 use Rattle.rules.proofs.effects.amend.Tie as tie

@@ -1,27 +1,19 @@
 use borrow.Author.Needs.{needs}
 use Rattle.rules.proofs.kinds.less_kinds.Statement.{statement}
 use Rattle.rules.proofs.kinds.less_kinds.Tie as tie
-use Rattle.rules.proofs.kinds.less_kinds.Reads as reads
-use Rattle.rules.proofs.kinds.less_kinds.Lts as lts
-use Rattle.rules.proofs.kinds.less.Reads as less-reads
 
--- src/kinds.rt:33:15
 less-requires : tie.Need-less-requires
 less-requires c κs = search needs
 
--- src/kinds.rt:34:19
 less-requires-2 : tie.Need-less-requires-2
 less-requires-2 c κs = search needs
 
--- src/kinds.rt:35:21
 less-requires-3 : tie.Need-less-requires-3
 less-requires-3 c κs = search needs
 
--- src/kinds.rt:36:21
 less-requires-4 : tie.Need-less-requires-4
 less-requires-4 c κs = search needs
 
--- src/kinds.rt:29:1
 returns : tie.Need-returns
 returns c = cc
 

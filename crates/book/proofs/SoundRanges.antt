@@ -1,0 +1,16 @@
+-- Every row of a sound book is in range.
+use Prim.Native.Nat.{ℕ, _<_}
+use native.Mathlib.Decide.{decLt}
+use native.Mathlib.Omega.{arith}
+use Rattle.rows.specs.declared.Book.{Book}
+use Rattle.rows.specs.Rows.{rowAt}
+use Rattle.rows.specs.Ranges.{InRange}
+use Rattle.book.specs.Sound.{Sound}
+
+-- those beyond the number too
+pub sound-ranges : (b : Book) → Sound b → (i : ℕ) → InRange (rowAt b i)
+sound-ranges b s i = by (decLt i (b .count))
+  where
+    by : Dec (i < b .count) → InRange (rowAt b i)
+    by (yes l) = s .ranges i l
+    by (no l) = rw (s .blank i (omega arith)) (record { received = omega arith; allocated = omega arith; pledged = omega arith; margin = omega arith })

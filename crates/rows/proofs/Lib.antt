@@ -1,0 +1,2 @@
+pub mod NeedSums
+pub mod RangesKept

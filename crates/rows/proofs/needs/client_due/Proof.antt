@@ -1,0 +1,19 @@
+use borrow.Author.Needs.{needs}
+use Rattle.rows.proofs.needs.client_due.Statement.{statement}
+use Rattle.rows.proofs.needs.client_due.Tie as tie
+
+collateral-of-requires : tie.Need-collateral-of-requires
+collateral-of-requires c κs = search needs
+
+deemed-requires : tie.Need-deemed-requires
+deemed-requires c κs = search needs
+
+only-if-requires : tie.Need-only-if-requires
+only-if-requires c κs = search needs
+
+returns : tie.Need-returns
+returns c = cc
+
+pub client-due-spec : {M : Type 1} → statement M
+client-due-spec =
+    tie.close (tie.spec collateral-of-requires deemed-requires only-if-requires returns)

@@ -1,0 +1,96 @@
+use mathlib.Core.Path.{_≡_, refl, ap, _∙_}
+use Prim.Native.Nat.{ℕ, _-_, _≤_}
+use native.Mathlib.Omega.{arith}
+use Rattle.rows.specs.Rows.{rowAt, view}
+use Rattle.rows.specs.Inner.{memberDue, clientsBelow, membersBelow}
+use Rattle.rows.proofs.NeedSums.{members-none, members-step, members-most, member-most, clients-top}
+use Rattle.rows.proofs.needs.members_sum.Statement.{statement}
+use Rattle.rows.proofs.needs.members_sum.Tie as tie
+
+abbrev Inv-loop : tie.InvT-loop
+Inv-loop b owed sum₀ n i₀ sum i = (n ≡ b .count) × (i ≤ n) × (sum ≡ membersBelow (view b) i)
+
+abbrev μ-loop : tie.MeasureT-loop
+μ-loop b owed sum₀ n i₀ sum i = n - i
+
+cast-n : tie.Need-cast-n Inv-loop μ-loop
+cast-n c = omega arith
+
+loop-holds : tie.Need-loop-holds Inv-loop μ-loop
+loop-holds c = omega (arith, members-none (view (c .args .t1)))
+
+mul-member-due : tie.Need-mul-member-due Inv-loop μ-loop
+mul-member-due c = omega (arith, c .before .before .pre .0 .most)
+
+element-copy-out-member-due : tie.Need-element-copy-out-member-due Inv-loop μ-loop
+element-copy-out-member-due c = omega (arith, c .before .before .pre .0 .most)
+
+mul-member-due-2 : tie.Need-mul-member-due-2 Inv-loop μ-loop
+mul-member-due-2 c = omega (arith, c .before .before .before .pre .0 .most)
+
+array-read-member-due : tie.Need-array-read-member-due Inv-loop μ-loop
+array-read-member-due c = omega (arith, c .before .before .before .pre .0 .most)
+
+member-due-requires : tie.Need-member-due-requires Inv-loop μ-loop
+member-due-requires c κs =
+    let start = c .before .before .before in
+    let b = start .args .t1 in
+    let i = c .before .before .loop .i in
+    let most = start .pre .0 .most in
+    (start .pre .0 .ranges i (omega arith), rw (start .pre .1 .each i (omega arith)) (clients-top b (start .pre .0) i))
+
+-- what the row adds, by the sum of its clients
+adds : (c : tie.After-member-due Inv-loop μ-loop)
+    → c .member-due .result ≡ memberDue (rowAt (c .before .before .before .before .args .t1) (c .before .before .before .loop .i)) (clientsBelow (view (c .before .before .before .before .args .t1)) (c .before .before .before .loop .i) (c .before .before .before .before .args .t1 .count))
+adds c =
+    let start = c .before .before .before .before in
+    let i = c .before .before .before .loop .i in
+    let most = start .pre .0 .most in
+    c .member-due .ensures ∙ ap (memberDue (rowAt (start .args .t1) i)) (start .pre .1 .each i (omega arith))
+
+add-sum : tie.Need-add-sum Inv-loop μ-loop
+add-sum c =
+    let start = c .before .before .before .before in
+    let b = start .args .t1 in
+    let i = c .before .before .before .loop .i in
+    let most = start .pre .0 .most in
+    omega (
+      arith,
+      adds c,
+      members-most b (start .pre .0) i (omega arith),
+      member-most (rowAt b i) (clientsBelow (view b) i (b .count)) (start .pre .0 .ranges i (omega arith)),
+      clients-top b (start .pre .0) i,
+    )
+
+add-i : tie.Need-add-i Inv-loop μ-loop
+add-i c = omega arith
+
+loop-less : tie.Need-loop-less Inv-loop μ-loop
+loop-less c = omega arith
+
+loop-again : tie.Need-loop-again Inv-loop μ-loop
+loop-again c =
+    let b = c .before .before .before .before .args .t1 in
+    (refl, omega arith, omega (arith, adds c, members-step b (c .before .before .before .loop .i)))
+
+returns : tie.Need-returns Inv-loop μ-loop
+returns c = c .before .loop .inv .2 ∙ ap (membersBelow (view (c .before .before .args .t1))) (omega arith)
+
+pub members-sum-spec : {M : Type 1} → statement M
+members-sum-spec =
+    tie.close
+    (tie.spec
+    Inv-loop
+    μ-loop
+    cast-n
+    loop-holds
+    mul-member-due
+    element-copy-out-member-due
+    mul-member-due-2
+    array-read-member-due
+    member-due-requires
+    add-sum
+    add-i
+    loop-less
+    loop-again
+    returns)

@@ -1,0 +1,50 @@
+-- Only for internal functions: no promise of a public call cites it.
+use mathlib.Core.Path.{_≡_}
+use mathlib.Core.Bool.{_&&_}
+use mathlib.Core.List.{List}
+use Prim.Native.Nat.{ℕ, _+_, _≤_, _<_}
+use lib.Dec.{eqb, ltb}
+use lib.ListN.{length, getD}
+use Rattle.sums.specs.Sum.{sum, only}
+use Rattle.rows.specs.declared.Row.{Row}
+use Rattle.rows.specs.declared.Book.{Book}
+use Rattle.rows.specs.View.{View, isClientOf, ownDeemed, deemedTM, deemedOf, members}
+use Rattle.rows.specs.Rows.{rowAt, collateral, view}
+use Rattle.rows.specs.Ranges.{InRange}
+
+-- what the sums need of a book so that none of them passes a word: part of `Sound`
+pub record Ranged (b : Book) : Type 0 where
+  pub table : length (b .rows) ≡ 256
+  pub most : b .count ≤ 256
+  pub ranges : (i : ℕ) → i < b .count → InRange (rowAt b i)
+
+-- s is the place of the TM that a row names, and some place where there is no such place
+pub record Slot (r : Row) (s : ℕ) : Type 0 where
+  pub inside : s < 256
+  pub named : r .tm < 256 → s ≡ r .tm
+
+-- what a row adds to the sum at that place
+abbrev pub clientDue : Row → ℕ
+clientDue r = only (eqb (r .code) 2 && ltb (r .tm) 256) (deemedOf (r .margin) (collateral r))
+
+-- what a row adds to the CM's need, where its clients are deemed d
+abbrev pub memberDue : Row → ℕ → ℕ
+memberDue r d = only (eqb (r .code) 1) (deemedOf (r .margin + d) (collateral r)) + only (eqb (r .code) 3) (deemedOf (r .margin) (collateral r))
+
+-- what t's clients with a number below n are deemed
+unfoldable pub clientsBelow : View → ℕ → ℕ → ℕ
+clientsBelow v t n = sum n (λ i. only (isClientOf v t i) (ownDeemed v i))
+
+-- what the TMs and CPs with a number below n are deemed
+unfoldable pub membersBelow : View → ℕ → ℕ
+membersBelow v n = sum n (members v (deemedTM v) (ownDeemed v))
+
+-- the list holds what each account's clients are deemed
+pub record Owed (b : Book) (owed : List ℕ) : Type 0 where
+  pub size : length owed ≡ 256
+  pub each : (t : ℕ) → t < 256 → getD owed t 0 ≡ clientsBelow (view b) t (b .count)
+
+-- the list holds each row's collateral
+pub record Collaterals (b : Book) (list : List ℕ) : Type 0 where
+  pub size : length list ≡ 256
+  pub each : (i : ℕ) → i < 256 → getD list i 0 ≡ collateral (rowAt b i)

@@ -1,0 +1,101 @@
+-- Document 01, 'Amounts and sizes': a book's rows, its view, and a fresh book.
+use mathlib.Core.Bool.{Bool, true, false, not, _&&_}
+use mathlib.Core.List.{List, _∷_}
+use Prim.Native.Nat.{ℕ, _+_, _-_}
+use lib.Dec.{eqb}
+use lib.ListN.{getD, set, replicate}
+use Rattle.sums.specs.Sum.{all}
+use Rattle.rows.specs.declared.Kinds.{Kinds}
+use Rattle.rows.specs.declared.Row.{Row}
+use Rattle.rows.specs.declared.Book.{Book}
+use Rattle.rows.specs.View.{View, isClientOf}
+
+-- "The ceiling is 10,000,000,000,000 paise."
+abbrev pub ceiling : ℕ
+ceiling = 10_000_000_000_000
+
+abbrev pub noKinds : Kinds
+noKinds = record { cash = 0; deposits = 0; guarantees = 0; securities = 0 }
+
+-- all zero
+abbrev pub noRow : Row
+noRow = record { code = 0; live = false; tm = 0; received = noKinds; allocated = noKinds; pledged = 0; margin = 0 }
+
+-- "its row is live with all amounts 0": a row just opened
+abbrev pub openedRow : ℕ → ℕ → Row
+openedRow code tm = record { code = code; live = true; tm = tm; received = noKinds; allocated = noKinds; pledged = 0; margin = 0 }
+
+-- "Receive adds to received; hand back takes from it": kind by kind
+abbrev pub plusKinds : Kinds → Kinds → Kinds
+plusKinds a b = record {
+  cash = a .cash + b .cash;
+  deposits = a .deposits + b .deposits;
+  guarantees = a .guarantees + b .guarantees;
+  securities = a .securities + b .securities;
+}
+
+abbrev pub lessKinds : Kinds → Kinds → Kinds
+lessKinds a b = record {
+  cash = a .cash - b .cash;
+  deposits = a .deposits - b .deposits;
+  guarantees = a .guarantees - b .guarantees;
+  securities = a .securities - b .securities;
+}
+
+-- account i's row
+abbrev pub rowAt : Book → ℕ → Row
+rowAt b i = getD (b .rows) i noRow
+
+-- the kinds added up
+abbrev pub total : Kinds → ℕ
+total k = k .cash + k .deposits + k .guarantees + k .securities
+
+-- "Collateral is the sum of the four allocated amounts and pledged."
+abbrev pub collateral : Row → ℕ
+collateral r = total (r .allocated) + r .pledged
+
+abbrev pub view : Book → View
+view b = record {
+  count = b .count;
+  code = λ i. rowAt b i .code;
+  tm = λ i. rowAt b i .tm;
+  collateral = λ i. collateral (rowAt b i);
+  margin = λ i. rowAt b i .margin;
+}
+
+-- "number 0 is the CM and is there from the start, live. In a fresh book it is the only account and all amounts are 0.";
+-- "the next serial, 0 at first"
+unfoldable pub freshBook : Book
+freshBook = record { count = 1; serial = 0; rows = openedRow 0 0 ∷ replicate 255 noRow }
+
+-- A row with one of its words put anew.
+abbrev pub withLive : Row → Bool → Row
+withLive r x = record { code = r .code; live = x; tm = r .tm; received = r .received; allocated = r .allocated; pledged = r .pledged; margin = r .margin }
+
+abbrev pub withReceived : Row → Kinds → Row
+withReceived r x = record { code = r .code; live = r .live; tm = r .tm; received = x; allocated = r .allocated; pledged = r .pledged; margin = r .margin }
+
+abbrev pub withAllocated : Row → Kinds → Row
+withAllocated r x = record { code = r .code; live = r .live; tm = r .tm; received = r .received; allocated = x; pledged = r .pledged; margin = r .margin }
+
+abbrev pub withPledged : Row → ℕ → Row
+withPledged r x = record { code = r .code; live = r .live; tm = r .tm; received = r .received; allocated = r .allocated; pledged = x; margin = r .margin }
+
+abbrev pub withMargin : Row → ℕ → Row
+withMargin r x = record { code = r .code; live = r .live; tm = r .tm; received = r .received; allocated = r .allocated; pledged = r .pledged; margin = x }
+
+-- the book with row i put anew
+abbrev pub withRow : Book → ℕ → Row → Book
+withRow b i r = record { count = b .count; serial = b .serial; rows = set (b .rows) i r }
+
+-- the book with one account more
+abbrev pub withNew : Book → Row → Book
+withNew b r = record { count = b .count + 1; serial = b .serial; rows = set (b .rows) (b .count) r }
+
+-- account i is a live client of account t
+abbrev pub isLiveClientOf : Book → ℕ → ℕ → Bool
+isLiveClientOf b t i = isClientOf (view b) t i && rowAt b i .live
+
+-- "a TM with a live client": not every account is other than that
+unfoldable pub hasLiveClient : Book → ℕ → Bool
+hasLiveClient b t = not (all (b .count) (λ i. not (isLiveClientOf b t i)))

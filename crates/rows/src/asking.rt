@@ -1,0 +1,62 @@
+// What the crates above ask of a book that they know to be sound: internal, since each has a `requires`.
+ghost use mathlib.Core.Path.{_≡_};
+ghost use Prim.Native.Nat.{ℕ, _≤_, _<_};
+ghost use lib.Dec.{leb};
+ghost use Rattle.rows.specs.View.{free, needCM};
+ghost use Rattle.rows.specs.Rows.{ceiling, rowAt, collateral, view, withMargin, withRow, hasLiveClient};
+ghost use Rattle.rows.specs.Ranges.{InRange};
+ghost use Rattle.rows.specs.Inner.{Ranged, Collaterals};
+use super::Book;
+use super::needs::blocked_of;
+use super::needs::collateral_of;
+use super::needs::need_cm;
+use super::needs::need_of;
+use super::needs::zeros;
+
+pub fn free_of(b: Book, account: usize) -> u64
+    requires { ⌜ Ranged b × (account < b .count) ⌝ }
+    ensures { λ r. ⌜ r ≡ free (view b) account ⌝ }
+{
+    let n = need_of(b, account);
+    let c = collateral_of(b.rows[account]);
+    c - blocked_of(n, c)
+}
+
+// "after the new margin the CM's need would pass its collateral": whether it would not.
+pub fn covered_with(b: Book, account: usize, margin: u64) -> bool
+    requires { ⌜ Ranged b × (account < b .count) × (margin ≤ ceiling) ⌝ }
+    ensures { λ r. ⌜ r ≡ leb (needCM (view (withRow b account (withMargin (rowAt b account) margin)))) (collateral (rowAt b 0)) ⌝ }
+{
+    let top = collateral_of(b.rows[0]);
+    let mut after = b;
+    after.rows[account].margin = margin;
+    need_cm(after) <= top
+}
+
+pub fn has_live_client(b: Book, account: usize) -> bool
+    requires { ⌜ b .count ≤ 256 ⌝ }
+    ensures { λ r. ⌜ r ≡ hasLiveClient b account ⌝ }
+{
+    let n = b.count as usize;
+    let mut none = true;
+    let mut i: usize = 0;
+    while i < n {
+        let r = b.rows[i];
+        none = none & !((r.code == 2) & ((r.tm as usize) == account) & r.live);
+        i += 1;
+    }
+    !none
+}
+
+pub fn collaterals(b: Book) -> [u64; 256]
+    requires { ⌜ ((i : ℕ) → InRange (rowAt b i)) ⌝ }
+    ensures { λ r. ⌜ Collaterals b r ⌝ }
+{
+    let mut list = zeros();
+    let mut i: usize = 0;
+    while i < 256 {
+        list[i] = collateral_of(b.rows[i]);
+        i += 1;
+    }
+    list
+}

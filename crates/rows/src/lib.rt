@@ -1,0 +1,34 @@
+// The rows of the collateral book of one clearing member, and what is added up over them.
+pub mod asking;
+pub mod needs;
+pub mod ranges;
+pub mod words;
+
+// Received or allocated collateral by kind, in paise.
+pub struct Kinds {
+    pub cash: u64,
+    pub deposits: u64,
+    pub guarantees: u64,
+    pub securities: u64,
+}
+
+// An account. `code` is the code of the record that opened it (1 TM, 2 client, 3 CP) and 0 for the CM; `tm` is a
+// client's TM and 0 for any other row.
+pub struct Row {
+    pub code: u8,
+    pub live: bool,
+    pub tm: u16,
+    pub received: Kinds,
+    pub allocated: Kinds,
+    pub pledged: u64,
+    pub margin: u64,
+}
+
+pub struct Book {
+    pub count: u16,
+    pub serial: u16,
+    pub rows: [Row; 256],
+}
+
+// The largest amount, in paise.
+pub const CEILING: u64 = 10_000_000_000_000;

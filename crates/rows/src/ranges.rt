@@ -1,0 +1,52 @@
+// Whether a row's amounts are zero, and whether they are in range.
+ghost use mathlib.Core.Path.{_≡_};
+ghost use Rattle.rows.specs.Ranges.{kindsZero, kindsWithin, kindsCapped, noAmounts, inRange};
+use super::CEILING;
+use super::Kinds;
+use super::Row;
+
+pub fn no_amounts(r: Row) -> bool
+    ensures { λ x. ⌜ x ≡ noAmounts r ⌝ }
+{
+    let k = r.received;
+    let a = r.allocated;
+    ((k.cash == 0) & (k.deposits == 0) & (k.guarantees == 0) & (k.securities == 0))
+        & ((a.cash == 0) & (a.deposits == 0) & (a.guarantees == 0) & (a.securities == 0))
+        & (r.pledged == 0)
+        & (r.margin == 0)
+}
+
+pub fn in_range(r: Row) -> bool
+    ensures { λ x. ⌜ x ≡ inRange r ⌝ }
+{
+    let k = r.received;
+    let a = r.allocated;
+    ((k.cash <= CEILING)
+        & (k.deposits <= CEILING)
+        & (k.guarantees <= CEILING)
+        & (k.securities <= CEILING))
+        & ((a.cash <= k.cash)
+            & (a.deposits <= k.deposits)
+            & (a.guarantees <= k.guarantees)
+            & (a.securities <= k.securities))
+        & (r.pledged <= CEILING)
+        & (r.margin <= CEILING)
+}
+
+pub fn kinds_within(a: Kinds, b: Kinds) -> bool
+    ensures { λ x. ⌜ x ≡ kindsWithin a b ⌝ }
+{
+    (a.cash <= b.cash)
+        & (a.deposits <= b.deposits)
+        & (a.guarantees <= b.guarantees)
+        & (a.securities <= b.securities)
+}
+
+pub fn kinds_capped(k: Kinds) -> bool
+    ensures { λ x. ⌜ x ≡ kindsCapped k ⌝ }
+{
+    (k.cash <= CEILING)
+        & (k.deposits <= CEILING)
+        & (k.guarantees <= CEILING)
+        & (k.securities <= CEILING)
+}
