@@ -1,3 +1,4 @@
+mod Apart
 mod Numbers
 mod Marks
 mod Amounts

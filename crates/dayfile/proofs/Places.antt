@@ -15,6 +15,7 @@ use Rattle.dayfile.specs.Bytes.{Bytes}
 use Rattle.dayfile.specs.Records.{bit}
 use Rattle.dayfile.specs.Reading.{sizeOf, recordOf, foundFrom, foundAt}
 use Rattle.dayfile.specs.Words.{WordsFit, AmountsFit}
+use Rattle.dayfile.proofs.Apart.{apart}
 use Rattle.dayfile.proofs.Numbers.{number-lt, bytes-drop}
 use Rattle.dayfile.proofs.Amounts.{got-lt, bytes-past}
 use Rattle.dayfile.proofs.Looking.{found-end}
@@ -34,12 +35,12 @@ pub record Stands (l : List ℕ) (at : ℕ) (r : Record) (next : ℕ) : Type 0 w
 picked : (t : Bool) (x r : Record) (k n : ℕ) → pick t (Whole x k) Cut ≡ Whole r n → (t ≡ true) × (r ≡ x) × (n ≡ k)
 unfolding pick
 picked true x r k n e = (refl, cc, cc)
-picked false x r k n e = absurd (let z : _≡_ {A = ℕ} 0 1 = cc in omega arith)
+picked false x r k n e = apart (cc)
 
 stands-from : (l : List ℕ) (at : ℕ) (r : Record) (next : ℕ) → foundFrom l at ≡ Whole r next → Stands l at r next
 unfolding foundFrom
-stands-from [] at r next e = absurd (let z : _≡_ {A = ℕ} 0 1 = cc in omega arith)
-stands-from (c ∷ []) at r next e = absurd (let z : _≡_ {A = ℕ} 0 1 = cc in omega arith)
+stands-from [] at r next e = apart (cc)
+stands-from (c ∷ []) at r next e = apart (cc)
 stands-from (c ∷ n ∷ l) at r next e =
     let p = picked (leb (4 + 8 * ones n) (length l)) (recordOf c n l) r (at + sizeOf n) next e in
     record { code = c; named = n; rest = l; bytes = refl; whole = leb-true _ _ (p .0); is = p .1; after = p .2 }
@@ -70,13 +71,13 @@ module _ (s : List ℕ) (at : ℕ) {r : Record} {next : ℕ} (found : foundAt s 
 
 picked-not : (t : Bool) (x : Record) (k : ℕ) → pick t (Whole x k) Cut ≡ End → ⊥
 unfolding pick
-picked-not true x k e = let z : _≡_ {A = ℕ} 0 1 = cc in omega arith
-picked-not false x k e = let z : _≡_ {A = ℕ} 0 1 = cc in omega arith
+picked-not true x k e = apart (cc)
+picked-not false x k e = apart (cc)
 
 end-from : (l : List ℕ) (at : ℕ) → foundFrom l at ≡ End → length l ≡ 0
 unfolding foundFrom
 end-from [] at e = refl
-end-from (c ∷ []) at e = absurd (let z : _≡_ {A = ℕ} 0 1 = cc in omega arith)
+end-from (c ∷ []) at e = apart (cc)
 end-from (c ∷ n ∷ l) at e = absurd (picked-not _ _ _ e)
 
 -- the end is found exactly where the piece has no byte at the place

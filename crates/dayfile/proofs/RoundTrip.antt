@@ -21,6 +21,7 @@ use Rattle.dayfile.specs.Records.{faultOf}
 use Rattle.dayfile.specs.Written.{bodyOf, writtenOf, fileOf, hasRoom, wroteOf, roomAfter, Writes}
 use Rattle.dayfile.specs.Reading.{foundFrom, foundAt, judged, readOf, readAt, Reads, done, more}
 use Rattle.dayfile.specs.Words.{WordsFit, AllGood, none, also}
+use Rattle.dayfile.proofs.Apart.{apart}
 use Rattle.dayfile.proofs.Numbers.{bytes-drop}
 use Rattle.dayfile.proofs.Good.{good, suits-lt}
 use Rattle.dayfile.proofs.Lengths.{length-body, length-written}
@@ -67,8 +68,8 @@ file-reads rs g = file-from rs g []
 -- a piece reads as one list of records only
 pub reads-once : {s : List ℕ} {at : ℕ} {rs rs' : List Record} → Reads s at rs → Reads s at rs' → rs ≡ rs'
 reads-once (done e) (done e') = refl
-reads-once (done e) (more e' p') = absurd (let z : _≡_ {A = ℕ} 0 1 = cc in omega arith)
-reads-once (more e p) (done e') = absurd (let z : _≡_ {A = ℕ} 0 1 = cc in omega arith)
+reads-once (done e) (more e' p') = apart (cc)
+reads-once (more e p) (done e') = apart (cc)
 reads-once {s} (more {next} {r} {rs} e p) (more {next = next'} {r = r'} {rs = rs'} e' p') =
     let er : r ≡ r' = cc in
     let en : next' ≡ next = cc in
@@ -90,12 +91,12 @@ written-once r r' f w f' w' e =
 judged-good : (f : ℕ) (x : Record) (k : ℕ) (r : Record) (n : ℕ) → judged f x k ≡ Good r n → (f ≡ 0) × (x ≡ r) × (k ≡ n)
 unfolding judged
 judged-good zero x k r n e = (refl, cc, cc)
-judged-good (suc f) x k r n e = absurd (let z : _≡_ {A = ℕ} 0 1 = cc in omega arith)
+judged-good (suc f) x k r n e = apart (cc)
 
 good-found : (x : Found) (r : Record) (n : ℕ) → readOf x ≡ Good r n → (x ≡ Whole r n) × (faultOf r ≡ 0)
 unfolding readOf
-good-found NoBytes r n e = absurd (let z : _≡_ {A = ℕ} 0 1 = cc in omega arith)
-good-found TooFew r n e = absurd (let z : _≡_ {A = ℕ} 0 1 = cc in omega arith)
+good-found NoBytes r n e = apart (cc)
+good-found TooFew r n e = apart (cc)
 good-found (Whole x k) r n e =
     let j = judged-good (faultOf x) x k r n e in
     (rw (j .1, j .2), rw (j .1) at (j .0))
@@ -131,12 +132,12 @@ module _ (s : List ℕ) (at : ℕ) {r : Record} {next : ℕ} (read : readAt s at
 end-found : (x : Found) → readOf x ≡ End → x ≡ NoBytes
 unfolding readOf judged
 end-found NoBytes e = refl
-end-found TooFew e = absurd (let z : _≡_ {A = ℕ} 0 1 = cc in omega arith)
+end-found TooFew e = apart (cc)
 end-found (Whole r next) e = by (faultOf r) e
   where
     by : (f : ℕ) → judged f r next ≡ End → Whole r next ≡ NoBytes
-    by zero h = absurd (let z : _≡_ {A = ℕ} 0 1 = cc in omega arith)
-    by (suc f) h = absurd (let z : _≡_ {A = ℕ} 0 1 = cc in omega arith)
+    by zero h = apart (cc)
+    by (suc f) h = apart (cc)
 
 -- the end is read exactly where the piece has no byte at the place
 pub read-end-at : (s : List ℕ) (at : ℕ) → readAt s at ≡ End → length s ≤ at
@@ -161,8 +162,8 @@ read-file y p = file-at y (omega arith) p
 wrote : (a b : Bool) (k f n : ℕ) → Written n ≡ pick a (pick b (Written k) (Refused 15)) (Refused f) → (a ≡ true) × (b ≡ true) × (n ≡ k)
 unfolding pick
 wrote true true k f n e = (refl, refl, cc)
-wrote true false k f n e = absurd (let z : _≡_ {A = ℕ} 0 1 = cc in omega arith)
-wrote false b k f n e = absurd (let z : _≡_ {A = ℕ} 0 1 = cc in omega arith)
+wrote true false k f n e = apart (cc)
+wrote false b k f n e = apart (cc)
 
 -- what a call of the writer wrote reads back from the room's start
 pub room-reads : (r : Record) (room after : List ℕ) (n : ℕ) → WordsFit r → Writes r room (Written n) after → readAt after 0 ≡ Good r n
