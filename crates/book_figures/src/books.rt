@@ -1,8 +1,8 @@
 // Books to ask about, made as values.
-use book::rows;
 use rows::Book;
 use rows::Kinds;
 use rows::Row;
+use rows::words;
 
 // The amount in one kind: 0 cash, 1 fixed deposits, 2 bank guarantees, 3 government securities.
 pub fn kinds(kind: u8, n: u64) -> Kinds {
@@ -35,18 +35,18 @@ pub fn kinds(kind: u8, n: u64) -> Kinds {
 }
 
 pub fn with_kinds(r: Row, kind: u8, received: u64, allocated: u64) -> Row {
-    let full = rows::with_received(r, kinds(kind, received));
-    rows::with_allocated(full, kinds(kind, allocated))
+    let full = words::with_received(r, kinds(kind, received));
+    words::with_allocated(full, kinds(kind, allocated))
 }
 
 // A live account with all of its collateral in allocated cash.
 fn account(code: u8, tm: u16, amount: u64, margin: u64) -> Row {
-    let r = with_kinds(rows::opened_row(code, tm), 0, amount, amount);
-    rows::with_margin(r, margin)
+    let r = with_kinds(words::opened_row(code, tm), 0, amount, amount);
+    words::with_margin(r, margin)
 }
 
 pub fn retired(code: u8, tm: u16) -> Row {
-    rows::with_live(rows::opened_row(code, tm), false)
+    words::with_live(words::opened_row(code, tm), false)
 }
 
 // The book with row i put anew.
@@ -74,7 +74,7 @@ pub fn annexure(a: u64, b: u64) -> Book {
 
 // 255 TMs under the CM.
 pub fn full() -> Book {
-    let tm = rows::opened_row(1, 0);
+    let tm = words::opened_row(1, 0);
     let mut b = book::fresh();
     b.count = 256;
     let mut i: usize = 1;

@@ -1,10 +1,10 @@
 // Books that break one sentence of 'A sound book' each, beside the nearest sound ones.
 use crate::books;
 use crate::print;
-use book::rows;
 use rows::Book;
 use rows::CEILING;
 use rows::Row;
+use rows::words;
 
 fn sound(name: &[u8], b: Book) {
     print::text(name);
@@ -43,22 +43,22 @@ fn top(name: &[u8], r: Row) {
 
 // "account 0 is the CM and live"
 fn tops() {
-    top(b"account 0 the CM", rows::opened_row(0, 0));
-    top(b"account 0 a TM", rows::opened_row(1, 0));
-    top(b"account 0 with a TM word", rows::opened_row(0, 1));
+    top(b"account 0 the CM", words::opened_row(0, 0));
+    top(b"account 0 a TM", words::opened_row(1, 0));
+    top(b"account 0 with a TM word", words::opened_row(0, 1));
     top(b"account 0 retired", books::retired(0, 0));
 }
 
 // "rows beyond the number are all zero"
 fn spare() {
-    beyond(b"row 4 of 4 all zero", rows::no_row());
-    beyond(b"row 4 of 4 live", rows::opened_row(0, 0));
+    beyond(b"row 4 of 4 all zero", words::no_row());
+    beyond(b"row 4 of 4 live", words::opened_row(0, 0));
     beyond(b"row 4 of 4 a TM", books::retired(1, 0));
     beyond(b"row 4 of 4 with a TM word", books::retired(0, 1));
 }
 
 fn spare_amounts() {
-    let zero = rows::no_row();
+    let zero = words::no_row();
     beyond(
         b"row 4 of 4 with received 1",
         books::with_kinds(zero, 3, 1, 0),
@@ -67,12 +67,12 @@ fn spare_amounts() {
         b"row 4 of 4 with allocated 1",
         books::with_kinds(zero, 0, 0, 1),
     );
-    beyond(b"row 4 of 4 with pledged 1", rows::with_pledged(zero, 1));
-    beyond(b"row 4 of 4 with margin 1", rows::with_margin(zero, 1));
+    beyond(b"row 4 of 4 with pledged 1", words::with_pledged(zero, 1));
+    beyond(b"row 4 of 4 with margin 1", words::with_margin(zero, 1));
 }
 
 fn sort(name: &[u8], code: u8, tm: u16) {
-    fifth(name, rows::opened_row(code, tm));
+    fifth(name, words::opened_row(code, tm));
 }
 
 // "Every other account is a TM, a CP, or a client"
@@ -104,20 +104,24 @@ fn family(name: &[u8], tm: Row, client: Row) {
 }
 
 fn families() {
-    let tm = rows::opened_row(1, 0);
-    family(b"a client of a live TM", tm, rows::opened_row(2, 1));
+    let tm = words::opened_row(1, 0);
+    family(b"a client of a live TM", tm, words::opened_row(2, 1));
     family(
         b"a client of a CP",
-        rows::opened_row(3, 0),
-        rows::opened_row(2, 1),
+        words::opened_row(3, 0),
+        words::opened_row(2, 1),
     );
-    family(b"a client before its TM", rows::opened_row(2, 2), tm);
+    family(b"a client before its TM", words::opened_row(2, 2), tm);
 }
 
 // "A live client's TM is live."
 fn retired_families() {
     let tm = books::retired(1, 0);
-    family(b"a live client of a retired TM", tm, rows::opened_row(2, 1));
+    family(
+        b"a live client of a retired TM",
+        tm,
+        words::opened_row(2, 1),
+    );
     family(
         b"a retired client of a retired TM",
         tm,
@@ -125,7 +129,7 @@ fn retired_families() {
     );
     family(
         b"a retired client of a live TM",
-        rows::opened_row(1, 0),
+        words::opened_row(1, 0),
         books::retired(2, 1),
     );
 }
@@ -139,14 +143,14 @@ fn retirements() {
         b"retired with received 1 and allocated 1",
         books::with_kinds(r, 2, 1, 1),
     );
-    fifth(b"retired with pledged 1", rows::with_pledged(r, 1));
-    fifth(b"retired with margin 1", rows::with_margin(r, 1));
+    fifth(b"retired with pledged 1", words::with_pledged(r, 1));
+    fifth(b"retired with margin 1", words::with_margin(r, 1));
 }
 
 fn kind(name: &[u8], kind: u8, received: u64, allocated: u64) {
     fifth(
         name,
-        books::with_kinds(rows::opened_row(3, 0), kind, received, allocated),
+        books::with_kinds(words::opened_row(3, 0), kind, received, allocated),
     );
 }
 
@@ -171,10 +175,10 @@ fn allocated() {
 
 // A CP whose collateral meets its margin.
 fn pledge(name: &[u8], pledged: u64, margin: u64) {
-    let r = books::with_kinds(rows::opened_row(3, 0), 0, CEILING, CEILING);
+    let r = books::with_kinds(words::opened_row(3, 0), 0, CEILING, CEILING);
     fifth(
         name,
-        rows::with_margin(rows::with_pledged(r, pledged), margin),
+        words::with_margin(words::with_pledged(r, pledged), margin),
     );
 }
 

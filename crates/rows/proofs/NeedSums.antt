@@ -10,10 +10,11 @@ use lib.ListN.{length, getD, set}
 use lib.Seq.{getD-set-same, getD-set-other}
 use borrow.Author.Tests.{eq-eqb, ne-eqb, lt-ltb, le-ltb}
 use Rattle.sums.specs.Sum.{sum, only}
+use Rattle.sums.proofs.Choices.{pick-no}
 use Rattle.sums.proofs.Sums.{sum-step, sum-most, only-most}
 use Rattle.rows.specs.declared.Row.{Row}
 use Rattle.rows.specs.declared.Book.{Book}
-use Rattle.rows.specs.View.{View, isClientOf, ownDeemed, deemedOf, deemedTM, needTM, needCM, members}
+use Rattle.rows.specs.View.{View, isCM, isTM, isClientOf, ownDeemed, deemedOf, freeOf, deemedTM, needTM, needCM, need, members, free}
 use Rattle.rows.specs.Rows.{ceiling, collateral, rowAt, view}
 use Rattle.rows.specs.Ranges.{InRange}
 use Rattle.rows.specs.Inner.{Ranged, Slot, clientDue, memberDue, clientsBelow, membersBelow}
@@ -77,6 +78,15 @@ need-cm-sum b = refl
 pub need-tm-sum : (b : Book) (t : ℕ) → needTM (view b) t ≡ rowAt b t .margin + clientsBelow (view b) t (b .count)
 unfolding needTM clientsBelow
 need-tm-sum b t = refl
+
+-- "for a client or CP, its margin"
+pub need-own : (v : View) (i : ℕ) → 1 < v .code i → need v i ≡ v .margin i
+unfolding need
+need-own v i l =
+    pick-no (isCM v i) _ _ (ne-eqb (v .code i) 0 (λ e. omega arith)) ∙ pick-no (isTM v i) _ _ (ne-eqb (v .code i) 1 (λ e. omega arith))
+
+pub free-own : (v : View) (i : ℕ) → 1 < v .code i → free v i ≡ freeOf (v .margin i) (v .collateral i)
+free-own v i l = ap (λ (n : ℕ). freeOf n (v .collateral i)) (need-own v i l)
 
 -- one place of a list has d more
 pub add-at : (l : List ℕ) (s d t : ℕ) → s < length l → getD (set l s (getD l s 0 + d)) t 0 ≡ getD l t 0 + only (eqb s t) d

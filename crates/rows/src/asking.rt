@@ -2,24 +2,37 @@
 ghost use mathlib.Core.Path.{_≡_};
 ghost use Prim.Native.Nat.{ℕ, _≤_, _<_};
 ghost use lib.Dec.{leb};
-ghost use Rattle.rows.specs.View.{free, needCM};
+ghost use Rattle.rows.specs.View.{freeOf, free, needCM};
 ghost use Rattle.rows.specs.Rows.{ceiling, rowAt, collateral, view, withMargin, withRow, hasLiveClient};
 ghost use Rattle.rows.specs.Ranges.{InRange};
 ghost use Rattle.rows.specs.Inner.{Ranged, Collaterals};
 use super::Book;
+use super::Row;
 use super::needs::blocked_of;
 use super::needs::collateral_of;
 use super::needs::need_cm;
 use super::needs::need_of;
 use super::needs::zeros;
 
+// A client's or CP's free collateral, whose need is its margin: by its row alone, so that the table stays where it is.
+pub fn own_free(r: Row) -> u64
+    requires { ⌜ InRange r ⌝ }
+    ensures { λ x. ⌜ x ≡ freeOf (r .margin) (collateral r) ⌝ }
+{
+    let c = collateral_of(r);
+    c - blocked_of(r.margin, c)
+}
+
 pub fn free_of(b: Book, account: usize) -> u64
     requires { ⌜ Ranged b × (account < b .count) ⌝ }
     ensures { λ r. ⌜ r ≡ free (view b) account ⌝ }
 {
-    let n = need_of(b, account);
-    let c = collateral_of(b.rows[account]);
-    c - blocked_of(n, c)
+    let r = b.rows[account];
+    if r.code > 1 {
+        return own_free(r);
+    }
+    let c = collateral_of(r);
+    c - blocked_of(need_of(b, account), c)
 }
 
 // "after the new margin the CM's need would pass its collateral": whether it would not.
