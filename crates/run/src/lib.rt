@@ -6,7 +6,7 @@ ghost use Prim.Native.Nat.{_+_, _*_, _≤_, min, _/_};
 ghost use lib.ListN.{length};
 ghost use Rattle.sums.specs.Choice.{pick};
 ghost use Rattle.book.specs.Sound.{Sound};
-ghost use Rattle.run.specs.Runs.{runOf, ranOf};
+ghost use Rattle.run.specs.Runs.{closed, runOf, ranOf};
 ghost use Rattle.run.specs.Told.{toldOf, roomFor};
 ghost use Rattle.run.specs.Inner.{putFive, tellOf, refusalBy, givenBy, carriedBy};
 use dayfile::Found;
@@ -152,4 +152,42 @@ fn run(b: Book, piece: &[u8], most: u64, room: &mut [u16], tell: bool) -> Ran
         read,
         done,
     }
+}
+
+fn unsound(b: Book) -> Ran
+    ensures { λ r. ⌜ r ≡ closed Closing.Unsound b 0 0 0 ⌝ }
+{
+    Ran {
+        book: b,
+        place: 0,
+        closing: Closing::Unsound,
+        read: 0,
+        done: 0,
+    }
+}
+
+// The records of a piece from its start, up to a stated number.
+pub fn day(b: Book, piece: &[u8], most: u64) -> Ran
+    ensures { λ r. ⌜ r ≡ ranOf b (now (piece .entry)) most ⌝ }
+{
+    if !book::is_sound(b) {
+        return unsound(b);
+    }
+    let mut nowhere = [0u16; 1];
+    run(b, piece, most, &mut nowhere, false)
+}
+
+// The same, with each record's numbers put into a lent room, as far as there is room for five of each.
+pub fn day_told(b: Book, piece: &[u8], most: u64, room: &mut [u16]) -> Ran
+    ensures { λ r. ⌜ r ≡ ranOf b (now (piece .entry)) (roomFor most (now (room .entry))) ⌝ }
+    ensures { λ r. ⌜ now (room .exit) ≡ toldOf b (now (piece .entry)) most (now (room .entry)) ⌝ }
+{
+    if !book::is_sound(b) {
+        return unsound(b);
+    }
+    let fit = room.len() as u64 / 5;
+    if most < fit {
+        return run(b, piece, most, room, true);
+    }
+    run(b, piece, fit, room, true)
 }
