@@ -1,3 +1,4 @@
+-- `book::fresh` meets its contract.
 use borrow.Author.Needs.{needs}
 use Rattle.rows.specs.Rows.{freshBook}
 use Rattle.book.proofs.fresh.Statement.{statement}

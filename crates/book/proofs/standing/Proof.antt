@@ -1,3 +1,4 @@
+-- `book::standing` meets its contract.
 use mathlib.Core.Bool.{true, and-false}
 use mathlib.Core.Path.{_≡_, sym, _∙_}
 use native.Mathlib.Omega.{arith}

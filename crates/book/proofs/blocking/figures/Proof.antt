@@ -1,3 +1,4 @@
+-- `book::blocking::figures` meets its contract.
 use borrow.Author.Needs.{needs}
 use Rattle.book.proofs.blocking.figures.Statement.{statement}
 use Rattle.book.proofs.blocking.figures.Tie as tie

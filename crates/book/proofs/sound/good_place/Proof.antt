@@ -1,3 +1,4 @@
+-- `book::sound::good_place` meets its contract.
 use borrow.Author.Needs.{needs}
 use borrow.Author.Tests.{eq-eqb, ne-eqb}
 use Rattle.sums.proofs.Choices.{pass, stop}

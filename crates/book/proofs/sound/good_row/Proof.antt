@@ -1,3 +1,4 @@
+-- `book::sound::good_row` meets its contract.
 use borrow.Author.Needs.{needs}
 use borrow.Author.Tests.{lt-ltb, le-ltb}
 use Rattle.sums.proofs.Choices.{pass, stop}

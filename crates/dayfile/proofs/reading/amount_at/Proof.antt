@@ -1,3 +1,4 @@
+-- `dayfile::reading::amount_at` meets its contract.
 use mathlib.Core.Path.{sym, _∙_}
 use Rattle.dayfile.proofs.Amounts.{got-named, got-unnamed}
 use borrow.Author.Needs.{needs}

@@ -1,3 +1,4 @@
+-- `dayfile::reading::number2` meets its contract.
 use Prim.Native.Nat.{_+_}
 use native.Mathlib.Omega.{arith}
 use Rattle.dayfile.proofs.Numbers.{number-two}

@@ -1,3 +1,4 @@
+-- `dayfile::reading::number4` meets its contract.
 use mathlib.Core.Path.{sym}
 use denote.Ref.{now}
 use Rattle.dayfile.proofs.Numbers.{number-at}

@@ -1,3 +1,4 @@
+-- `dayfile::reading::read_at` meets its contract.
 use mathlib.Core.Path.{sym, _∙_}
 use Rattle.dayfile.proofs.Looking.{read-end, read-cut, read-good, read-bad}
 use borrow.Author.Needs.{needs}

@@ -1,3 +1,4 @@
+-- `dayfile::reading::record_at` meets its contract.
 use native.Mathlib.Omega.{arith}
 use denote.Ref.{now}
 use Rattle.dayfile.proofs.Marks.{ones-bits}

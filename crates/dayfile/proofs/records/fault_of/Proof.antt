@@ -1,3 +1,4 @@
+-- `dayfile::records::fault_of` meets its contract.
 use mathlib.Core.Path.{_≡_, refl, sym, _∙_}
 use mathlib.Core.List.{[]}
 use Rattle.sums.specs.Table.{first}

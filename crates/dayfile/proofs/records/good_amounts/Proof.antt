@@ -1,3 +1,4 @@
+-- `dayfile::records::good_amounts` meets its contract.
 use borrow.Author.Needs.{needs}
 use Rattle.dayfile.proofs.records.good_amounts.Statement.{statement}
 use Rattle.dayfile.proofs.records.good_amounts.Tie as tie

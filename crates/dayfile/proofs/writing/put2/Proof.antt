@@ -1,3 +1,4 @@
+-- `dayfile::writing::put2` meets its contract.
 use native.Mathlib.Omega.{arith}
 use lib.ListN.{length-set}
 use Rattle.dayfile.proofs.Rooms.{sets-two}

@@ -1,3 +1,4 @@
+-- `dayfile::writing::put4` meets its contract.
 use Rattle.dayfile.proofs.Rooms.{sets-both}
 use borrow.Author.Needs.{needs}
 use Rattle.dayfile.proofs.writing.put4.Statement.{statement}

@@ -1,3 +1,4 @@
+-- `dayfile::writing::put_amount` meets its contract.
 use mathlib.Core.Path.{ap}
 use native.Mathlib.Omega.{arith}
 use lib.ListN.{length}

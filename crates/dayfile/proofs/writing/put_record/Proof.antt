@@ -1,3 +1,4 @@
+-- `dayfile::writing::put_record` meets its contract.
 use native.Mathlib.Omega.{arith}
 use lib.ListN.{length-set}
 use Rattle.dayfile.specs.Written.{bodyOf, writtenOf}

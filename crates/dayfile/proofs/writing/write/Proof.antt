@@ -1,3 +1,4 @@
+-- `dayfile::writing::write` meets its contract.
 use mathlib.Core.Path.{_≡_, _∙_, sym}
 use native.Mathlib.Omega.{arith}
 use denote.Ref.{now}

@@ -1,3 +1,4 @@
+-- `dayfile_cases::codes::read_marks` meets its contract.
 use Prim.Native.Nat.{_≤_, _-_}
 use borrow.Author.Needs.{needs}
 use Rattle.dayfile_cases.proofs.codes.read_marks.Statement.{statement}

@@ -1,3 +1,4 @@
+-- `dayfile_cases::example::hex` meets its contract.
 use Prim.Native.Nat.{_≤_, _-_}
 use lib.ListN.{length}
 use borrow.Author.Needs.{needs}

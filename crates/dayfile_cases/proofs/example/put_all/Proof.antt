@@ -1,3 +1,4 @@
+-- `dayfile_cases::example::put_all` meets its contract.
 use mathlib.Core.Path.{_≡_}
 use Prim.Native.Nat.{_≤_, _-_}
 use lib.ListN.{length}

@@ -1,3 +1,4 @@
+-- `dayfile_cases::example::read_all` meets its contract.
 use mathlib.Core.Path.{sym, _∙_}
 use native.Mathlib.Omega.{arith}
 use Rattle.dayfile.proofs.Places.{next-least, next-within}

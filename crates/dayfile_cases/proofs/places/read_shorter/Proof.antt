@@ -1,3 +1,4 @@
+-- `dayfile_cases::places::read_shorter` meets its contract.
 use Prim.Native.Nat.{_≤_, _-_}
 use borrow.Author.Needs.{needs}
 use Rattle.dayfile_cases.proofs.places.read_shorter.Statement.{statement}

@@ -1,3 +1,4 @@
+-- `dayfile_cases::rooms::all_rooms` meets its contract.
 use Prim.Native.Nat.{_≤_, _-_}
 use borrow.Author.Needs.{needs}
 use Rattle.dayfile_cases.proofs.rooms.all_rooms.Statement.{statement}

@@ -1,3 +1,4 @@
+-- `dayfile_cases::rooms::kept_from` meets its contract.
 use Prim.Native.Nat.{_-_}
 use lib.ListN.{length}
 use borrow.Author.Needs.{needs}

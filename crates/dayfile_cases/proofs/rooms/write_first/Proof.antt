@@ -1,3 +1,4 @@
+-- `dayfile_cases::rooms::write_first` meets its contract.
 use mathlib.Core.Path.{sym}
 use lib.Seq.{length-take-le}
 use borrow.Author.Needs.{needs}

@@ -1,3 +1,4 @@
+-- `rows::asking::free_of` meets its contract.
 use mathlib.Core.Path.{sym, _∙_}
 use Rattle.rows.specs.Rows.{view}
 use Rattle.rows.proofs.NeedSums.{free-own}

@@ -1,3 +1,4 @@
+-- `rows::needs::client_due` meets its contract.
 use borrow.Author.Needs.{needs}
 use Rattle.rows.proofs.needs.client_due.Statement.{statement}
 use Rattle.rows.proofs.needs.client_due.Tie as tie

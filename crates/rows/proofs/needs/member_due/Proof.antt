@@ -1,3 +1,4 @@
+-- `rows::needs::member_due` meets its contract.
 use native.Mathlib.Omega.{arith}
 use lib.Dec.{eqb}
 use Rattle.sums.proofs.Sums.{only-most}

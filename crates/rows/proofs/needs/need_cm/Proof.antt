@@ -1,3 +1,4 @@
+-- `rows::needs::need_cm` meets its contract.
 use native.Mathlib.Omega.{arith}
 use borrow.Author.Needs.{needs}
 use Rattle.rows.proofs.NeedSums.{members-top, need-cm-sum}

@@ -1,3 +1,4 @@
+-- `rules::kinds::less_kinds` meets its contract.
 use borrow.Author.Needs.{needs}
 use Rattle.rules.proofs.kinds.less_kinds.Statement.{statement}
 use Rattle.rules.proofs.kinds.less_kinds.Tie as tie

@@ -1,3 +1,4 @@
+-- `rules::refusals::beyond_free` meets its contract.
 use borrow.Author.Needs.{needs}
 use Rattle.rules.proofs.refusals.beyond_free.Statement.{statement}
 use Rattle.rules.proofs.refusals.beyond_free.Tie as tie

@@ -1,3 +1,4 @@
+-- `rules::refusals::not_retirable` meets its contract.
 use borrow.Author.Needs.{needs}
 use Rattle.rules.proofs.refusals.not_retirable.Statement.{statement}
 use Rattle.rules.proofs.refusals.not_retirable.Tie as tie

@@ -1,3 +1,4 @@
+-- `rules::refusals::past_ceiling` meets its contract.
 use borrow.Author.Needs.{needs}
 use Rattle.rules.proofs.refusals.past_ceiling.Statement.{statement}
 use Rattle.rules.proofs.refusals.past_ceiling.Tie as tie

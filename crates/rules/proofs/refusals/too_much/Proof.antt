@@ -1,3 +1,4 @@
+-- `rules::refusals::too_much` meets its contract.
 use borrow.Author.Needs.{needs}
 use Rattle.rules.proofs.refusals.too_much.Statement.{statement}
 use Rattle.rules.proofs.refusals.too_much.Tie as tie
