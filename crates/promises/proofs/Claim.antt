@@ -1,0 +1,57 @@
+-- P1 to P11, by one claim over the list.
+use mathlib.Core.List.{List}
+use mathlib.Core.Path.{_≡_, refl, sym, ap, _∙_}
+use Prim.Native.Nat.{ℕ}
+use lib.Count.{ones, onesIn}
+use Rattle.sums.specs.Sum.{sum, all}
+use Rattle.sums.specs.Choice.{pick}
+use Rattle.sums.specs.Table.{first}
+use Rattle.rows.specs.declared.Book.{Book}
+use Rattle.rows.specs.View.{needTM, needCM, need}
+use Rattle.rows.specs.Rows.{freshBook, hasLiveClient}
+use Rattle.book.proofs.FreshSound.{fresh-sound, fresh-test}
+use Rattle.dayfile.specs.declared.Record.{Record}
+use Rattle.dayfile.specs.declared.Found.{Found}
+use Rattle.dayfile.specs.declared.Found.the-variants.{End as NoBytes, Cut as TooFew, Whole}
+use Rattle.dayfile.specs.Bytes.{number}
+use Rattle.dayfile.specs.Records.{faultOf}
+use Rattle.dayfile.specs.Reading.{got, past, recordOf, foundFrom, foundAt}
+use Rattle.rules.specs.Effects.{amended}
+use Rattle.rules.specs.Inner.{refusalBy, changeBy}
+use Rattle.desk.specs.declared.Outcome.the-variants.{Refused, End}
+use Rattle.desk.specs.declared.Done.{Done}
+use Rattle.desk.specs.declared.Next.{Next}
+use Rattle.desk.specs.Answers.{nobody}
+use Rattle.desk.specs.Steps.{stepOf, onFound, nextOf}
+use Rattle.desk.proofs.Doing.{sound-next}
+use Rattle.closeout.specs.Columns.{fromTM, asked, fromCM, uncovered, four}
+use Rattle.promises.specs.Sequences.{afterAll}
+use Rattle.promises.specs.Figures.{cases, expected}
+use Rattle.promises.proofs.Quick.{quickStep, quick-step, all-sound, quickAll, quick-all}
+
+-- the three ways to carry out, quickly
+abbrev quickRead : Found → Next
+quickRead NoBytes = record { answer = nobody End; book = freshBook; place = 0 }
+quickRead TooFew = record { answer = nobody (Refused 2); book = freshBook; place = 0 }
+quickRead (Whole r next) = record { answer = quickStep freshBook r .answer; book = quickStep freshBook r .book; place = next }
+
+after-same : (rs : List Record) → afterAll freshBook rs ≡ quickAll freshBook rs
+after-same rs = quick-all freshBook rs fresh-sound
+
+more-same : (rs : List Record) (r : Record) → stepOf (afterAll freshBook rs) r ≡ quickStep (quickAll freshBook rs) r
+more-same rs r = quick-step (afterAll freshBook rs) r (all-sound freshBook rs fresh-sound) ∙ ap (λ b. quickStep b r) (after-same rs)
+
+read-same : (s : List ℕ) → nextOf freshBook s 0 ≡ quickRead (foundAt s 0)
+read-same s = sym (sound-next freshBook s 0 (foundAt s 0) fresh-test refl) ∙ by (foundAt s 0)
+  where
+    by : (f : Found) → onFound freshBook 0 f ≡ quickRead f
+    by NoBytes = refl
+    by TooFew = refl
+    by (Whole r next) = ap (λ d. record { answer = d .answer; book = d .book; place = next }) (quick-step freshBook r fresh-sound)
+
+quickly : cases (quickAll freshBook) (λ rs r. quickStep (quickAll freshBook rs) r) (λ s. quickRead (foundAt s 0)) ≡ expected
+unfolding cases expected quickAll changeBy amended refusalBy first pick sum all needTM needCM need hasLiveClient freshBook faultOf foundAt foundFrom recordOf number got past ones onesIn four fromTM asked fromCM uncovered
+quickly = refl
+
+pub figures : cases (afterAll freshBook) (λ rs r. stepOf (afterAll freshBook rs) r) (λ s. nextOf freshBook s 0) ≡ expected
+figures = (λ i. cases (λ rs. after-same rs i) (λ rs r. more-same rs r i) (λ s. read-same s i)) ∙ quickly

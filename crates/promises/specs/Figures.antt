@@ -1,0 +1,136 @@
+-- Document 01, 'Figures to hold against it': P1 to P11, in paise, by records carried out from a fresh book.
+use mathlib.Core.List.{List, [], _∷_, _++_}
+use Prim.Native.Nat.{ℕ, zero, suc, _+_}
+use lib.ListN.{getD, replicate}
+use Rattle.rows.specs.declared.Kinds.{Kinds}
+use Rattle.rows.specs.declared.Book.{Book}
+use Rattle.rows.specs.View.{blocked, deemed}
+use Rattle.rows.specs.Rows.{noKinds, view}
+use Rattle.dayfile.specs.declared.Record.{Record}
+use Rattle.dayfile.specs.Reading.{sizeOf}
+use Rattle.desk.specs.Answers.{refusalIn}
+use Rattle.desk.specs.declared.Done.{Done}
+use Rattle.desk.specs.declared.Next.{Next}
+use Rattle.closeout.specs.Columns.{four, total, beyond}
+use Rattle.closeout.specs.Closing.{lossAt}
+use Rattle.sums.specs.Sum.{sum}
+
+-- records: openings name the CM or the TM; receive, allocate and release of cash; a margin
+abbrev opening : ℕ → ℕ → ℕ → Record
+opening serial code account = record { serial = serial; code = code; named = 0; account = account; kinds = noKinds; pledged = 0; margin = 0 }
+
+abbrev cash : ℕ → ℕ → ℕ → ℕ → Record
+cash serial code account amount = record {
+  serial = serial;
+  code = code;
+  named = 1;
+  account = account;
+  kinds = record { cash = amount; deposits = 0; guarantees = 0; securities = 0 };
+  pledged = 0;
+  margin = 0;
+}
+
+abbrev margin : ℕ → ℕ → ℕ → Record
+margin serial account amount = record { serial = serial; code = 10; named = 32; account = account; kinds = noKinds; pledged = 0; margin = amount }
+
+-- "CM 1000, TM-1 500, its clients A 300 and B 300", "all of it allocated cash": accounts 0, 1, 2, 3
+abbrev start : List Record
+start =
+    opening 0 1 0
+    ∷ opening 1 2 1
+    ∷ opening 2 2 1
+    ∷ cash 3 4 0 100000
+    ∷ cash 4 6 0 100000
+    ∷ cash 5 4 1 50000
+    ∷ cash 6 6 1 50000
+    ∷ cash 7 4 2 30000
+    ∷ cash 8 6 2 30000
+    ∷ cash 9 4 3 30000
+    ∷ cash 10 6 3 30000
+    ∷ []
+
+-- "P1 B's margin 100"; "P2 then A's 600"; "P3 then B's 600"; "P4 then B's 900"; "P5 then B's 1500"
+abbrev atP1 : List Record
+atP1 = start ++ (margin 11 3 10000 ∷ [])
+
+abbrev atP2 : List Record
+atP2 = atP1 ++ (margin 12 2 60000 ∷ [])
+
+abbrev atP3 : List Record
+atP3 = atP2 ++ (margin 13 3 60000 ∷ [])
+
+abbrev atP4 : List Record
+atP4 = atP3 ++ (margin 14 3 90000 ∷ [])
+
+abbrev atP5 : List Record
+atP5 = atP4 ++ (margin 15 3 150000 ∷ [])
+
+-- f of CM, TM-1, A and B
+abbrev each : (ℕ → ℕ) → List ℕ
+each f = f 0 ∷ f 1 ∷ f 2 ∷ f 3 ∷ []
+
+-- code 4, second mark byte 0xFF, serial 0, and zeros: n + 2 bytes
+abbrev full : ℕ → List ℕ
+full n = 4 ∷ 255 ∷ replicate n 0
+
+-- by a way to carry out: the book after records from a fresh book, one record more after them, and what stands at the
+-- start of some bytes at a fresh book
+module _ (after : List Record → Book) (more : List Record → Record → Done) (read : List ℕ → Next) where
+  abbrev blockedAfter : List Record → List ℕ
+  blockedAfter rs = each (blocked (view (after rs)))
+
+  abbrev deemedAfter : List Record → List ℕ
+  deemedAfter rs = each (deemed (view (after rs)))
+
+  -- the refusal, or 0, of one record more
+  abbrev refusalAfter : List Record → Record → List ℕ
+  refusalAfter rs r = refusalIn (more rs r .answer .outcome) ∷ []
+
+  -- a close-out's four amounts for A and for B, the total, and the losses beyond margins
+  abbrev closedAfter : List Record → List ℕ → List ℕ
+  closedAfter rs losses =
+      let v = view (after rs) in
+      four v (lossAt losses) 2 ++ (four v (lossAt losses) 3 ++ (total v (lossAt losses) ∷ sum (v .count) (beyond v (lossAt losses)) ∷ []))
+
+  abbrev refusalRead : List ℕ → List ℕ
+  refusalRead s = refusalIn (read s .answer .outcome) ∷ []
+
+  unfoldable pub cases : List (List ℕ)
+  cases =
+      blockedAfter atP1
+      ∷ blockedAfter atP2
+      ∷ blockedAfter atP3
+      ∷ blockedAfter atP4
+      ∷ deemedAfter atP4
+      ∷ refusalAfter atP4 (margin 15 3 150000)
+      ∷ blockedAfter atP5
+      ∷ refusalAfter atP4 (margin 15 3 150001)
+      ∷ closedAfter atP4 (0 ∷ 0 ∷ 60000 ∷ 90000 ∷ [])
+      ∷ closedAfter atP4 (0 ∷ 0 ∷ 120000 ∷ 120000 ∷ [])
+      ∷ refusalAfter atP1 (cash 12 7 3 20000)
+      ∷ refusalAfter atP1 (cash 12 7 3 20001)
+      ∷ refusalAfter atP1 (margin 12 2 0)
+      ∷ (sizeOf 255 ∷ [])
+      ∷ refusalRead (full 67)
+      ∷ refusalRead (full 68)
+      ∷ []
+
+unfoldable pub expected : List (List ℕ)
+expected =
+    (0 ∷ 0 ∷ 0 ∷ 10000 ∷ [])  -- P1: B blocked 100, TM-1 0, CM 0
+    ∷ (0 ∷ 30000 ∷ 30000 ∷ 10000 ∷ [])  -- P2: A 300, TM-1 300, CM 0
+    ∷ (10000 ∷ 50000 ∷ 30000 ∷ 30000 ∷ [])  -- P3: TM-1 500, CM 100
+    ∷ (40000 ∷ 50000 ∷ 30000 ∷ 30000 ∷ [])  -- P4: TM-1 500, CM 400
+    ∷ (0 ∷ 40000 ∷ 30000 ∷ 60000 ∷ [])  -- P4: A deemed 300, B 600, TM-1 400
+    ∷ (0 ∷ [])  -- P5: carried out
+    ∷ (100000 ∷ 50000 ∷ 30000 ∷ 30000 ∷ [])  -- P5: CM blocked 1000
+    ∷ (13 ∷ [])  -- P6: B's 1500.01 instead: 13
+    ∷ (30000 ∷ 30000 ∷ 0 ∷ 0 ∷ 30000 ∷ 20000 ∷ 40000 ∷ 0 ∷ 0 ∷ 0 ∷ [])  -- P7: A 300, 300, 0, 0; B 300, 200, 400, 0
+    ∷ (30000 ∷ 50000 ∷ 40000 ∷ 0 ∷ 30000 ∷ 0 ∷ 60000 ∷ 30000 ∷ 30000 ∷ 90000 ∷ [])  -- P8: A 300, 500, 400, 0; B 300, 0, 600, 300; bound 900
+    ∷ (0 ∷ [])  -- P9: B may release 200
+    ∷ (12 ∷ [])  -- P9: and not 200.01
+    ∷ (0 ∷ [])  -- P10: margin 0 where it is 0 already: carried out
+    ∷ (70 ∷ [])  -- P11: 70 bytes long
+    ∷ (2 ∷ [])  -- P11: 69 bytes give 2
+    ∷ (5 ∷ [])  -- P11: 70 with the right serial and code 4 give 5
+    ∷ []
