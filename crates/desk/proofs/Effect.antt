@@ -1,0 +1,86 @@
+-- What a record does to the book: nothing, the serial alone, or one row and the serial.
+use mathlib.Core.Bool.{Bool, true, false}
+use mathlib.Core.List.{List, [], _∷_}
+use mathlib.Core.Path.{_≡_, refl, sym, ap, _∙_}
+use Prim.Native.Nat.{ℕ, zero, suc, _+_, _≤_, _<_}
+use native.Mathlib.Omega.{arith}
+use lib.Dec.{leb, eqb}
+use borrow.Author.Tests.{le-leb, lt-leb}
+use Rattle.sums.specs.Choice.{pick}
+use Rattle.sums.specs.Table.{Given}
+use Rattle.sums.proofs.Choices.{pick-yes, pick-no}
+use Rattle.sums.proofs.Tables.{given-first, first-given}
+use Rattle.rows.specs.declared.Row.{Row}
+use Rattle.rows.specs.declared.Book.{Book}
+use Rattle.rows.specs.Rows.{rowAt, openedRow, withRow, withNew}
+use Rattle.book.specs.Sound.{Sound}
+use Rattle.book.proofs.OneRow.{row-other, below}
+use Rattle.book.proofs.SoundAfter.{in-table}
+use Rattle.dayfile.specs.declared.Record.{Record}
+use Rattle.rules.specs.declared.Change.{Change}
+use Rattle.rules.specs.declared.Change.the-variants.{Refuse, Put, Open}
+use Rattle.rules.specs.Refusals.{isOpening, namedRow, refusals, refusalOf}
+use Rattle.rules.specs.Effects.{amended, passes, decided, changeOf, movedOn, bookAfter}
+use Rattle.rules.proofs.Passing.{Passes, passes-all}
+use Rattle.rules.proofs.SoundChange.{change-sound}
+use Rattle.desk.specs.declared.Outcome.the-variants.{CarriedOut, Opened, Refused}
+use Rattle.desk.specs.declared.Answer.{Answer}
+use Rattle.desk.specs.declared.Done.{Done}
+use Rattle.desk.specs.Answers.{refusalIn, nobody, ofRecord, answerOf}
+use Rattle.desk.specs.Steps.{doneBy, stepOf}
+use Rattle.desk.proofs.Doing.{step-by}
+
+module _ (b : Book) (r : Record) where
+  -- the change, by the number that the table gives
+  change-at : (n : ℕ) → refusalOf b r ≡ n → changeOf b r ≡ decided n (passes (namedRow b r) r)
+  unfolding changeOf
+  change-at n e = ap (λ m. decided m (passes (namedRow b r) r)) e
+
+  refused-as : (n : ℕ) → refusalOf b r ≡ suc n → stepOf b r ≡ doneBy b r (Refuse (suc n))
+  refused-as n e = sym (step-by b r (Refuse (suc n)) (change-at (suc n) e))
+
+  -- a record that no refusal meets does what its code says
+  pub passed-as : refusalOf b r ≡ 0 → stepOf b r ≡ doneBy b r (passes (namedRow b r) r)
+  passed-as e = sym (step-by b r _ (change-at 0 e))
+
+  -- the answer names the number that the table gives
+  pub answer-number : refusalIn (stepOf b r .answer .outcome) ≡ refusalOf b r
+  unfolding pick
+  answer-number = by (refusalOf b r) refl
+    where
+      by : (n : ℕ) → refusalOf b r ≡ n → refusalIn (stepOf b r .answer .outcome) ≡ n
+      by zero e = ap (λ d. refusalIn (d .answer .outcome)) (passed-as e) ∙ passing (isOpening r)
+        where
+          passing : (t : Bool) → refusalIn (answerOf (b .count) r (pick t (Open (openedRow (r .code) (r .account))) (Put (amended (namedRow b r) r))) .outcome) ≡ 0
+          passing true = refl
+          passing false = refl
+      by (suc n) e = ap (λ d. refusalIn (d .answer .outcome)) (refused-as n e) ∙ named (eqb (suc n) 1)
+        where
+          named : (t : Bool) → refusalIn (pick t (nobody (Refused (suc n))) (ofRecord r (Refused (suc n))) .outcome) ≡ suc n
+          named true = refl
+          named false = refl
+
+  -- "Refusals 1, 2 and 3 change nothing."
+  pub early-refusal : 0 < refusalOf b r → refusalOf b r ≤ 3 → stepOf b r .book ≡ b
+  early-refusal p q = by (refusalOf b r) refl p q
+    where
+      by : (n : ℕ) → refusalOf b r ≡ n → 0 < n → n ≤ 3 → stepOf b r .book ≡ b
+      by zero e h l = absurd (omega arith)
+      by (suc n) e h l = ap (λ d. d .book) (refused-as n e) ∙ pick-yes (leb (suc n) 3) _ _ (le-leb (suc n) 3 l)
+
+  -- "Refusals 4 to 14 change the serial only"
+  pub later-refusal : 3 < refusalOf b r → stepOf b r .book ≡ movedOn b
+  later-refusal p = by (refusalOf b r) refl p
+    where
+      by : (n : ℕ) → refusalOf b r ≡ n → 3 < n → stepOf b r .book ≡ movedOn b
+      by zero e h = absurd (omega arith)
+      by (suc n) e h = ap (λ d. d .book) (refused-as n e) ∙ pick-no (leb (suc n) 3) _ _ (lt-leb (suc n) 3 h)
+
+  -- "each refusal exactly when": its test holds and no earlier one does
+  pub given-exactly : (k : ℕ) → Given k (refusals b r) → refusalOf b r ≡ k
+  unfolding refusalOf
+  given-exactly k g = given-first g
+
+  pub exactly-given : (k : ℕ) → 0 < k → refusalOf b r ≡ k → Given k (refusals b r)
+  unfolding refusalOf
+  exactly-given k p e = first-given (refusals b r) k p e

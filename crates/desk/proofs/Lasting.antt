@@ -1,0 +1,95 @@
+-- What lasts: other rows, retired rows, and numbers once given.
+use mathlib.Core.Bool.{Bool, true, false}
+use mathlib.Core.Path.{_≡_, refl, sym, ap, _∙_}
+use Prim.Native.Nat.{ℕ, zero, suc, _+_, _≤_, _<_}
+use native.Mathlib.Omega.{arith}
+use native.Mathlib.Decide.{ℕ-discrete, decLe}
+use lib.Dec.{leb, eqb}
+use lib.ListN.{length}
+use borrow.Author.Tests.{leb-false}
+use Rattle.sums.specs.Choice.{pick}
+use Rattle.sums.proofs.Choices.{clash}
+use Rattle.rows.specs.declared.Row.{Row}
+use Rattle.rows.specs.declared.Book.{Book}
+use Rattle.rows.specs.Rows.{rowAt, openedRow, withRow, withNew}
+use Rattle.book.proofs.OneRow.{row-other, below}
+use Rattle.dayfile.specs.declared.Record.{Record}
+use Rattle.rules.specs.declared.Change.{Change}
+use Rattle.rules.specs.declared.Change.the-variants.{Refuse, Put, Open}
+use Rattle.rules.specs.Refusals.{isOpening, namedRow, refusalOf}
+use Rattle.rules.specs.Effects.{amended, passes, changeOf, movedOn, bookAfter}
+use Rattle.rules.proofs.Passing.{Passes, passes-all}
+use Rattle.desk.specs.declared.Outcome.{Outcome}
+use Rattle.desk.specs.declared.Outcome.the-variants.{CarriedOut, Opened, Refused}
+use Rattle.desk.specs.Answers.{givenIn, nobody, ofRecord, answerOf}
+use Rattle.desk.specs.Steps.{doneBy, stepOf}
+use Rattle.desk.proofs.Effect.{early-refusal, later-refusal, passed-as}
+
+module _ (b : Book) (r : Record) where
+  -- "A refusal changes no amount"
+  pub refusal-keeps : 0 < refusalOf b r → (stepOf b r .book .rows ≡ b .rows) × (stepOf b r .book .count ≡ b .count)
+  refusal-keeps p = by (decLe (refusalOf b r) 3)
+    where
+      by : Dec (refusalOf b r ≤ 3) → (stepOf b r .book .rows ≡ b .rows) × (stepOf b r .book .count ≡ b .count)
+      by (yes q) = let e = early-refusal b r p q in (ap (λ x. x .rows) e, ap (λ x. x .count) e)
+      by (no q) = let e = later-refusal b r (omega arith) in (ap (λ x. x .rows) e, ap (λ x. x .count) e)
+
+  -- where the record is an opening there is a number left
+  room-left : Passes b r → isOpening r ≡ true → b .count < length (b .rows)
+  room-left p e = let n : leb 256 (b .count) ≡ false = rw e at (p .number) in omega (arith, leb-false 256 (b .count) n, p .sound .table)
+
+  after : Bool → Book
+  after t = bookAfter b (r .account) (pick t (Open (openedRow (r .code) (r .account))) (Put (amended (namedRow b r) r)))
+
+  passed-book : refusalOf b r ≡ 0 → stepOf b r .book ≡ after (isOpening r)
+  unfolding after
+  passed-book e = ap (λ d. d .book) (passed-as b r e)
+
+  -- "changes one row": every other account's row stays
+  pub others-stay : (i : ℕ) → i < b .count → (i ≡ r .account → ⊥) → rowAt (stepOf b r .book) i ≡ rowAt b i
+  unfolding after pick
+  others-stay i l ne = by (refusalOf b r) refl
+    where
+      passing : Passes b r → (t : Bool) → isOpening r ≡ t → rowAt (after t) i ≡ rowAt b i
+      passing p true e = below b (openedRow (r .code) (r .account)) (room-left p e) i l
+      passing p false e = row-other b (r .account) i (amended (namedRow b r) r) ne
+
+      by : (n : ℕ) → refusalOf b r ≡ n → rowAt (stepOf b r .book) i ≡ rowAt b i
+      by zero e = ap (λ x. rowAt x i) (passed-book e) ∙ passing (passes-all b r e) (isOpening r) refl
+      by (suc n) e = ap (λ rows. rowAt (record { count = 0; serial = 0; rows = rows }) i) (refusal-keeps (omega (arith, e)) .0)
+
+  -- "A retired account keeps its row and number": its row never changes again
+  pub retired-stays : (i : ℕ) → i < b .count → rowAt b i .live ≡ false → rowAt (stepOf b r .book) i ≡ rowAt b i
+  retired-stays i l dead = by (ℕ-discrete i (r .account)) (ℕ-discrete (refusalOf b r) 0)
+    where
+      by : Dec (i ≡ r .account) → Dec (refusalOf b r ≡ 0) → rowAt (stepOf b r .book) i ≡ rowAt b i
+      by (no ne) q = others-stay i l ne
+      by (yes e) (yes z) = clash (ap (λ k. rowAt b k .live) e ∙ passes-all b r z .live) dead
+      by (yes e) (no z) = ap (λ rows. rowAt (record { count = 0; serial = 0; rows = rows }) i) (refusal-keeps (omega arith) .0)
+
+  -- the number of accounts never falls
+  pub count-stays : b .count ≤ stepOf b r .book .count
+  unfolding after pick
+  count-stays = by (refusalOf b r) refl
+    where
+      passing : (t : Bool) → b .count ≤ after t .count
+      passing true = omega arith
+      passing false = omega arith
+
+      by : (n : ℕ) → refusalOf b r ≡ n → b .count ≤ stepOf b r .book .count
+      by zero e = rw (passed-book e) (passing (isOpening r))
+      by (suc n) e = omega (arith, refusal-keeps (omega (arith, e)) .1)
+
+  -- "The next opening takes the next number."
+  pub opened-next : (n : ℕ) → stepOf b r .answer .outcome ≡ Opened n → (n ≡ b .count) × (stepOf b r .book .count ≡ n + 1)
+  unfolding stepOf pick
+  opened-next n e = by (changeOf b r) e
+    where
+      by : (c : Change) → answerOf (b .count) r c .outcome ≡ Opened n → (n ≡ b .count) × (bookAfter b (r .account) c .count ≡ n + 1)
+      by (Refuse k) h = absurd (never (eqb k 1) h)
+        where
+          never : (t : Bool) → pick t (nobody (Refused k)) (ofRecord r (Refused k)) .outcome ≡ Opened n → ⊥
+          never true q = let z : _≡_ {A = ℕ} 0 1 = cc in omega arith
+          never false q = let z : _≡_ {A = ℕ} 0 1 = cc in omega arith
+      by (Put x) h = absurd (let z : _≡_ {A = ℕ} 0 1 = cc in omega arith)
+      by (Open x) h = let k : n ≡ b .count = sym (ap givenIn h) in (k, omega arith)
