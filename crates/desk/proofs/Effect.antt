@@ -9,7 +9,7 @@ use borrow.Author.Tests.{le-leb, lt-leb}
 use Rattle.sums.specs.Choice.{pick}
 use Rattle.sums.specs.Table.{Given}
 use Rattle.sums.proofs.Choices.{pick-yes, pick-no}
-use Rattle.sums.proofs.Tables.{given-first, first-given}
+use Rattle.sums.proofs.Tables.{NoneHolds, given-first, first-given, none-gives-0, gives-0-none}
 use Rattle.rows.specs.declared.Row.{Row}
 use Rattle.rows.specs.declared.Book.{Book}
 use Rattle.rows.specs.Rows.{rowAt, openedRow, withRow, withNew}
@@ -84,3 +84,12 @@ module _ (b : Book) (r : Record) where
   pub exactly-given : (k : ℕ) → 0 < k → refusalOf b r ≡ k → Given k (refusals b r)
   unfolding refusalOf
   exactly-given k p e = first-given (refusals b r) k p e
+
+  -- a record is carried out exactly when no test of the table holds
+  pub carried-exactly : refusalOf b r ≡ 0 → NoneHolds (refusals b r)
+  unfolding refusalOf
+  carried-exactly e = gives-0-none (refusals b r) (omega arith, (omega arith, (omega arith, (omega arith, (omega arith, (omega arith, (omega arith, (omega arith, (omega arith, (omega arith, (omega arith, (omega arith, (omega arith, tt))))))))))))) e
+
+  pub exactly-carried : NoneHolds (refusals b r) → refusalOf b r ≡ 0
+  unfolding refusalOf
+  exactly-carried h = none-gives-0 (refusals b r) h

@@ -8,8 +8,8 @@ use Rattle.dayfile.specs.declared.Record.{Record}
 use Rattle.rules.specs.Refusals.{namedRow}
 use Rattle.rules.specs.Effects.{changeOf}
 use Rattle.rules.specs.Inner.{SeenOf, changeBy}
-use Rattle.rules.proofs.SoundChange.{change-sound}
 use Rattle.rules.proofs.WhatIsSeen.{toSee, change-seen}
+use Rattle.run.proofs.SoundRun.{step-sound}
 use Rattle.desk.specs.declared.Done.{Done}
 use Rattle.desk.specs.Steps.{doneBy, stepOf}
 use Rattle.promises.specs.Sequences.{afterAll}
@@ -23,10 +23,6 @@ quickStep b r = doneBy b r (changeBy (namedRow b r) (b .count) (b .serial) (toSe
 pub quick-step : (b : Book) (r : Record) → Sound b → stepOf b r ≡ quickStep b r
 unfolding stepOf
 quick-step b r s = ap (doneBy b r) (sym (change-seen b s r (toSee b r) (sees-all b r)))
-
-pub step-sound : (b : Book) (r : Record) → Sound b → Sound (stepOf b r .book)
-unfolding stepOf
-step-sound b r s = change-sound b r s
 
 pub all-sound : (b : Book) (rs : List Record) → Sound b → Sound (afterAll b rs)
 unfolding afterAll

@@ -100,3 +100,18 @@ first-clear a b e = by (ℕ-discrete (first a) 0)
     by : Dec (first a ≡ 0) → first a ≡ 0
     by (yes q) = q
     by (no q) = sym (first-some a b q) ∙ e
+
+-- no test of the table holds
+abbrev pub NoneHolds : List Line → Type 0
+NoneHolds [] = Unit
+NoneHolds (l ∷ rest) = (l .test ≡ false) × NoneHolds rest
+
+-- a table gives 0 exactly when no test holds
+pub none-gives-0 : (table : List Line) → NoneHolds table → first table ≡ 0
+unfolding first
+none-gives-0 [] h = refl
+none-gives-0 (l ∷ rest) h = pick-no (l .test) _ _ (h .0) ∙ none-gives-0 rest (h .1)
+
+pub gives-0-none : (table : List Line) → Numbered table → first table ≡ 0 → NoneHolds table
+gives-0-none [] n e = tt
+gives-0-none (l ∷ rest) n e = let f = first-fails (l .number) (l .test) rest (n .0) e in (f .0, gives-0-none rest (n .1) (f .1))
