@@ -1,15 +1,13 @@
 -- What a record with no fault is known to be.
 use mathlib.Core.Bool.{Bool, true, false, not, _&&_, _||_}
-use mathlib.Core.List.{List, _∷_}
 use mathlib.Core.Logic.{_⊎_, inl, inr}
 use mathlib.Core.Path.{_≡_, refl}
 use Prim.Native.Nat.{ℕ, _≤_, _<_}
 use native.Mathlib.Omega.{arith}
 use lib.Dec.{leb, eqb}
 use borrow.Author.Tests.{leb-true, eqb-true, eqb-false, not-false}
-use Rattle.sums.specs.Choice.{pick}
-use Rattle.sums.specs.Table.{Line, _when_, first}
 use Rattle.sums.proofs.Choices.{and-split}
+use Rattle.sums.proofs.Tables.{first-fails}
 use Rattle.rows.specs.Rows.{ceiling}
 use Rattle.dayfile.specs.declared.Record.{Record}
 use Rattle.dayfile.specs.Records.{bit, knownCode, suits, goodAmount, goodAmounts, faultOf}
@@ -25,18 +23,12 @@ pub record Good (r : Record) : Type 0 where
   pub pledged : goodAmount (bit 16 (r .named)) 1 (r .pledged) ≡ true
   pub margin : goodAmount (bit 32 (r .named)) 0 (r .margin) ≡ true
 
--- a table gives 0 only where none of its tests holds
-first-zero : (n : ℕ) (t : Bool) (rest : List Line) → 0 < n → first ((n when t) ∷ rest) ≡ 0 → (t ≡ false) × (first rest ≡ 0)
-unfolding first pick
-first-zero n true rest p e = absurd (omega arith)
-first-zero n false rest p e = (refl, e)
-
 pub good : (r : Record) → faultOf r ≡ 0 → Good r
 unfolding faultOf
 good r e =
-    let a = first-zero 4 _ _ (omega arith) e in
-    let b = first-zero 5 _ _ (omega arith) (a .1) in
-    let c = first-zero 6 _ _ (omega arith) (b .1) in
+    let a = first-fails 4 _ _ (omega arith) e in
+    let b = first-fails 5 _ _ (omega arith) (a .1) in
+    let c = first-fails 6 _ _ (omega arith) (b .1) in
     let m = and-split _ _ (not-false (goodAmounts r) (c .0)) in
     let p = and-split _ _ (m .0) in
     let s = and-split _ _ (p .0) in

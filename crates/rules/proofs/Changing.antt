@@ -15,7 +15,8 @@ use Rattle.rules.specs.declared.Change.the-variants.{Refuse}
 use Rattle.rules.specs.declared.Seen.{Seen}
 use Rattle.rules.specs.Effects.{passes, decided}
 use Rattle.rules.specs.Inner.{AmountsIn, from7, refusalBy, changeBy}
-use Rattle.rules.proofs.Faults.{Good, no-fault, amounts-in}
+use Rattle.dayfile.proofs.Good.{good}
+use Rattle.rules.proofs.Faults.{amounts-in}
 
 -- a number other than 0 is the refusal
 pub decided-no : (n m : ℕ) (c : Change) → n ≡ m → (n ≡ 0 → ⊥) → Refuse n ≡ decided m c
@@ -37,4 +38,4 @@ module _ (row : Row) (count serial : ℕ) (seen : Seen) (r : Record) where
       first-clear (faults r) (from7 row count seen r) (first-fails 3 (not (eqb (r .serial) serial)) (faults r ++ from7 row count seen r) (omega arith) e .1)
 
   pub no-refusal-amounts : refusalBy row count serial seen r ≡ 0 → AmountsIn r
-  no-refusal-amounts e = amounts-in r (no-fault r (no-refusal-fault e) .amounts)
+  no-refusal-amounts e = amounts-in r (good r (no-refusal-fault e))

@@ -20,7 +20,8 @@ use Rattle.dayfile.specs.declared.Record.{Record}
 use Rattle.dayfile.specs.Records.{faults, faultOf}
 use Rattle.rules.specs.Refusals.{namedRow, wrongSort, noNumberLeft, pastCeiling, tooMuch, beyondFree, losesCover, notRetirable, uncovered, newMargin, refusalOf}
 use Rattle.rules.specs.Inner.{AmountsIn, from7}
-use Rattle.rules.proofs.Faults.{Good, no-fault, amounts-in, three-numbered}
+use Rattle.dayfile.proofs.Good.{Good, good}
+use Rattle.rules.proofs.Faults.{three-numbered}
 use Rattle.rules.proofs.WhatIsSeen.{toSee}
 
 pub record Passes (b : Book) (r : Record) : Type 0 where
@@ -55,7 +56,7 @@ passes-all b r e =
     record {
       sound = sound→ b (not-false _ (f₁ .0));
       serial = eqb-true _ _ (not-false _ (f₃ .0));
-      good = no-fault r none;
+      good = good r none;
       account = ltb-true _ _ (there .0);
       live = there .1;
       sort = f₈ .0;

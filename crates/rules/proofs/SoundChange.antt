@@ -104,7 +104,7 @@ module _ (b : Book) (r : Record) (p : Passes b r) where
   sets-margin e =
       let h : uncovered (view (newMargin b r)) ≡ false = rw e at (p .covered) in
       put _ (by-margin row r e)
-      (margin-sound b (p .sound) (r .account) (p .account) (p .live) (r .margin) (amounts-in r (p .good .amounts) .margin) (ltb-false _ _ h))
+      (margin-sound b (p .sound) (r .account) (p .account) (p .live) (r .margin) (amounts-in r (p .good) .margin) (ltb-false _ _ h))
 
   retires : r .code ≡ 11 → Sound (withRow b (r .account) (amended row r))
   retires e =
@@ -145,7 +145,7 @@ module _ (b : Book) (r : Record) (p : Passes b r) where
   opening e s = rw (pick-yes (isOpening r) (Open (openedRow (r .code) (r .account))) (Put (amended row r)) e) s
 
   pub passing-sound : Sound (rowsAfter b r (passes row r))
-  passing-sound = by (which (r .code) (p .good .code))
+  passing-sound = by (which (r .code) (p .good .known))
     where
       by : Code (r .code) → Sound (rowsAfter b r (passes row r))
       by (openTM e) = opening (rw e) (opens-TM e)

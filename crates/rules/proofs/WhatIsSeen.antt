@@ -24,7 +24,8 @@ use Rattle.rules.specs.declared.Seen.{Seen}
 use Rattle.rules.specs.Refusals.{namedRow, wrongSort, noNumberLeft, pastCeiling, tooMuch, beyondFree, losesCover, notRetirable, uncovered, newMargin, refusalOf}
 use Rattle.rules.specs.Effects.{passes, decided, changeOf}
 use Rattle.rules.specs.Inner.{AmountsIn, SeenOf, from7, from12, refusalBy, changeBy}
-use Rattle.rules.proofs.Faults.{Good, no-fault, amounts-in, three-numbered}
+use Rattle.dayfile.proofs.Good.{good}
+use Rattle.rules.proofs.Faults.{amounts-in, three-numbered}
 
 -- 12 looks at free only for a release and an unpledge
 free-same : (r : Record) (x y : ℕ) → (r .code ≡ 7 → x ≡ y) → (r .code ≡ 9 → x ≡ y) → beyondFree x r ≡ beyondFree y r
@@ -54,7 +55,7 @@ module _ (b : Book) (s : Sound b) (r : Record) (seen : Seen) (w : SeenOf b r see
   from-seven : faultOf r ≡ 0 → first (from7 (namedRow b r) (b .count) seen r) ≡ first (from7 (namedRow b r) (b .count) (toSee b r) r)
   from-seven e₆ =
       first-on 7 _ _ _ (λ e₇. first-on 8 _ _ _ (λ e₈. first-on 9 _ _ _ (λ e₉. first-on 10 _ _ _ (λ e₁₀. first-on 11 _ _ _ (λ e₁₁.
-      last-lines (was-given e₇) (amounts-in r (no-fault r e₆ .amounts)))))))
+      last-lines (was-given e₇) (amounts-in r (good r e₆)))))))
 
   pub refusal-seen : refusalBy (namedRow b r) (b .count) (b .serial) seen r ≡ refusalOf b r
   unfolding refusalBy refusalOf faultOf

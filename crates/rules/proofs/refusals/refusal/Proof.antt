@@ -11,7 +11,8 @@ use Rattle.sums.proofs.Tables.{first-here, first-later, first-some}
 use Rattle.dayfile.specs.declared.Record.{Record}
 use Rattle.dayfile.specs.Records.{faults, faultOf}
 use Rattle.rules.specs.Inner.{AmountsIn, refusalBy, from7, from8, from9, from10, from11, from12, from13, from14}
-use Rattle.rules.proofs.Faults.{Good, no-fault, amounts-in, past-faults}
+use Rattle.dayfile.proofs.Good.{good}
+use Rattle.rules.proofs.Faults.{amounts-in, past-faults}
 use Rattle.rules.proofs.refusals.refusal.Statement.{statement}
 use Rattle.rules.proofs.refusals.refusal.Tie as tie
 
@@ -54,7 +55,7 @@ after13 : (c : tie.Else9) → sought (c .before .before .before .before .before 
 after13 c = after12 (c .before .before .before) ∙ first-later 13 _ _ (c .if9 .left)
 
 small : (c : tie.Else2) → AmountsIn (c .before .before .before .before .args .r)
-small c = amounts-in _ (no-fault _ (no-faults c) .amounts)
+small c = amounts-in _ (good _ (no-faults c))
 
 returns : tie.Need-returns
 unfolding refusalBy
