@@ -16,7 +16,7 @@ use Rattle.rows.specs.Ranges.{noAmounts, inRange, InRange}
 abbrev pub isBlank : Row → Bool
 isBlank r = eqb (r .code) 0 && not (r .live) && eqb (r .tm) 0 && noAmounts r
 
--- "account 0 is the CM and live"
+-- "account 0 is the CM and live"; its TM word is 0, as of every row that is no client's
 abbrev pub isTop : Row → Bool
 isTop r = eqb (r .code) 0 && r .live && eqb (r .tm) 0
 
@@ -40,7 +40,7 @@ unfoldable pub rowSound : Book → ℕ → Bool
 rowSound b i = goodRow (b .count) i (rowAt b i) (rowAt b (rowAt b i .tm))
 
 -- "The number of accounts is 1 to 256"; every row; "The CM's need .. is at most the CM's collateral." A value of the type
--- has 256 rows.
+-- has 256 rows: the last test holds of each.
 unfoldable pub soundB : Book → Bool
 soundB b =
     leb 1 (b .count) && leb (b .count) 256 && all 256 (rowSound b) && leb (needCM (view b)) (collateral (rowAt b 0)) && eqb (length (b .rows)) 256

@@ -24,7 +24,8 @@ goodLoss row loss = leb loss ceiling && (row .live || eqb loss 0)
 abbrev pub goodLosses : Book → List ℕ → Bool
 goodLosses b losses = all (b .count) (λ i. goodLoss (rowAt b i) (lossAt losses i))
 
--- "The checks are 1, 15 (losses, then room), 16."
+-- "The checks are 1, 15 (losses, then room), 16." 15: "the losses aren't one for each account, or the room isn't four for each",
+-- so that a longer room is refused too
 unfoldable pub refusalOf : Book → List ℕ → List ℕ → ℕ
 refusalOf b losses room =
     first (

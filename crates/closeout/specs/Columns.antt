@@ -52,6 +52,6 @@ rowsTo f (suc n) = rowsTo f n ++ f n
 abbrev pub total : View → (ℕ → ℕ) → ℕ
 total v l = sum (v .count) (uncovered v l)
 
--- a loss beyond the margin
+-- a loss beyond the margin ("The bound is 600 + 300 = 900.")
 abbrev pub beyond : View → (ℕ → ℕ) → ℕ → ℕ
 beyond v l i = l i - v .margin i

@@ -1,15 +1,17 @@
 // What each account pays, in one rising pass: own collateral, the TM's, the CM's, and what is left uncovered.
 ghost use mathlib.Core.Path.{_≡_};
 ghost use Prim.Native.Nat.{_+_, _≤_, min};
-ghost use lib.ListN.{length, replicate};
+ghost use lib.ListN.{length};
 ghost use Rattle.sums.specs.Choice.{pick};
-ghost use Rattle.rows.specs.Rows.{collateral, view};
+ghost use Rattle.rows.specs.Rows.{view};
 ghost use Rattle.rows.specs.Ranges.{InRange};
 ghost use Rattle.closeout.specs.Columns.{four, rowsTo, total};
 ghost use Rattle.closeout.specs.Closing.{lossAt};
 ghost use Rattle.closeout.specs.Inner.{paidBy, fourOf, putAt, Checked};
 use rows::Book;
 use rows::Row;
+use rows::needs::collateral_of;
+use rows::needs::zeros;
 
 // One account's four amounts, what its collateral keeps after its own loss, and what the CM's collateral bears.
 pub(crate) struct Paid {
@@ -31,14 +33,6 @@ fn choose(t: bool, a: u64, b: u64) -> u64
     ensures { λ x. ⌜ x ≡ pick t a b ⌝ }
 {
     if t { a } else { b }
-}
-
-fn collateral_of(r: Row) -> u64
-    requires { ⌜ InRange r ⌝ }
-    ensures { λ x. ⌜ x ≡ collateral r ⌝ }
-{
-    let a = r.allocated;
-    a.cash + a.deposits + a.guarantees + a.securities + r.pledged
 }
 
 // One account, whose TM's collateral has `tm` left, and the CM's `cm`.
@@ -70,12 +64,6 @@ fn put(room: &mut [u64], at: usize, p: Paid)
     room[at + 1] = p.tm;
     room[at + 2] = p.cm;
     room[at + 3] = p.uncovered;
-}
-
-fn zeros() -> [u64; 256]
-    ensures { λ x. ⌜ x ≡ replicate 256 0 ⌝ }
-{
-    [0u64; 256]
 }
 
 // The rows, and the total left uncovered. left[t] is what account t's collateral has left after its own loss and the

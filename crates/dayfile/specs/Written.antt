@@ -12,7 +12,8 @@ use Rattle.dayfile.specs.declared.Wrote.the-variants.{Written, Refused}
 use Rattle.dayfile.specs.Bytes.{bytesOf}
 use Rattle.dayfile.specs.Records.{bit, faultOf}
 
--- "eight bytes for each one in the second mark byte": an amount's bytes where its bit is 1, none where it is 0
+-- Of a good record, whose second mark byte has none of the bits 6 and 7. "eight bytes for each one in the second mark byte":
+-- an amount's bytes where its bit is 1, none where it is 0
 unfoldable pub field : ℕ → ℕ → List ℕ
 field zero x = []
 field (suc n) x = bytesOf 8 x
@@ -60,3 +61,8 @@ roomAfter r room =
 pub record Writes (r : Record) (room : List ℕ) (answer : Wrote) (after : List ℕ) : Type 0 where
   pub answers : answer ≡ wroteOf r room
   pub leaves : after ≡ roomAfter r room
+
+-- document 01's number of what the writer answered
+abbrev pub writerRefusal : Wrote → ℕ
+writerRefusal (Written n) = 0
+writerRefusal (Refused n) = n

@@ -34,7 +34,7 @@ carriedIn End = 0
 abbrev pub nobody : Outcome → Answer
 nobody o = record { serial = 0; code = 0; account = 0; outcome = o }
 
--- "with any other refusal they are the record's."
+-- "with any other refusal they are the record's.", and so they are for a record carried out
 abbrev pub ofRecord : Record → Outcome → Answer
 ofRecord r o = record { serial = r .serial; code = r .code; account = r .account; outcome = o }
 

@@ -23,7 +23,8 @@ doneBy b r c = record { answer = answerOf (b .count) r c; book = bookAfter b (r 
 unfoldable pub stepOf : Book → Record → Done
 stepOf b r = doneBy b r (changeOf b r)
 
--- what stands at the place is carried out. "No bytes left means the end, which is no refusal, and the book stays the same."
+-- what stands at the place is carried out. "2: bytes are left, but too few for the record's first six bytes or for its
+-- amounts". "No bytes left means the end, which is no refusal, and the book stays the same."
 abbrev pub onFound : Book → ℕ → Found → Next
 onFound b at NoBytes = record { answer = nobody End; book = b; place = at }
 onFound b at TooFew = record { answer = nobody (Refused 2); book = b; place = at }

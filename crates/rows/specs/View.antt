@@ -7,7 +7,7 @@ use lib.Dec.{eqb}
 use Rattle.sums.specs.Sum.{sum, only}
 use Rattle.sums.specs.Choice.{pick}
 
--- What the rules see of a book: how many accounts, and each one's code, TM, collateral and margin.
+-- What needs and the close-out see of a book: how many accounts, and each one's code, TM, collateral and margin.
 pub record View : Type 0 where
   pub count : ℕ
   pub code : ℕ → ℕ
@@ -44,7 +44,7 @@ deemedOf need collateral = need - blockedOf need collateral
 abbrev pub freeOf : ℕ → ℕ → ℕ
 freeOf need collateral = collateral - blockedOf need collateral
 
--- "Need: for a client or CP, its margin;" so that it is deemed
+-- "Need: for a client or CP, its margin;": what a client or CP is deemed
 abbrev pub ownDeemed : View → ℕ → ℕ
 ownDeemed v i = deemedOf (v .margin i) (v .collateral i)
 

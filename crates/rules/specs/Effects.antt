@@ -22,7 +22,7 @@ amended row r =
     (pick (eqb (r .code) 8) (withPledged row (row .pledged + r .pledged))
     (pick (eqb (r .code) 9) (withPledged row (row .pledged - r .pledged))
     (pick (eqb (r .code) 10) (withMargin row (r .margin))
-    (withLive row false)))))))
+    (withLive row false)))))))  -- 11
 
 -- what a record does that no refusal meets: an opened row's TM is the account named (0 for a TM and a CP)
 abbrev pub passes : Row → Record → Change

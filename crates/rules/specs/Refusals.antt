@@ -23,7 +23,7 @@ abbrev pub namedRow : Book → Record → Row
 namedRow b r = rowAt b (r .account)
 
 -- "8: opening: the account named is of the wrong sort; retiring: account 0". Opening a TM or a CP names the CM, opening a
--- client its TM.
+-- client its TM; an account that is not live was refused with 7 before.
 abbrev pub wrongSort : Row → Record → Bool
 wrongSort row r =
     (eqb (r .code) 1 || eqb (r .code) 3) && not (eqb (row .code) 0)
@@ -64,11 +64,12 @@ newMargin b r = withRow b (r .account) (withMargin (namedRow b r) (r .margin))
 abbrev pub losesCover : Bool → Record → Bool
 losesCover uncovered r = eqb (r .code) 10 && uncovered
 
--- "14: retiring an account with any amount not zero, or a TM with a live client"
+-- "14: retiring an account with any amount not zero, or a TM with a live client": in a sound book only a TM has clients
 abbrev pub notRetirable : Row → Bool → Record → Bool
 notRetirable row hasLiveClient r = eqb (r .code) 11 && (not (noAmounts row) || hasLiveClient)
 
--- the table; 4, 5, 6 are the record's faults
+-- the table for a record; 4, 5, 6 are its faults. 2 is about bytes (`nextOf` of the crate desk), 15 and 16 are the writer's
+-- and the close-out's.
 abbrev pub refusals : Book → Record → List Line
 refusals b r =
     (1 when not (soundB b))
