@@ -6,6 +6,7 @@ mod Looking
 mod Rooms
 mod Answers
 mod Bodies
+mod ReaderCall
 pub mod Good
 pub mod Lengths
 pub mod Places

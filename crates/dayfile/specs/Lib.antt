@@ -4,3 +4,5 @@ pub mod Written
 pub mod Reading
 pub mod Words
 pub mod Putting
+pub mod Reader
+pub mod Taking

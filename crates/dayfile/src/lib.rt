@@ -1,6 +1,7 @@
 // The day file: what stands at a place of a piece, and a record's bytes.
 use rows::Kinds;
 
+pub mod reader;
 mod reading;
 mod records;
 mod writing;

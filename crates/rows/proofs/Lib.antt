@@ -1,2 +1,5 @@
 pub mod NeedSums
 pub mod RangesKept
+mod SetterWalk
+mod SetterFields
+mod LentCopyWalk

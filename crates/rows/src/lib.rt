@@ -2,6 +2,7 @@
 pub mod asking;
 pub mod needs;
 pub mod ranges;
+pub mod setters;
 pub mod words;
 
 // Received or allocated collateral by kind, in paise.

@@ -1,8 +1,13 @@
-// A row with one of its words put anew, a row just opened, and the row that is all zero.
+// A row with one of its words put anew (by value, over the setters), a row just opened, and the row that is all zero.
 ghost use mathlib.Core.Path.{_≡_};
 ghost use Rattle.rows.specs.Rows.{noRow, openedRow, withLive, withReceived, withAllocated, withPledged, withMargin};
 use super::Kinds;
 use super::Row;
+use super::setters::set_allocated;
+use super::setters::set_live;
+use super::setters::set_margin;
+use super::setters::set_pledged;
+use super::setters::set_received;
 
 pub fn no_row() -> Row
     ensures { λ n. ⌜ n ≡ noRow ⌝ }
@@ -56,7 +61,7 @@ pub fn with_live(r: Row, x: bool) -> Row
     ensures { λ n. ⌜ n ≡ withLive r x ⌝ }
 {
     let mut n = r;
-    n.live = x;
+    set_live(&mut n, x);
     n
 }
 
@@ -64,7 +69,7 @@ pub fn with_received(r: Row, x: Kinds) -> Row
     ensures { λ n. ⌜ n ≡ withReceived r x ⌝ }
 {
     let mut n = r;
-    n.received = x;
+    set_received(&mut n, x);
     n
 }
 
@@ -72,7 +77,7 @@ pub fn with_allocated(r: Row, x: Kinds) -> Row
     ensures { λ n. ⌜ n ≡ withAllocated r x ⌝ }
 {
     let mut n = r;
-    n.allocated = x;
+    set_allocated(&mut n, x);
     n
 }
 
@@ -80,7 +85,7 @@ pub fn with_pledged(r: Row, x: u64) -> Row
     ensures { λ n. ⌜ n ≡ withPledged r x ⌝ }
 {
     let mut n = r;
-    n.pledged = x;
+    set_pledged(&mut n, x);
     n
 }
 
@@ -88,6 +93,6 @@ pub fn with_margin(r: Row, x: u64) -> Row
     ensures { λ n. ⌜ n ≡ withMargin r x ⌝ }
 {
     let mut n = r;
-    n.margin = x;
+    set_margin(&mut n, x);
     n
 }

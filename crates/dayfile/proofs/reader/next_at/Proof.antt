@@ -1,0 +1,15 @@
+use borrow.Author.Needs.{needs}
+use Rattle.dayfile.proofs.reader.next_at.Statement.{statement}
+use Rattle.dayfile.proofs.reader.next_at.Tie as tie
+
+read-at-requires : tie.Need-read-at-requires
+read-at-requires c κs = search needs
+
+place-after-requires : tie.Need-place-after-requires
+place-after-requires c κs = search needs
+
+returns : tie.Need-returns
+returns c = cc
+
+pub next-at-spec : {M : Type 1} → statement M
+next-at-spec = tie.close (tie.spec read-at-requires place-after-requires returns)
