@@ -16,12 +16,12 @@ use Rattle.dayfile.specs.Records.{bit, knownCode, suits, goodAmount, goo
 pub record Good (r : Record) : Type 0 where
   pub known : knownCode (r .code) ≡ true
   pub suit : suits (r .code) (r .named) ≡ true
-  pub cash : goodAmount (bit 1 (r .named)) 1 (r .kinds .cash) ≡ true
-  pub deposits : goodAmount (bit 2 (r .named)) 1 (r .kinds .deposits) ≡ true
-  pub guarantees : goodAmount (bit 4 (r .named)) 1 (r .kinds .guarantees) ≡ true
-  pub securities : goodAmount (bit 8 (r .named)) 1 (r .kinds .securities) ≡ true
-  pub pledged : goodAmount (bit 16 (r .named)) 1 (r .pledged) ≡ true
-  pub margin : goodAmount (bit 32 (r .named)) 0 (r .margin) ≡ true
+  pub cash : goodAmount (bit 0 (r .named)) 1 (r .kinds .cash) ≡ true
+  pub deposits : goodAmount (bit 1 (r .named)) 1 (r .kinds .deposits) ≡ true
+  pub guarantees : goodAmount (bit 2 (r .named)) 1 (r .kinds .guarantees) ≡ true
+  pub securities : goodAmount (bit 3 (r .named)) 1 (r .kinds .securities) ≡ true
+  pub pledged : goodAmount (bit 4 (r .named)) 1 (r .pledged) ≡ true
+  pub margin : goodAmount (bit 5 (r .named)) 0 (r .margin) ≡ true
 
 pub good : (r : Record) → faultOf r ≡ 0 → Good r
 unfolding faultOf

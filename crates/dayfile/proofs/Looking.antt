@@ -70,13 +70,13 @@ pub record-at : (code named : ℕ) (s : List ℕ) (at : ℕ) → _≡_ {A = Reco
   named = named;
   account = number 2 (drop (at + 2) s);
   kinds = record {
-    cash = got (bit 1 named) (drop (at + 2 + 2) s);
-    deposits = got (bit 2 named) (drop (at + 2 + 2 + 8 * bit 1 named) s);
-    guarantees = got (bit 4 named) (drop (at + 2 + 2 + 8 * bit 1 named + 8 * bit 2 named) s);
-    securities = got (bit 8 named) (drop (at + 2 + 2 + 8 * bit 1 named + 8 * bit 2 named + 8 * bit 4 named) s);
+    cash = got (bit 0 named) (drop (at + 2 + 2) s);
+    deposits = got (bit 1 named) (drop (at + 2 + 2 + 8 * bit 0 named) s);
+    guarantees = got (bit 2 named) (drop (at + 2 + 2 + 8 * bit 0 named + 8 * bit 1 named) s);
+    securities = got (bit 3 named) (drop (at + 2 + 2 + 8 * bit 0 named + 8 * bit 1 named + 8 * bit 2 named) s);
   };
-  pledged = got (bit 16 named) (drop (at + 2 + 2 + 8 * bit 1 named + 8 * bit 2 named + 8 * bit 4 named + 8 * bit 8 named) s);
-  margin = got (bit 32 named) (drop (at + 2 + 2 + 8 * bit 1 named + 8 * bit 2 named + 8 * bit 4 named + 8 * bit 8 named + 8 * bit 16 named) s);
+  pledged = got (bit 4 named) (drop (at + 2 + 2 + 8 * bit 0 named + 8 * bit 1 named + 8 * bit 2 named + 8 * bit 3 named) s);
+  margin = got (bit 5 named) (drop (at + 2 + 2 + 8 * bit 0 named + 8 * bit 1 named + 8 * bit 2 named + 8 * bit 3 named + 8 * bit 4 named) s);
 })
     (recordOf code named (drop at s))
 unfolding recordOf

@@ -98,18 +98,18 @@ amounts-of : (c n : ℕ) (l : List ℕ) → Bytes l → AmountsFit (recordOf c n
 unfolding recordOf
 amounts-of c n l y =
     let y0 = bytes-drop 2 (drop 2 l) (bytes-drop 2 l y) in
-    let y1 = bytes-past (bit 1 n) _ y0 in
-    let y2 = bytes-past (bit 2 n) _ y1 in
-    let y3 = bytes-past (bit 4 n) _ y2 in
-    let y4 = bytes-past (bit 8 n) _ y3 in
-    let y5 = bytes-past (bit 16 n) _ y4 in
+    let y1 = bytes-past (bit 0 n) _ y0 in
+    let y2 = bytes-past (bit 1 n) _ y1 in
+    let y3 = bytes-past (bit 2 n) _ y2 in
+    let y4 = bytes-past (bit 3 n) _ y3 in
+    let y5 = bytes-past (bit 4 n) _ y4 in
     record {
-      cash = got-lt (bit 1 n) _ y0;
-      deposits = got-lt (bit 2 n) _ y1;
-      guarantees = got-lt (bit 4 n) _ y2;
-      securities = got-lt (bit 8 n) _ y3;
-      pledged = got-lt (bit 16 n) _ y4;
-      margin = got-lt (bit 32 n) _ y5;
+      cash = got-lt (bit 0 n) _ y0;
+      deposits = got-lt (bit 1 n) _ y1;
+      guarantees = got-lt (bit 2 n) _ y2;
+      securities = got-lt (bit 3 n) _ y3;
+      pledged = got-lt (bit 4 n) _ y4;
+      margin = got-lt (bit 5 n) _ y5;
     }
 
 -- what was read out of bytes fits the record's words

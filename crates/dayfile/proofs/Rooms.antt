@@ -45,10 +45,10 @@ pub put-eight : (l m : List ℕ) (i b x : ℕ) → (b ≡ 0 → ⊥) → m ≡ s
 put-eight l m i b x h e = rw (field-named b x h) (put-bytes 8 i x e)
 
 -- the length of a record's bytes, part by part
-pub length-parts : (r : Record) → length (writtenOf r) ≡ 6 + (length (field (bit 1 (r .named)) (r .kinds .cash))
-    + (length (field (bit 2 (r .named)) (r .kinds .deposits)) + (length (field (bit 4 (r .named)) (r .kinds .guarantees))
-    + (length (field (bit 8 (r .named)) (r .kinds .securities)) + (length (field (bit 16 (r .named)) (r .pledged))
-    + length (field (bit 32 (r .named)) (r .margin)))))))
+pub length-parts : (r : Record) → length (writtenOf r) ≡ 6 + (length (field (bit 0 (r .named)) (r .kinds .cash))
+    + (length (field (bit 1 (r .named)) (r .kinds .deposits)) + (length (field (bit 2 (r .named)) (r .kinds .guarantees))
+    + (length (field (bit 3 (r .named)) (r .kinds .securities)) + (length (field (bit 4 (r .named)) (r .pledged))
+    + length (field (bit 5 (r .named)) (r .margin)))))))
 unfolding writtenOf bodyOf
 length-parts r = simp (length-append, length-bytesOf) (omega arith)
 

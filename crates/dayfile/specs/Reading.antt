@@ -31,19 +31,19 @@ past (suc n) l = drop 8 l
 unfoldable pub recordOf : ℕ → ℕ → List ℕ → Record
 recordOf code named l =
     let l0 = drop 2 (drop 2 l) in
-    let l1 = past (bit 1 named) l0 in
-    let l2 = past (bit 2 named) l1 in
-    let l3 = past (bit 4 named) l2 in
-    let l4 = past (bit 8 named) l3 in
-    let l5 = past (bit 16 named) l4 in
+    let l1 = past (bit 0 named) l0 in
+    let l2 = past (bit 1 named) l1 in
+    let l3 = past (bit 2 named) l2 in
+    let l4 = past (bit 3 named) l3 in
+    let l5 = past (bit 4 named) l4 in
     record {
       serial = number 2 l;
       code = code;
       named = named;
       account = number 2 (drop 2 l);
-      kinds = record { cash = got (bit 1 named) l0; deposits = got (bit 2 named) l1; guarantees = got (bit 4 named) l2; securities = got (bit 8 named) l3 };
-      pledged = got (bit 16 named) l4;
-      margin = got (bit 32 named) l5;
+      kinds = record { cash = got (bit 0 named) l0; deposits = got (bit 1 named) l1; guarantees = got (bit 2 named) l2; securities = got (bit 3 named) l3 };
+      pledged = got (bit 4 named) l4;
+      margin = got (bit 5 named) l5;
     }
 
 -- what l, which stands at the place at, begins with. "2: bytes are left, but too few for the record's first six bytes or

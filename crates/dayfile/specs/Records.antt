@@ -1,16 +1,16 @@
 -- Document 01, 'The day file': which records are good.
 use mathlib.Core.Bool.{Bool, not, _&&_, _||_}
 use mathlib.Core.List.{List, [], _∷_}
-use Prim.Native.Nat.{ℕ, _/_, _%_}
+use Prim.Native.Nat.{ℕ, _/_, _%_, _^_}
 use lib.Dec.{leb, eqb}
 use Rattle.sums.specs.Table.{Line, _when_, first}
 use Rattle.rows.specs.Rows.{ceiling}
 use Rattle.dayfile.specs.declared.Record.{Record}
 
--- "In the second, bit 0 is cash, 1 fixed deposits, 2 bank guarantees, 3 government securities, 4 pledged, 5 margin": the
--- bit, 1 or 0, of a second mark byte, by its worth (1, 2, 4, 8, 16, 32)
+-- "In the second, bit 0 is cash, 1 fixed deposits, 2 bank guarantees, 3 government securities, 4 pledged, 5 margin": bit k of
+-- a second mark byte, 1 or 0
 abbrev pub bit : ℕ → ℕ → ℕ
-bit worth named = named / worth % 2
+bit k named = named / 2 ^ k % 2
 
 -- "4: the code is not 1 to 11"
 abbrev pub knownCode : ℕ → Bool
@@ -21,7 +21,7 @@ abbrev pub suits : ℕ → ℕ → Bool
 suits code named =
     leb 1 code && leb code 3 && eqb named 0  -- 1 open TM, 2 open client, 3 open CP: 0
     || leb 4 code && leb code 7 && leb 1 named && leb named 15  -- 4 to 7: one or more of bits 0 to 3, no other
-    || leb 8 code && leb code 9 && eqb named 16  -- 8 pledge, 9 unpledge: bit 4 only
+    || leb 8 code && leb code 9 && eqb named 16  -- 8 pledge, 9 unpledge: bit 2 only
     || eqb code 10 && eqb named 32  -- 10 set margin: bit 5 only
     || eqb code 11 && eqb named 0  -- 11 retire: 0
 
@@ -31,12 +31,12 @@ goodAmount bit least x = eqb bit 0 && eqb x 0 || not (eqb bit 0) && leb least x 
 
 abbrev pub goodAmounts : Record → Bool
 goodAmounts r =
-    goodAmount (bit 1 (r .named)) 1 (r .kinds .cash)
-    && goodAmount (bit 2 (r .named)) 1 (r .kinds .deposits)
-    && goodAmount (bit 4 (r .named)) 1 (r .kinds .guarantees)
-    && goodAmount (bit 8 (r .named)) 1 (r .kinds .securities)
-    && goodAmount (bit 16 (r .named)) 1 (r .pledged)
-    && goodAmount (bit 32 (r .named)) 0 (r .margin)
+    goodAmount (bit 0 (r .named)) 1 (r .kinds .cash)
+    && goodAmount (bit 1 (r .named)) 1 (r .kinds .deposits)
+    && goodAmount (bit 2 (r .named)) 1 (r .kinds .guarantees)
+    && goodAmount (bit 3 (r .named)) 1 (r .kinds .securities)
+    && goodAmount (bit 4 (r .named)) 1 (r .pledged)
+    && goodAmount (bit 5 (r .named)) 0 (r .margin)
 
 -- refusals 4, 5, 6 of a record, however it came: read, to be written, or handed over as values
 abbrev pub faults : Record → List Line

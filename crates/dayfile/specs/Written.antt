@@ -22,12 +22,12 @@ field (suc n) x = bytesOf 8 x
 unfoldable pub bodyOf : Record → List ℕ
 bodyOf r =
     bytesOf 2 (r .serial) ++ (bytesOf 2 (r .account)
-    ++ (field (bit 1 (r .named)) (r .kinds .cash)
-    ++ (field (bit 2 (r .named)) (r .kinds .deposits)
-    ++ (field (bit 4 (r .named)) (r .kinds .guarantees)
-    ++ (field (bit 8 (r .named)) (r .kinds .securities)
-    ++ (field (bit 16 (r .named)) (r .pledged)
-    ++ field (bit 32 (r .named)) (r .margin)))))))
+    ++ (field (bit 0 (r .named)) (r .kinds .cash)
+    ++ (field (bit 1 (r .named)) (r .kinds .deposits)
+    ++ (field (bit 2 (r .named)) (r .kinds .guarantees)
+    ++ (field (bit 3 (r .named)) (r .kinds .securities)
+    ++ (field (bit 4 (r .named)) (r .pledged)
+    ++ field (bit 5 (r .named)) (r .margin)))))))
 
 -- "A record is a two-byte mark, a two-byte serial, a two-byte account number, then eight bytes for each one"; "The first
 -- mark byte is the code."

@@ -13,13 +13,13 @@ use Rattle.rules.specs.Inner.{AmountsIn}
 pub amounts-in : (r : Record) → Good r → AmountsIn r
 amounts-in r g = record {
   kinds = (
-    amount-most (bit 1 (r .named)) 1 (r .kinds .cash) (g .cash),
-    amount-most (bit 2 (r .named)) 1 (r .kinds .deposits) (g .deposits),
-    amount-most (bit 4 (r .named)) 1 (r .kinds .guarantees) (g .guarantees),
-    amount-most (bit 8 (r .named)) 1 (r .kinds .securities) (g .securities),
+    amount-most (bit 0 (r .named)) 1 (r .kinds .cash) (g .cash),
+    amount-most (bit 1 (r .named)) 1 (r .kinds .deposits) (g .deposits),
+    amount-most (bit 2 (r .named)) 1 (r .kinds .guarantees) (g .guarantees),
+    amount-most (bit 3 (r .named)) 1 (r .kinds .securities) (g .securities),
   );
-  pledged = amount-most (bit 16 (r .named)) 1 (r .pledged) (g .pledged);
-  margin = amount-most (bit 32 (r .named)) 0 (r .margin) (g .margin);
+  pledged = amount-most (bit 4 (r .named)) 1 (r .pledged) (g .pledged);
+  margin = amount-most (bit 5 (r .named)) 0 (r .margin) (g .margin);
 }
 
 pub three-numbered : (r : Record) → Numbered (faults r)
