@@ -2,6 +2,7 @@ pub mod Digits
 pub mod Puts
 pub mod Spelling
 pub mod Widths
+pub mod Turns
 pub mod Records
 pub mod Agreement
 pub mod Values

@@ -5,7 +5,7 @@ use mathlib.Core.Path.{_≡_, refl, sym, ap, _∙_}
 use Prim.Native.Nat.{ℕ, zero, suc, _+_, _-_, _*_, _/_, _%_, _≤_, _<_}
 use native.Mathlib.Omega.{arith}
 use lib.Dec.{ltb}
-use lib.ListN.{length, getD, List·getD-append}
+use lib.ListN.{getD, List·getD-append}
 use borrow.Author.Tests.{ltb-true, ltb-false}
 use Rattle.lines.specs.Lines.{digit, decimal}
 use Rattle.lines.proofs.Digits.{decimal-one, decimal-more, length-some}

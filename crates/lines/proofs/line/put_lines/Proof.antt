@@ -3,7 +3,7 @@ use mathlib.Core.Path.{_≡_}
 use Prim.Native.Nat.{ℕ, _-_, _≤_}
 use native.Mathlib.Omega.{arith}
 use Rattle.lines.proofs.Puts.{puts-length}
-use Rattle.lines.proofs.Widths.{Lines, none, line-more}
+use Rattle.lines.proofs.Turns.{Lines, none, line-more}
 use Rattle.lines.proofs.line.put_lines.Statement.{statement}
 use Rattle.lines.proofs.line.put_lines.Tie as tie
 
