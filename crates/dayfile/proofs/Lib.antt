@@ -6,8 +6,8 @@ mod Looking
 mod Rooms
 mod Answers
 mod Bodies
-mod ReaderCall
 pub mod Good
 pub mod Lengths
 pub mod Places
 pub mod RoundTrip
+pub mod ReaderCall

@@ -1,6 +1,3 @@
-use mathlib.Core.Path.{sym, ap}
-use Rattle.dayfile.specs.declared.Read.{Read}
-use Rattle.dayfile.specs.Reading.{placeAfter}
 use borrow.Author.Needs.{needs}
 use Rattle.dayfile.proofs.reader.place_after.Statement.{statement}
 use Rattle.dayfile.proofs.reader.place_after.Tie as tie
