@@ -20,27 +20,11 @@ use Rattle.run.specs.declared.Closing.the-variants.{Unsound}
 use Rattle.run.specs.declared.Ran.{Ran}
 use Rattle.run.specs.Runs.{closed, stopped, onward, runOf, ranOf}
 use Rattle.run.specs.Told.{answering, answersOf, five, fives, roomFor, toldOf}
+use Rattle.run.proofs.SoundRun.{run-counts}
 use Rattle.lines.specs.Lines.{lineOf, linesOf}
 use Rattle.lines.specs.Texts.{over, textOf, withText, linedOf}
 use Rattle.lines.specs.Inner.{Puts, lineAt, linesTo}
 use Rattle.lines.proofs.Puts.{puts-over}
-
--- each record read has an answer
-pub read-is : (s : List ℕ) (n : ℕ) (b : Book) (place read done : ℕ) → runOf s n b place read done .read ≡ read + length (answersOf s n b place)
-unfolding runOf answersOf
-read-is s zero b place read done = by (foundAt s place)
-  where
-    by : (f : Found) → stopped f b place read done .read ≡ read + 0
-    by NoBytes = omega arith
-    by TooFew = omega arith
-    by (Whole r next) = omega arith
-read-is s (suc n) b place read done = by (foundAt s place) (λ b′ next d. read-is s n b′ next (read + 1) d)
-  where
-    by : (f : Found) → ((b′ : Book) (next d : ℕ) → runOf s n b′ next (read + 1) d .read ≡ read + 1 + length (answersOf s n b′ next))
-        → onward (runOf s n) f b place read done .read ≡ read + length (answering (answersOf s n) f b)
-    by NoBytes go = omega arith
-    by TooFew go = omega arith
-    by (Whole r next) go = omega (arith, go (stepOf b r .book) next (done + carriedIn (stepOf b r .answer .outcome)))
 
 pub answers-most : (s : List ℕ) (n : ℕ) (b : Book) (place : ℕ) → length (answersOf s n b place) ≤ n
 unfolding answersOf
@@ -86,7 +70,7 @@ module _ (b : Book) (s : List ℕ) (n : ℕ) where
   read-most = by (soundB b)
     where
       by : (t : Bool) → pick t (runOf s n b 0 0 0) (closed Unsound b 0 0 0) .read ≤ n
-      by true = omega (arith, read-is s n b 0 0 0, answers-most s n b 0)
+      by true = omega (arith, run-counts s n b 0 0 0 .0, answers-most s n b 0)
       by false = omega arith
 
   -- the text of a room of numbers in which the run told its records
@@ -101,7 +85,7 @@ module _ (b : Book) (s : List ℕ) (n : ℕ) where
           ≡ pick t (linesOf (answersOf s n b 0)) []
       by true =
           ap (λ m. linesTo (fives (answersOf s m b 0) ++ drop (length (fives (answersOf s m b 0))) told) (runOf s n b 0 0 0 .read)) (sym e)
-          ∙ ap (linesTo (fives (answersOf s n b 0) ++ drop (length (fives (answersOf s n b 0))) told)) (read-is s n b 0 0 0 ∙ zero-add _)
+          ∙ ap (linesTo (fives (answersOf s n b 0) ++ drop (length (fives (answersOf s n b 0))) told)) (run-counts s n b 0 0 0 .0 ∙ zero-add _)
           ∙ lines-told (answersOf s n b 0) (drop (length (fives (answersOf s n b 0))) told)
       by false = lines-none told
 
