@@ -9,4 +9,5 @@ mod Bodies
 pub mod Good
 pub mod Lengths
 pub mod Places
+pub mod Growing
 pub mod RoundTrip

@@ -1,3 +1,4 @@
 pub mod Numbers
 pub mod Turning
 pub mod Tellings
+pub mod Stops

@@ -1,0 +1,113 @@
+-- Where a run of records stops: what its closing word and its counts say.
+use mathlib.Core.Path.{_≡_, refl}
+use mathlib.Core.List.{List}
+use Prim.Native.Nat.{ℕ, zero, suc, _+_, _≤_, _<_}
+use native.Mathlib.Omega.{arith}
+use lib.ListN.{length}
+use Rattle.rows.specs.declared.Book.{Book}
+use Rattle.book.specs.Sound.{Sound}
+use Rattle.dayfile.specs.declared.Record.{Record}
+use Rattle.dayfile.specs.declared.Found.{Found}
+use Rattle.dayfile.specs.declared.Found.the-variants.{End as NoBytes, Cut as TooFew, Whole}
+use Rattle.dayfile.specs.Reading.{foundAt}
+use Rattle.dayfile.proofs.Places.{next-within}
+use Rattle.rules.proofs.SoundChange.{change-sound}
+use Rattle.desk.specs.declared.Outcome.{Outcome}
+use Rattle.desk.specs.declared.Outcome.the-variants.{CarriedOut, Opened, Refused, End as NoRecord}
+use Rattle.desk.specs.Answers.{carriedIn}
+use Rattle.desk.specs.Steps.{stepOf}
+use Rattle.run.specs.declared.Closing.{Closing}
+use Rattle.run.specs.declared.Closing.the-variants.{End, Cut, Long}
+use Rattle.run.specs.declared.Ran.{Ran}
+use Rattle.run.specs.Runs.{closed, stopped, onward, runOf}
+
+-- "apart": two closing words that differ
+never : {A : Type 0} → _≡_ {A = ℕ} 0 1 → A
+never e = absurd (omega arith)
+
+-- a run r that began at the place at with these counts, over up to most records
+pub record Stopped (s : List ℕ) (most at read done : ℕ) (r : Ran) : Type 0 where
+  pub from : read ≤ r .read
+  pub upto : r .read ≤ read + most
+  pub fewer : r .done + read ≤ r .read + done
+  pub within : at ≤ length s → r .place ≤ length s
+  pub still : r .read ≡ read → r .place ≡ at
+  pub ended : r .closing ≡ End → foundAt s (r .place) ≡ NoBytes
+  pub short : r .closing ≡ Cut → foundAt s (r .place) ≡ TooFew
+  pub long : r .closing ≡ Long → r .read ≡ read + most
+
+-- it stopped where it began
+here : (s : List ℕ) (most : ℕ) (word : Closing) (b : Book) (at read done : ℕ)
+    → (word ≡ End → foundAt s at ≡ NoBytes) → (word ≡ Cut → foundAt s at ≡ TooFew) → (word ≡ Long → most ≡ 0)
+    → Stopped s most at read done (closed word b at read done)
+here s most word b at read done e c l = record {
+  from = omega arith;
+  upto = omega arith;
+  fewer = omega arith;
+  within = λ h. h;
+  still = λ h. refl;
+  ended = e;
+  short = c;
+  long = λ h. omega (arith, l h);
+}
+
+carried-one : (o : Outcome) → carriedIn o ≤ 1
+carried-one CarriedOut = omega arith
+carried-one (Opened n) = omega arith
+carried-one (Refused n) = omega arith
+carried-one NoRecord = omega arith
+
+-- one record before the run
+before : (s : List ℕ) (most at read done next c : ℕ) (r : Ran) → next ≤ length s → c ≤ 1
+    → Stopped s most next (read + 1) (done + c) r → Stopped s (suc most) at read done r
+before s most at read done next c r h k g = record {
+  from = omega (arith, g .from);
+  upto = omega (arith, g .upto);
+  fewer = omega (arith, g .fewer);
+  within = λ _. g .within h;
+  still = λ e. absurd (omega (arith, g .from));
+  ended = g .ended;
+  short = g .short;
+  long = λ e. omega (arith, g .long e);
+}
+
+pub run-stops : (s : List ℕ) (most : ℕ) (b : Book) (at read done : ℕ) → Stopped s most at read done (runOf s most b at read done)
+unfolding runOf
+run-stops s zero b at read done = by (foundAt s at) refl
+  where
+    by : (f : Found) → foundAt s at ≡ f → Stopped s zero at read done (stopped f b at read done)
+    by NoBytes e = here s zero End b at read done (λ _. e) (λ w. never (cc)) (λ w. never (cc))
+    by TooFew e = here s zero Long b at read done (λ w. never (cc)) (λ w. never (cc)) (λ _. refl)
+    by (Whole r next) e = here s zero Long b at read done (λ w. never (cc)) (λ w. never (cc)) (λ _. refl)
+run-stops s (suc most) b at read done = by (foundAt s at) refl (λ b′ next d. run-stops s most b′ next (read + 1) d)
+  where
+    by : (f : Found) → foundAt s at ≡ f
+        → ((b′ : Book) (next d : ℕ) → Stopped s most next (read + 1) d (runOf s most b′ next (read + 1) d))
+        → Stopped s (suc most) at read done (onward (runOf s most) f b at read done)
+    by NoBytes e go = here s (suc most) End b at read done (λ _. e) (λ w. never (cc)) (λ w. never (cc))
+    by TooFew e go = here s (suc most) Cut b at read done (λ w. never (cc)) (λ _. e) (λ w. never (cc))
+    by (Whole r next) e go =
+        let o = stepOf b r .answer .outcome in
+        before s most at read done next (carriedIn o) _ (next-within s at e) (carried-one o)
+        (go (stepOf b r .book) next (done + carriedIn o))
+
+step-sound : (b : Book) (r : Record) → Sound b → Sound (stepOf b r .book)
+unfolding stepOf
+step-sound b r g = change-sound b r g
+
+-- a sound book stays sound
+pub run-sound : (s : List ℕ) (most : ℕ) (b : Book) (at read done : ℕ) → Sound b → Sound (runOf s most b at read done .book)
+unfolding runOf
+run-sound s zero b at read done g = by (foundAt s at)
+  where
+    by : (f : Found) → Sound (stopped f b at read done .book)
+    by NoBytes = g
+    by TooFew = g
+    by (Whole r next) = g
+run-sound s (suc most) b at read done g = by (foundAt s at) (λ b′ next d k. run-sound s most b′ next (read + 1) d k)
+  where
+    by : (f : Found) → ((b′ : Book) (next d : ℕ) → Sound b′ → Sound (runOf s most b′ next (read + 1) d .book))
+        → Sound (onward (runOf s most) f b at read done .book)
+    by NoBytes go = g
+    by TooFew go = g
+    by (Whole r next) go = go (stepOf b r .book) next (done + carriedIn (stepOf b r .answer .outcome)) (step-sound b r g)
