@@ -1,27 +1,33 @@
 -- Where a run of records stops: what its closing word and its counts say.
-use mathlib.Core.Path.{_≡_, refl}
+use mathlib.Core.Bool.{Bool, true, false}
 use mathlib.Core.List.{List}
+use mathlib.Core.Logic.{_⊎_, inl, inr}
+use mathlib.Core.Path.{_≡_, refl, sym}
 use Prim.Native.Nat.{ℕ, zero, suc, _+_, _≤_, _<_}
 use native.Mathlib.Omega.{arith}
 use lib.ListN.{length}
 use Rattle.rows.specs.declared.Book.{Book}
-use Rattle.book.specs.Sound.{Sound}
+use Rattle.book.specs.Sound.{soundB, Sound}
+use Rattle.book.proofs.SoundTest.{sound←}
 use Rattle.dayfile.specs.declared.Record.{Record}
 use Rattle.dayfile.specs.declared.Found.{Found}
 use Rattle.dayfile.specs.declared.Found.the-variants.{End as NoBytes, Cut as TooFew, Whole}
+use Rattle.dayfile.specs.Bytes.{Bytes}
 use Rattle.dayfile.specs.Reading.{foundAt}
-use Rattle.dayfile.proofs.Places.{next-within}
+use Rattle.dayfile.proofs.Places.{next-within, end-at}
+use Rattle.dayfile.proofs.Growing.{cut-near}
 use Rattle.rules.proofs.SoundChange.{change-sound}
 use Rattle.desk.specs.declared.Outcome.{Outcome}
 use Rattle.desk.specs.declared.Outcome.the-variants.{CarriedOut, Opened, Refused, End as NoRecord}
 use Rattle.desk.specs.Answers.{carriedIn}
 use Rattle.desk.specs.Steps.{stepOf}
 use Rattle.run.specs.declared.Closing.{Closing}
-use Rattle.run.specs.declared.Closing.the-variants.{End, Cut, Long}
+use Rattle.run.specs.declared.Closing.the-variants.{End, Cut, Long, Unsound}
 use Rattle.run.specs.declared.Ran.{Ran}
-use Rattle.run.specs.Runs.{closed, stopped, onward, runOf}
+use Rattle.run.specs.Runs.{closed, stopped, onward, runOf, ranOf}
+use Rattle.run.proofs.Tellings.{ran-sound, ran-unsound}
 
--- "apart": two closing words that differ
+-- two closing words that differ
 never : {A : Type 0} → _≡_ {A = ℕ} 0 1 → A
 never e = absurd (omega arith)
 
@@ -111,3 +117,25 @@ run-sound s (suc most) b at read done g = by (foundAt s at) (λ b′ next d k. r
     by NoBytes go = g
     by TooFew go = g
     by (Whole r next) go = go (stepOf b r .book) next (done + carriedIn (stepOf b r .answer .outcome)) (step-sound b r g)
+
+-- ---- the public call
+
+module _ (b : Book) (s : List ℕ) (most : ℕ) where
+  pub ran-stops : Stopped s most 0 0 0 (ranOf b s most)
+  ran-stops = by (soundB b) refl
+    where
+      by : (t : Bool) → soundB b ≡ t → Stopped s most 0 0 0 (ranOf b s most)
+      by true e = rw (sym (ran-sound b s most e)) (run-stops s most b 0 0 0)
+      by false e = rw (sym (ran-unsound b s most e)) (here s most Unsound b 0 0 0 (λ w. never (cc)) (λ w. never (cc)) (λ w. never (cc)))
+
+  pub ran-keeps : Sound b → Sound (ranOf b s most .book)
+  ran-keeps g = rw (sym (ran-sound b s most (sound← b g))) (run-sound s most b 0 0 0 g)
+
+  -- 70 bytes hold a record: where there are as many, the end and a cut come only after one
+  pub ran-moves : Bytes s → 70 ≤ length s → (ranOf b s most .closing ≡ End) ⊎ (ranOf b s most .closing ≡ Cut) → 0 < ranOf b s most .read
+  ran-moves y h w = by w (ranOf b s most .read) refl
+    where
+      by : (ranOf b s most .closing ≡ End) ⊎ (ranOf b s most .closing ≡ Cut) → (k : ℕ) → ranOf b s most .read ≡ k → 0 < k
+      by w (suc k) e = omega arith
+      by (inl q) zero e = absurd (omega (arith, end-at s _ (ran-stops .ended q), ran-stops .still e))
+      by (inr q) zero e = absurd (omega (arith, cut-near s _ y (ran-stops .short q), ran-stops .still e))
