@@ -1,0 +1,62 @@
+// The lines that the program prints: one for each record, and the closing one.
+ghost use mathlib.Core.Path.{_≡_};
+ghost use Prim.Native.Nat.{min};
+ghost use lib.ListN.{length};
+ghost use Rattle.lines.specs.Lines.{closingLineOf};
+ghost use Rattle.lines.specs.Texts.{over, limitOf, textOf, linedOf};
+use rows::Book;
+use run::Closing;
+
+mod closing;
+mod line;
+mod number;
+
+pub struct Lined {
+    pub book: Book,
+    pub place: usize,
+    pub closing: Closing,
+    pub read: u64,
+    pub done: u64,
+    pub text: usize,
+}
+
+fn least(a: u64, b: u64) -> u64
+    ensures { λ n. ⌜ n ≡ min a b ⌝ }
+{
+    if a < b { a } else { b }
+}
+
+// How many records one call carries out at most.
+fn limit(most: u64, room: &[u8]) -> u64
+    ensures { λ n. ⌜ n ≡ limitOf most (now (room .entry)) ⌝ }
+{
+    least(most, least(room.len() as u64 / 32, 2048))
+}
+
+// The records of a piece from its start, up to a stated number, with each one's line put into the room.
+pub fn lines(b: Book, piece: &[u8], most: u64, room: &mut [u8]) -> Lined
+    ensures { λ r. ⌜ r ≡ linedOf b (now (piece .entry)) (limitOf most (now (room .entry))) ⌝ }
+    ensures { λ _. ⌜ now (room .exit) ≡ over (textOf b (now (piece .entry)) (limitOf most (now (room .entry)))) (now (room .entry)) ⌝ }
+{
+    let mut told = [0u16; 10240];
+    let ran = run::day_told(b, piece, limit(most, room), &mut told);
+    let text = line::put_lines(room, &told, ran.read as usize);
+    let book = ran.book;
+    let closing = ran.closing;
+    Lined {
+        book,
+        place: ran.place,
+        closing,
+        read: ran.read,
+        done: ran.done,
+        text,
+    }
+}
+
+// The line after the records' lines: how long it is, and the line in the room.
+pub fn closing_line(closing: Closing, read: u64, done: u64, room: &mut [u8; 64]) -> usize
+    ensures { λ n. ⌜ n ≡ length (closingLineOf closing read done) ⌝ }
+    ensures { λ _. ⌜ now (room .exit) ≡ over (closingLineOf closing read done) (now (room .entry)) ⌝ }
+{
+    closing::put_closing(room, closing, read, done)
+}
