@@ -1,13 +1,15 @@
 -- The reading loop: what holds at each turn, one piece more, and where it stops.
-use mathlib.Core.Bool.{Bool, true, false}
-use mathlib.Core.List.{List, [], _++_, append-assoc, append-nil}
+use mathlib.Core.Bool.{Bool, true, false, _||_}
+use mathlib.Core.List.{List, [], _∷_, _++_, append-assoc, append-nil}
 use mathlib.Core.Logic.{_⊎_, inl, inr}
 use mathlib.Core.Path.{_≡_, refl, sym, ap, _∙_}
-use Prim.Native.Nat.{ℕ, _+_, _-_, _≤_, _<_}
+use Prim.Native.Nat.{ℕ, zero, suc, _+_, _-_, _≤_, _<_}
 use native.Mathlib.Omega.{arith}
+use lib.Dec.{ltb}
 use lib.ListN.{length, take, drop}
 use lib.Seq.{length-take-le, take-add, drop-at}
-use Rattle.sums.proofs.Choices.{clash}
+use borrow.Author.Tests.{ltb-false}
+use Rattle.sums.proofs.Choices.{clash, or-fails}
 use Rattle.rows.specs.declared.Book.{Book}
 use Rattle.rows.specs.Rows.{freshBook}
 use Rattle.book.specs.Sound.{Sound}
@@ -20,7 +22,8 @@ use Rattle.run.specs.Runs.{ranOf}
 use Rattle.run.proofs.Stops.{Stopped, ran-stops, ran-keeps, ran-moves}
 use Rattle.run.proofs.Pieces.{onFrom, on-twice, on-none, restOf, in-pieces}
 use Rattle.feed.specs.declared.Day.{Day}
-use Rattle.feed.specs.Fed.{dayOf, wholeDay, Came, stopsAt}
+use Rattle.feed.specs.Fed.{dayOf, wholeDay, Came}
+use Rattle.feed.specs.Inner.{stopsAt}
 
 -- input is what was read up to here; the kept bytes are what is left of it, after a book with these counts
 pub record Feeding (space : List ℕ) (book : Book) (kept read done : ℕ) : Type 0 where
@@ -53,6 +56,12 @@ mid p n l h k =
     ∙ ap (drop p) (take-add p (n - p) l)
     ∙ drop-at (take p l) (take (n - p) (drop p l)) p (length-take-le p l (omega arith))
 
+bytes-take : (n : ℕ) (l : List ℕ) → Bytes l → Bytes (take n l)
+bytes-take zero l y i = omega arith
+bytes-take (suc n) [] y i = omega arith
+bytes-take (suc n) (x ∷ l) y zero = y 0
+bytes-take (suc n) (x ∷ l) y (suc i) = bytes-take n l (λ j. y (suc j)) i
+
 going-on : (w : Closing) → stopsAt w ≡ false → (w ≡ End) ⊎ (w ≡ Cut)
 going-on End e = inl refl
 going-on Cut e = inr refl
@@ -66,7 +75,7 @@ pub record Piece (space : List ℕ) (book : Book) (kept read done : ℕ) (filled
   pub least : kept ≤ held
   pub most : held ≤ 65606
   pub old : take kept filled ≡ take kept space
-  pub bytes : Bytes (take held filled)
+  pub bytes : Bytes filled
   pub is : r ≡ ranOf book (take held filled) (1_000_000 - read)
 
 module _ {space : List ℕ} {book : Book} {kept read done : ℕ} {filled : List ℕ} {held : ℕ} {r : Ran}
@@ -138,7 +147,10 @@ module _ {space : List ℕ} {book : Book} {kept read done : ℕ} {filled : List 
       fuel : 1_000_000 - read - r .read ≡ 1_000_000 - (read + r .read)
       fuel = omega (arith, g)
 
-  -- a full space holds a record
-  pub moves : 65606 ≤ held → stopsAt (r .closing) ≡ false → 0 < r .read
-  moves h e =
-      rw (g .is) (ran-moves book (take held filled) (1_000_000 - read) (g .bytes) (omega (arith, length-piece)) (rw (g .is) at (going-on (r .closing) e)))
+  -- a full space holds a record; t says whether the closing word stops the reading
+  pub moves : (t : Bool) → t ≡ stopsAt (r .closing) → (t || ltb held 65606) ≡ false → 0 < r .read
+  moves t w e =
+      let f = or-fails t (ltb held 65606) e in
+      let l = take held filled in
+      let h : 70 ≤ length l = omega (arith, length-piece, ltb-false held 65606 (f .1)) in
+      rw (g .is) (ran-moves book l (1_000_000 - read) (bytes-take held filled (g .bytes)) h (rw (g .is) at (going-on (r .closing) (sym w ∙ f .0))))

@@ -1,11 +1,8 @@
 -- What can be said of a day file that was read from standard input.
-use mathlib.Core.Bool.{Bool, true, false}
 use mathlib.Core.List.{List}
 use mathlib.Core.Path.{_≡_}
 use Prim.Native.Nat.{ℕ}
 use Rattle.rows.specs.Rows.{freshBook}
-use Rattle.run.specs.declared.Closing.{Closing}
-use Rattle.run.specs.declared.Closing.the-variants.{End, Cut, Long, Unsound}
 use Rattle.run.specs.declared.Ran.{Ran}
 use Rattle.run.specs.Runs.{ranOf}
 use Rattle.feed.specs.declared.Day.{Day}
@@ -21,10 +18,3 @@ wholeDay s = dayOf (ranOf freshBook s 1_000_000)
 pub record Came (d : Day) : Type 0 where
   pub input : List ℕ
   pub is : d ≡ wholeDay input
-
--- whether a closing word stops the reading: after the end of a piece, or a cut there, more may follow
-abbrev pub stopsAt : Closing → Bool
-stopsAt End = false
-stopsAt Cut = false
-stopsAt Long = true
-stopsAt Unsound = true

@@ -1,14 +1,15 @@
 // A day file read from standard input in large pieces and carried out over a fresh book.
 ghost use mathlib.Core.Path.{_≡_};
-ghost use Rattle.dayfile.specs.Bytes.{Bytes};
 ghost use Rattle.run.specs.Runs.{ranOf};
-ghost use Rattle.feed.specs.Fed.{Came, stopsAt};
+ghost use Rattle.feed.specs.Fed.{Came};
+ghost use Rattle.feed.specs.Inner.{stopsAt};
 use rows::Book;
 use run::Closing;
 use run::Ran;
 use space::SPACE;
 
 mod space;
+mod telling;
 
 // "at a million records"
 const MILLION: u64 = 1_000_000;
@@ -34,9 +35,11 @@ fn stops(word: Closing) -> bool
 
 // The records of a piece, with a line each on standard output where that is asked for.
 pub fn carry(b: Book, piece: &[u8], most: u64, tell: bool) -> Ran
-    ensures ran { λ r. ⌜ r ≡ ranOf b (now (piece .entry)) most ⌝ }
-    ensures bytes { λ _. ⌜ Bytes (now (piece .entry)) ⌝ }
+    ensures { λ r. ⌜ r ≡ ranOf b (now (piece .entry)) most ⌝ }
 {
+    if tell {
+        return telling::tell(b, piece, most);
+    }
     run::day(b, piece, most)
 }
 

@@ -2,6 +2,7 @@
 ghost use mathlib.Core.Path.{_≡_};
 ghost use Prim.Native.Nat.{_+_, _-_, _≤_};
 ghost use lib.ListN.{length, take, drop};
+ghost use Rattle.dayfile.specs.Bytes.{Bytes};
 use libc::STDIN_FILENO;
 
 // 65,536 bytes and the longest record.
@@ -18,7 +19,8 @@ pub(crate) fn blank() -> [u8; SPACE]
 pub(crate) fn refill(space: &mut [u8], kept: usize) -> usize
     requires { ⌜ kept ≤ length (now space) ⌝ }
     ensures { λ r. ⌜ kept + r ≤ length (now (space .exit)) ⌝ }
-    ensures { λ r. ⌜ take kept (now (space .exit)) ≡ take kept (now (space .entry)) ⌝ }
+    ensures { λ _. ⌜ take kept (now (space .exit)) ≡ take kept (now (space .entry)) ⌝ }
+    ensures { λ _. ⌜ Bytes (now (space .exit)) ⌝ }
 {
     io::read_full(STDIN_FILENO, &mut space[kept..])
 }

@@ -2,7 +2,7 @@
 use mathlib.Core.Bool.{Bool, true, false}
 use mathlib.Core.List.{List}
 use mathlib.Core.Logic.{_⊎_, inl, inr}
-use mathlib.Core.Path.{_≡_, refl, sym}
+use mathlib.Core.Path.{_≡_, refl, sym, _∙_}
 use Prim.Native.Nat.{ℕ, zero, suc, _+_, _≤_, _<_}
 use native.Mathlib.Omega.{arith}
 use lib.ListN.{length}
@@ -97,6 +97,27 @@ run-stops s (suc most) b at read done = by (foundAt s at) refl (λ b′ next d. 
         before s most at read done next (carriedIn o) _ (next-within s at e) (carried-one o)
         (go (stepOf b r .book) next (done + carriedIn o))
 
+-- where it is not the stated number that stopped a run, a larger one changes nothing
+pub run-enough : (s : List ℕ) (m n : ℕ) (b : Book) (at read done : ℕ) → m ≤ n → (runOf s m b at read done .closing ≡ Long → ⊥)
+    → runOf s n b at read done ≡ runOf s m b at read done
+unfolding runOf
+run-enough s zero n b at read done h w = by n (foundAt s at) refl w
+  where
+    by : (k : ℕ) (f : Found) → foundAt s at ≡ f → (stopped f b at read done .closing ≡ Long → ⊥) → runOf s k b at read done ≡ stopped f b at read done
+    by zero NoBytes e w = rw e
+    by (suc k) NoBytes e w = rw e
+    by k TooFew e w = absurd (w refl)
+    by k (Whole r next) e w = absurd (w refl)
+run-enough s (suc m) zero b at read done h w = absurd (omega arith)
+run-enough s (suc m) (suc n) b at read done h w = by (foundAt s at) w (λ b′ next d v. run-enough s m n b′ next (read + 1) d (omega arith) v)
+  where
+    by : (f : Found) → (onward (runOf s m) f b at read done .closing ≡ Long → ⊥)
+        → ((b′ : Book) (next d : ℕ) → (runOf s m b′ next (read + 1) d .closing ≡ Long → ⊥) → runOf s n b′ next (read + 1) d ≡ runOf s m b′ next (read + 1) d)
+        → onward (runOf s n) f b at read done ≡ onward (runOf s m) f b at read done
+    by NoBytes v go = refl
+    by TooFew v go = refl
+    by (Whole r next) v go = go (stepOf b r .book) next (done + carriedIn (stepOf b r .answer .outcome)) v
+
 step-sound : (b : Book) (r : Record) → Sound b → Sound (stepOf b r .book)
 unfolding stepOf
 step-sound b r g = change-sound b r g
@@ -139,3 +160,13 @@ module _ (b : Book) (s : List ℕ) (most : ℕ) where
       by w (suc k) e = omega arith
       by (inl q) zero e = absurd (omega (arith, end-at s _ (ran-stops .ended q), ran-stops .still e))
       by (inr q) zero e = absurd (omega (arith, cut-near s _ y (ran-stops .short q), ran-stops .still e))
+
+pub ran-enough : (b : Book) (s : List ℕ) (m n : ℕ) → m ≤ n → (ranOf b s m .closing ≡ Long → ⊥) → ranOf b s n ≡ ranOf b s m
+ran-enough b s m n h w = by (soundB b) refl
+  where
+    by : (t : Bool) → soundB b ≡ t → ranOf b s n ≡ ranOf b s m
+    by true e =
+        sym (ran-sound b s n e)
+        ∙ run-enough s m n b 0 0 0 h (rw (sym (ran-sound b s m e)) at w)
+        ∙ ran-sound b s m e
+    by false e = sym (ran-unsound b s n e) ∙ ran-unsound b s m e

@@ -1,14 +1,9 @@
 -- `feed::whole_day`: the records of the pieces so far are those of what was read so far.
-use mathlib.Core.Bool.{Bool}
-use mathlib.Core.Path.{_≡_, refl, sym, _∙_}
-use Prim.Native.Nat.{_+_, _-_, _≤_}
+use mathlib.Core.Path.{sym, _∙_}
+use Prim.Native.Nat.{_+_, _-_}
 use native.Mathlib.Omega.{arith}
-use lib.Dec.{ltb}
-use lib.ListN.{length, take}
 use lib.Seq.{length-take-le}
 use borrow.Author.Needs.{needs}
-use borrow.Author.Tests.{ltb-false}
-use Rattle.sums.proofs.Choices.{or-fails}
 use Rattle.feed.proofs.Feeding.{Feeding, Piece, nothing-read, came, fed, moves, place-within, read-within, done-within}
 use Rattle.feed.proofs.whole_day.Statement.{statement}
 use Rattle.feed.proofs.whole_day.Tie as tie
@@ -32,9 +27,9 @@ piece c =
       size = f .kept .0 ∙ g .size;
       least = omega arith;
       most = omega (arith, f .ensures .0, f .kept .0, g .size);
-      old = f .ensures .1;
-      bytes = c .carry .ensures .1;
-      is = c .carry .ensures .0;
+      old = f .ensures .1 .0;
+      bytes = f .ensures .1 .1;
+      is = c .carry .ensures;
     }
 
 blank-requires : tie.Need-blank-requires Inv-loop μ-loop
@@ -87,10 +82,8 @@ keep-requires c κs =
 loop-less : tie.Need-loop-less Inv-loop μ-loop
 loop-less c =
     let t = c .before .before .before .before .before .before .before .before in
-    let k = or-fails _ _ (c .before .before .before .if1 .left) in
-    let full = ltb-false _ _ (k .1) in
-    let goes = sym (c .before .before .before .before .stops .ensures) ∙ k .0 in
-    omega (arith, moves (piece t) full goes, read-within (piece t))
+    let w = c .before .before .before .before .stops in
+    omega (arith, moves (piece t) (w .result) (w .ensures) (c .before .before .before .if1 .left), read-within (piece t))
 
 loop-again : tie.Need-loop-again Inv-loop μ-loop
 loop-again c =

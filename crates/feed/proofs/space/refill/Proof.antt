@@ -26,7 +26,7 @@ returns : tie.Need-returns
 returns c =
     let a = c .before .before .before .before .before .args in
     let k = c .before .before .read-full in
-    (omega (arith, same-length c, k .ensures .0, k .kept), take-put (a .kept) (length (a .space .now) - a .kept) (a .space .now) (k .last .1 .0) (omega arith))
+    (omega (arith, same-length c, k .ensures .0, k .kept), (take-put (a .kept) (length (a .space .now) - a .kept) (a .space .now) (k .last .1 .0) (omega arith), λ i. c .slice-known2 .given i .fits))
 
 pub refill-spec : {M : Type 1} → statement M
 refill-spec =
