@@ -12,7 +12,7 @@ mod space;
 mod telling;
 
 // "at a million records"
-const MILLION: u64 = 1_000_000;
+pub const MILLION: u64 = 1_000_000;
 
 // What a whole day file came to.
 pub struct Day {
