@@ -9,5 +9,6 @@ mod Bodies
 pub mod Good
 pub mod Lengths
 pub mod Places
+pub mod Growing
 pub mod RoundTrip
 pub mod ReaderCall

@@ -2,3 +2,5 @@ pub mod Numbers
 pub mod Turning
 pub mod Tellings
 pub mod SoundRun
+pub mod Stops
+pub mod Pieces

@@ -1,0 +1,68 @@
+-- `days::next_day`: the day lies within the room, whose length the reading leaves as it was.
+use mathlib.Core.List.{_++_}
+use mathlib.Core.Path.{sym}
+use Prim.Native.Nat.{_≤_}
+use native.Mathlib.Omega.{arith}
+use lib.ListN.{length, drop}
+use lib.Seq.{length-take-le, length-front}
+use borrow.Author.Needs.{needs}
+use Rattle.days.proofs.next_day.Statement.{statement}
+use Rattle.days.proofs.next_day.Tie as tie
+
+within : (c : tie.After-read-full)
+    → c .before .before .before .before .size .result .size
+    ≤ length (c .read-full .last .1 .0 ++ drop (c .before .before .before .before .size .result .size) (c .before .before .before .before .before .buffer .result))
+within c =
+    let n = c .before .before .before .before .size .result .size in
+    let b = c .before .before .before .before .before .buffer .result in
+    let e = length-front b (c .read-full .last .1 .0) n (c .read-full .kept .1 .0) in
+    omega (arith, e, c .before .before .before .before .before .buffer .ensures)
+
+buffer-requires : tie.Need-buffer-requires
+buffer-requires c κs = search needs
+
+size-requires : tie.Need-size-requires
+size-requires c κs = search needs
+
+returns : tie.Need-returns
+returns c = search needs
+
+array-borrow-prefix-room : tie.Need-array-borrow-prefix-room
+array-borrow-prefix-room c = search needs
+
+slice-aggregate-read-full : tie.Need-slice-aggregate-read-full
+slice-aggregate-read-full c = sym (length-take-le _ _ (omega arith))
+
+read-full-requires : tie.Need-read-full-requires
+read-full-requires c κs = search needs
+
+returns-2 : tie.Need-returns-2
+returns-2 c = search needs
+
+array-share-prefix-room : tie.Need-array-share-prefix-room
+array-share-prefix-room c = within (c .before .before)
+
+slice-aggregate-run-day : tie.Need-slice-aggregate-run-day
+slice-aggregate-run-day c = sym (length-take-le _ _ (within (c .before .before .before)))
+
+run-day-requires : tie.Need-run-day-requires
+run-day-requires c κs = search needs
+
+returns-3 : tie.Need-returns-3
+returns-3 c = search needs
+
+pub next-day-spec : {M : Type 1} → statement M
+next-day-spec =
+    tie.close
+    (tie.spec
+    buffer-requires
+    size-requires
+    returns
+    array-borrow-prefix-room
+    slice-aggregate-read-full
+    read-full-requires
+    returns-2
+    array-share-prefix-room
+    slice-aggregate-run-day
+    run-day-requires
+    returns-3)

@@ -1,0 +1,40 @@
+-- `report::closing`: the line lies within its room.
+use mathlib.Core.Path.{sym}
+use Prim.Native.Nat.{_≤_}
+use lib.ListN.{length}
+use lib.Seq.{length-take-le}
+use borrow.Author.Needs.{needs}
+use Rattle.lines.specs.Lines.{closingLineOf}
+use Rattle.report.proofs.Fronts.{front}
+use Rattle.report.proofs.closing.Statement.{statement}
+use Rattle.report.proofs.closing.Tie as tie
+
+fits : (c : tie.After-closing-line) → c .closing-line .result ≤ length (c .closing-line .last .1 .1 .1 .0)
+fits c =
+    let a = c .before .before .args in
+    front _ (closingLineOf (a .word) (a .read) (a .done)) _ _ (c .closing-line .ensures .0) (c .closing-line .ensures .1)
+
+closing-line-requires : tie.Need-closing-line-requires
+closing-line-requires c κs = search needs
+
+array-share-prefix-room : tie.Need-array-share-prefix-room
+array-share-prefix-room c = fits c
+
+slice-aggregate-write-all : tie.Need-slice-aggregate-write-all
+slice-aggregate-write-all c = sym (length-take-le _ _ (fits (c .before)))
+
+write-all-requires : tie.Need-write-all-requires
+write-all-requires c κs = search needs
+
+returns : tie.Need-returns
+returns c = search needs
+
+pub closing-spec : {M : Type 1} → statement M
+closing-spec =
+    tie.close
+    (tie.spec
+    closing-line-requires
+    array-share-prefix-room
+    slice-aggregate-write-all
+    write-all-requires
+    returns)

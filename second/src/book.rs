@@ -1,0 +1,231 @@
+//! The book of one clearing member: its rows, what each account is deemed,
+//! and when a book is sound.
+
+/// "The ceiling is 10,000,000,000,000 paise."
+pub const CEILING: u64 = 10_000_000_000_000;
+/// "A book holds at most 256 accounts, numbered from 0."
+pub const MOST_ACCOUNTS: usize = 256;
+/// Cash, fixed deposits, bank guarantees, government securities.
+pub const KINDS: usize = 4;
+
+#[derive(Clone, Copy, PartialEq, Eq, Default, Debug)]
+pub enum Sort {
+    /// A row whose number was never given.
+    #[default]
+    Unused,
+    Cm,
+    Tm,
+    Client,
+    Cp,
+}
+
+#[derive(Clone, Copy, PartialEq, Eq, Default, Debug)]
+pub struct Row {
+    pub sort: Sort,
+    pub live: bool,
+    /// A client's TM; 0 for every other sort.
+    pub tm: u16,
+    pub received: [u64; KINDS],
+    pub allocated: [u64; KINDS],
+    pub pledged: u64,
+    pub margin: u64,
+}
+
+impl Row {
+    pub fn opened(sort: Sort, tm: u16) -> Row {
+        Row {
+            sort,
+            live: true,
+            tm,
+            ..Row::default()
+        }
+    }
+
+    /// "Collateral is the sum of the four allocated amounts and pledged."
+    pub fn collateral(&self) -> u64 {
+        let [cash, deposits, guarantees, securities] = self.allocated;
+        cash + deposits + guarantees + securities + self.pledged
+    }
+
+    pub fn is_empty(&self) -> bool {
+        self.received == [0; KINDS]
+            && self.allocated == [0; KINDS]
+            && self.pledged == 0
+            && self.margin == 0
+    }
+
+    fn within_limits(&self) -> bool {
+        let kinds = self.received.iter().zip(&self.allocated);
+        kinds
+            .into_iter()
+            .all(|(&received, &allocated)| received <= CEILING && allocated <= received)
+            && self.pledged <= CEILING
+            && self.margin <= CEILING
+    }
+}
+
+/// The five figures of an account, always worked out afresh from the rows.
+#[derive(Clone, Copy, PartialEq, Eq, Default, Debug)]
+pub struct Standing {
+    pub collateral: u64,
+    pub need: u64,
+    pub blocked: u64,
+    pub deemed: u64,
+    pub free: u64,
+}
+
+impl Standing {
+    fn of(collateral: u64, need: u64) -> Standing {
+        let blocked = need.min(collateral);
+        Standing {
+            collateral,
+            need,
+            blocked,
+            deemed: need - blocked,
+            free: collateral - blocked,
+        }
+    }
+}
+
+#[derive(Clone)]
+pub struct Book {
+    pub rows: [Row; MOST_ACCOUNTS],
+    pub count: usize,
+    pub serial: u16,
+    /// For each account, what those directly under it are deemed, added up.
+    /// Kept so that a record needs no walk over all the rows.
+    called: [u64; MOST_ACCOUNTS],
+}
+
+impl Book {
+    /// "In a fresh book it is the only account and all amounts are 0."
+    pub fn fresh() -> Book {
+        let mut rows = [Row::default(); MOST_ACCOUNTS];
+        rows[0] = Row::opened(Sort::Cm, 0);
+        Book {
+            rows,
+            count: 1,
+            serial: 0,
+            called: [0; MOST_ACCOUNTS],
+        }
+    }
+
+    /// "The account is not live, or its number was never given" is the opposite.
+    pub fn is_live(&self, account: u16) -> bool {
+        usize::from(account) < self.count && self.rows[usize::from(account)].live
+    }
+
+    pub fn need(&self, account: usize) -> u64 {
+        self.rows[account].margin + self.called[account]
+    }
+
+    pub fn deemed(&self, account: usize) -> u64 {
+        self.need(account)
+            .saturating_sub(self.rows[account].collateral())
+    }
+
+    pub fn free(&self, account: usize) -> u64 {
+        self.rows[account]
+            .collateral()
+            .saturating_sub(self.need(account))
+    }
+
+    /// The account that answers for what this one is deemed: a client's TM,
+    /// and the CM for TMs and CPs.
+    pub fn answers_for(&self, account: usize) -> usize {
+        usize::from(self.rows[account].tm)
+    }
+
+    /// The CM's need if the account's margin were this one.
+    pub fn cm_need_with(&self, account: usize, margin: u64) -> u64 {
+        let mut at = account;
+        let mut need = margin + self.called[at];
+        while at != 0 {
+            let above = self.answers_for(at);
+            let deemed = need.saturating_sub(self.rows[at].collateral());
+            need = self.need(above) - self.deemed(at) + deemed;
+            at = above;
+        }
+        need
+    }
+
+    /// Changes one row and carries what it is now deemed up to the CM.
+    pub fn change(&mut self, account: usize, change: impl FnOnce(&mut Row)) {
+        let mut at = account;
+        let mut was = self.deemed(at);
+        change(&mut self.rows[at]);
+        while at != 0 {
+            let now = self.deemed(at);
+            if now == was {
+                break;
+            }
+            let above = self.answers_for(at);
+            let above_was = self.deemed(above);
+            self.called[above] = self.called[above] - was + now;
+            (at, was) = (above, above_was);
+        }
+    }
+
+    pub fn open(&mut self, sort: Sort, tm: u16) -> u16 {
+        let number = self.count;
+        self.rows[number] = Row::opened(sort, tm);
+        self.count += 1;
+        number as u16
+    }
+
+    pub fn has_live_client(&self, tm: u16) -> bool {
+        let rows = &self.rows[..self.count];
+        rows.iter()
+            .any(|row| row.sort == Sort::Client && row.live && row.tm == tm)
+    }
+
+    /// The standings of all numbers given, from present amounts only. Whoever
+    /// answers for an account has a lower number, so one walk down suffices.
+    pub fn standings(&self) -> Vec<Standing> {
+        let mut called = vec![0u64; self.count];
+        let mut all = vec![Standing::default(); self.count];
+        for account in (0..self.count).rev() {
+            let row = &self.rows[account];
+            all[account] = Standing::of(row.collateral(), row.margin + called[account]);
+            if account != 0 {
+                called[self.answers_for(account)] += all[account].deemed;
+            }
+        }
+        all
+    }
+
+    /// Document 01, "A sound book". A row that is no client has TM number 0.
+    pub fn is_sound(&self) -> bool {
+        (1..=MOST_ACCOUNTS).contains(&self.count)
+            && self.rows[0].sort == Sort::Cm
+            && self.rows[0].live
+            && self.rows[self.count..]
+                .iter()
+                .all(|row| *row == Row::default())
+            && (0..self.count).all(|account| self.row_is_sound(account))
+            && self.standings()[0].deemed == 0
+    }
+
+    fn row_is_sound(&self, account: usize) -> bool {
+        let row = &self.rows[account];
+        let sort_fits = match row.sort {
+            Sort::Cm => account == 0 && row.tm == 0,
+            Sort::Tm | Sort::Cp => account != 0 && row.tm == 0,
+            Sort::Client => self.client_is_sound(account),
+            Sort::Unused => false,
+        };
+        sort_fits && row.within_limits() && (row.live || row.is_empty())
+    }
+
+    fn client_is_sound(&self, account: usize) -> bool {
+        let row = &self.rows[account];
+        let tm = usize::from(row.tm);
+        tm < account && self.rows[tm].sort == Sort::Tm && (!row.live || self.rows[tm].live)
+    }
+
+    /// What is kept must be what the rows say.
+    pub fn kept_agrees(&self) -> bool {
+        let standings = self.standings();
+        (0..self.count).all(|account| self.need(account) == standings[account].need)
+    }
+}

@@ -1,0 +1,201 @@
+//! Carrying one record out: refusals 3 to 14 in their order.
+
+use crate::book::{Book, Row, Sort, CEILING, KINDS, MOST_ACCOUNTS};
+use crate::dayfile::*;
+
+/// Document 01's numbers. 1 is missing: a book changed by `carry` alone stays
+/// sound, and `--check` tests that it does.
+#[derive(Clone, Copy, PartialEq, Eq, Debug)]
+#[repr(u8)]
+pub enum Refusal {
+    Cut = 2,
+    WrongSerial = 3,
+    UnknownCode = 4,
+    UnsuitedMark = 5,
+    OutOfRange = 6,
+    NotLive = 7,
+    WrongSort = 8,
+    NoNumberLeft = 9,
+    PastCeiling = 10,
+    MoreThanThere = 11,
+    MoreThanFree = 12,
+    MarginUncovered = 13,
+    NotEmpty = 14,
+    WrongLength = 15,
+    BadLoss = 16,
+}
+
+#[derive(Clone, Copy, PartialEq, Eq, Debug)]
+pub enum Outcome {
+    Done,
+    Opened(u16),
+    Refused(Refusal),
+}
+
+#[derive(Clone, Copy, PartialEq, Eq, Debug)]
+pub struct Answer {
+    pub serial: u16,
+    pub code: u8,
+    pub account: u16,
+    pub outcome: Outcome,
+}
+
+impl Answer {
+    /// The refusal's number, or 0.
+    pub fn refusal(&self) -> u8 {
+        match self.outcome {
+            Outcome::Refused(refusal) => refusal as u8,
+            _ => 0,
+        }
+    }
+
+    /// The number given by an opening, or 0.
+    pub fn opened(&self) -> u16 {
+        match self.outcome {
+            Outcome::Opened(number) => number,
+            _ => 0,
+        }
+    }
+}
+
+type Carried = Result<Outcome, Refusal>;
+
+/// Refusal 3 changes nothing; from 4 on the serial moves as for a record
+/// carried out.
+pub fn carry(book: &mut Book, record: &Record) -> Answer {
+    let outcome = if record.serial != book.serial {
+        Outcome::Refused(Refusal::WrongSerial)
+    } else {
+        book.serial = book.serial.wrapping_add(1);
+        instruct(book, record).unwrap_or_else(Outcome::Refused)
+    };
+    Answer {
+        serial: record.serial,
+        code: record.code,
+        account: record.account,
+        outcome,
+    }
+}
+
+fn instruct(book: &mut Book, record: &Record) -> Carried {
+    let amounts = record.checked()?;
+    if !book.is_live(record.account) {
+        return Err(Refusal::NotLive);
+    }
+    let account = usize::from(record.account);
+    let kinds = [amounts[0], amounts[1], amounts[2], amounts[3]];
+    match record.code {
+        OPEN_TM | OPEN_CLIENT | OPEN_CP => open(book, record.code, record.account),
+        RECEIVE => receive(book, account, kinds),
+        HAND_BACK => hand_back(book, account, kinds),
+        ALLOCATE => allocate(book, account, kinds),
+        RELEASE => release(book, account, kinds),
+        PLEDGE => pledge(book, account, amounts[PLEDGED]),
+        UNPLEDGE => unpledge(book, account, amounts[PLEDGED]),
+        SET_MARGIN => set_margin(book, account, amounts[MARGIN]),
+        RETIRE => retire(book, record.account),
+        _ => Err(Refusal::UnknownCode),
+    }
+}
+
+/// The account named must be the TM for a client, the CM for TMs and CPs.
+fn open(book: &mut Book, code: u8, named: u16) -> Carried {
+    let (sort, wanted) = match code {
+        OPEN_TM => (Sort::Tm, Sort::Cm),
+        OPEN_CP => (Sort::Cp, Sort::Cm),
+        _ => (Sort::Client, Sort::Tm),
+    };
+    if book.rows[usize::from(named)].sort != wanted {
+        return Err(Refusal::WrongSort);
+    }
+    if book.count == MOST_ACCOUNTS {
+        return Err(Refusal::NoNumberLeft);
+    }
+    Ok(Outcome::Opened(book.open(sort, named)))
+}
+
+fn receive(book: &mut Book, account: usize, kinds: [u64; KINDS]) -> Carried {
+    let row = &mut book.rows[account];
+    if (0..KINDS).any(|kind| row.received[kind] + kinds[kind] > CEILING) {
+        return Err(Refusal::PastCeiling);
+    }
+    (0..KINDS).for_each(|kind| row.received[kind] += kinds[kind]);
+    Ok(Outcome::Done)
+}
+
+fn more_than_unallocated(row: &Row, kinds: [u64; KINDS]) -> bool {
+    (0..KINDS).any(|kind| kinds[kind] > row.received[kind] - row.allocated[kind])
+}
+
+fn hand_back(book: &mut Book, account: usize, kinds: [u64; KINDS]) -> Carried {
+    let row = &mut book.rows[account];
+    if more_than_unallocated(row, kinds) {
+        return Err(Refusal::MoreThanThere);
+    }
+    (0..KINDS).for_each(|kind| row.received[kind] -= kinds[kind]);
+    Ok(Outcome::Done)
+}
+
+fn allocate(book: &mut Book, account: usize, kinds: [u64; KINDS]) -> Carried {
+    if more_than_unallocated(&book.rows[account], kinds) {
+        return Err(Refusal::MoreThanThere);
+    }
+    book.change(account, |row| {
+        (0..KINDS).for_each(|kind| row.allocated[kind] += kinds[kind])
+    });
+    Ok(Outcome::Done)
+}
+
+/// 11 looks at each kind, 12 at "its kinds added up".
+fn release(book: &mut Book, account: usize, kinds: [u64; KINDS]) -> Carried {
+    let row = &book.rows[account];
+    if (0..KINDS).any(|kind| kinds[kind] > row.allocated[kind]) {
+        return Err(Refusal::MoreThanThere);
+    }
+    if kinds.iter().sum::<u64>() > book.free(account) {
+        return Err(Refusal::MoreThanFree);
+    }
+    book.change(account, |row| {
+        (0..KINDS).for_each(|kind| row.allocated[kind] -= kinds[kind])
+    });
+    Ok(Outcome::Done)
+}
+
+fn pledge(book: &mut Book, account: usize, amount: u64) -> Carried {
+    if book.rows[account].pledged + amount > CEILING {
+        return Err(Refusal::PastCeiling);
+    }
+    book.change(account, |row| row.pledged += amount);
+    Ok(Outcome::Done)
+}
+
+fn unpledge(book: &mut Book, account: usize, amount: u64) -> Carried {
+    if amount > book.rows[account].pledged {
+        return Err(Refusal::MoreThanThere);
+    }
+    if amount > book.free(account) {
+        return Err(Refusal::MoreThanFree);
+    }
+    book.change(account, |row| row.pledged -= amount);
+    Ok(Outcome::Done)
+}
+
+fn set_margin(book: &mut Book, account: usize, margin: u64) -> Carried {
+    if book.cm_need_with(account, margin) > book.rows[0].collateral() {
+        return Err(Refusal::MarginUncovered);
+    }
+    book.change(account, |row| row.margin = margin);
+    Ok(Outcome::Done)
+}
+
+fn retire(book: &mut Book, account: u16) -> Carried {
+    if account == 0 {
+        return Err(Refusal::WrongSort);
+    }
+    let row = &book.rows[usize::from(account)];
+    if !row.is_empty() || (row.sort == Sort::Tm && book.has_live_client(account)) {
+        return Err(Refusal::NotEmpty);
+    }
+    book.rows[usize::from(account)].live = false;
+    Ok(Outcome::Done)
+}

@@ -1,0 +1,211 @@
+//! Other programs against this one, byte for byte, on many made-up days.
+
+use crate::book::Book;
+use crate::carry::{Answer, Refusal};
+use crate::child::{ask, Pace};
+use crate::closeout::close_out_bytes;
+use crate::day::Closing;
+use crate::difference::settle;
+use crate::make::{losses, make, MILLION_KIND, NO_LIMIT, ROUND};
+use crate::options::Options;
+use crate::print;
+use std::fs;
+use std::path::PathBuf;
+
+const VALUED: [&str; 6] = [
+    "--day",
+    "--standings",
+    "--closeouts",
+    "--days",
+    "--seed",
+    "--millions",
+];
+
+/// What was compared. Slots 0 to 16 count answers by refusal.
+#[derive(Default)]
+struct Tally {
+    days: u64,
+    records: u64,
+    refusals: [u64; 17],
+}
+
+pub struct Made {
+    pub kind: &'static str,
+    pub seed: u64,
+    pub bytes: Vec<u8>,
+    pub pace: Pace,
+}
+
+/// Where the closeouts program is to find the losses.
+enum Losses {
+    File(Vec<u8>),
+    Missing,
+    Folder,
+    NoArgument,
+}
+
+struct Programs<'a> {
+    day: Option<&'a str>,
+    standings: Option<&'a str>,
+    closeouts: Option<&'a str>,
+    folder: PathBuf,
+}
+
+/// The closing line on success; a readable account of the first difference
+/// otherwise.
+pub fn compare(words: &[String]) -> Result<String, String> {
+    let options = Options::of(words, &VALUED, &["--trickle"])?;
+    let programs = Programs {
+        day: options.value("--day"),
+        standings: options.value("--standings"),
+        closeouts: options.value("--closeouts"),
+        folder: std::env::temp_dir().join(format!("second-compare-{}", std::process::id())),
+    };
+    if programs
+        .day
+        .or(programs.standings)
+        .or(programs.closeouts)
+        .is_none()
+    {
+        return Err("compare: name a program with --day, --standings or --closeouts".to_string());
+    }
+    fs::create_dir_all(&programs.folder).map_err(|error| error.to_string())?;
+    let tally = all_days(&options, &programs);
+    // A day file kept for a difference leaves the losses with it.
+    if tally.is_ok() {
+        let _ = fs::remove_file(programs.folder.join("losses"));
+    }
+    let _ = fs::remove_dir(&programs.folder);
+    Ok(summary(&tally?))
+}
+
+fn all_days(options: &Options, programs: &Programs) -> Result<Tally, String> {
+    let seed = options.number("--seed", 1)?;
+    let days = options.number("--days", 900)?;
+    let millions = options.number("--millions", 0)?;
+    let mut tally = Tally::default();
+    for place in 0..days + millions {
+        let is_round = place < days;
+        let kind = if is_round {
+            ROUND[place as usize % ROUND.len()]
+        } else {
+            MILLION_KIND
+        };
+        let seed = seed.wrapping_add(if is_round { place } else { place - days });
+        let trickled = options.has("--trickle") && place % 4 == 1;
+        let made = Made {
+            kind: kind.0,
+            seed,
+            bytes: make(kind, seed, NO_LIMIT),
+            pace: if trickled {
+                Pace::Trickle(seed)
+            } else {
+                Pace::Whole
+            },
+        };
+        one_day(programs, &made, &mut tally)?;
+    }
+    Ok(tally)
+}
+
+fn one_day(programs: &Programs, made: &Made, tally: &mut Tally) -> Result<(), String> {
+    let (want, book) = own_answer(made, tally)?;
+    if let Some(program) = programs.day {
+        let got = ask(program, None, &made.bytes, made.pace);
+        settle(&programs.folder, made, "day", &want, got)?;
+    }
+    if let Some(program) = programs.standings {
+        let got = ask(program, None, &made.bytes, made.pace);
+        settle(
+            &programs.folder,
+            made,
+            "standings",
+            &print::standings(&made.bytes),
+            got,
+        )?;
+    }
+    match programs.closeouts {
+        Some(program) => one_close_out(programs, program, made, &book, tally),
+        None => Ok(()),
+    }
+}
+
+/// This program's own answer, with the book's soundness asserted besides.
+fn own_answer(made: &Made, tally: &mut Tally) -> Result<(Vec<u8>, Book), String> {
+    let mut faults = 0;
+    let checked = made.kind != MILLION_KIND.0;
+    let (out, book, day) = print::day_seen(&made.bytes, |answer, book| {
+        count(tally, answer);
+        if checked && !(book.is_sound() && book.kept_agrees()) {
+            faults += 1;
+        }
+    });
+    if faults > 0 || !(book.is_sound() && book.kept_agrees()) {
+        return Err(format!(
+            "own book not sound: kind {} seed {}",
+            made.kind, made.seed
+        ));
+    }
+    tally.days += 1;
+    tally.refusals[Refusal::Cut as usize] += u64::from(day.closing == Closing::Cut);
+    Ok((out, book))
+}
+
+fn count(tally: &mut Tally, answer: &Answer) {
+    tally.records += 1;
+    tally.refusals[usize::from(answer.refusal())] += 1;
+}
+
+fn one_close_out(
+    programs: &Programs,
+    program: &str,
+    made: &Made,
+    book: &Book,
+    tally: &mut Tally,
+) -> Result<(), String> {
+    let losses = losses_for(made, book);
+    let path = programs.folder.join("losses");
+    let (argument, given) = match &losses {
+        Losses::File(bytes) => {
+            fs::write(&path, bytes).map_err(|error| error.to_string())?;
+            (Some(path), Some(bytes.as_slice()))
+        }
+        Losses::Missing => (Some(programs.folder.join("no-such-file")), None),
+        Losses::Folder => (Some(programs.folder.clone()), None),
+        Losses::NoArgument => (None, None),
+    };
+    if let Some(Err(refusal)) = given.map(|bytes| close_out_bytes(book, bytes)) {
+        tally.refusals[refusal as usize] += 1;
+    }
+    let got = ask(program, argument.as_deref(), &made.bytes, made.pace);
+    settle(
+        &programs.folder,
+        made,
+        "closeouts",
+        &print::closeouts(&made.bytes, given),
+        got,
+    )
+}
+
+/// Now and then the file can't be read at all.
+fn losses_for(made: &Made, book: &Book) -> Losses {
+    match made.seed % 61 {
+        7 => Losses::Missing,
+        23 => Losses::Folder,
+        41 => Losses::NoArgument,
+        _ => Losses::File(losses::make(book, made.seed)),
+    }
+}
+
+fn summary(tally: &Tally) -> String {
+    let refusals: Vec<String> = (2..17)
+        .map(|number| format!("{number}:{}", tally.refusals[number]))
+        .collect();
+    format!(
+        "same: {} days, {} records, {} carried out, refusals {}",
+        tally.days,
+        tally.records,
+        tally.refusals[0],
+        refusals.join(" ")
+    )
+}

@@ -1,0 +1,92 @@
+//! The first difference between two answers, shown so that a person can
+//! follow it up.
+
+use crate::child::Pace;
+use crate::compare::Made;
+use crate::dayfile::{Next, Reader};
+use crate::text;
+use std::fs;
+use std::path::Path;
+use std::process::Output;
+
+/// No difference, or an account of it; the day file is then kept.
+pub fn settle(
+    folder: &Path,
+    made: &Made,
+    name: &str,
+    want: &[u8],
+    got: std::io::Result<Output>,
+) -> Result<(), String> {
+    let got = got.map_err(|error| format!("{name}: cannot run: {error}"))?;
+    // A program that a signal ended may have printed all its lines before.
+    if got.stdout == want && got.status.code().is_some() {
+        return Ok(());
+    }
+    let kept = keep(folder, made);
+    Err(difference(made, name, want, &got) + &kept)
+}
+
+fn keep(folder: &Path, made: &Made) -> String {
+    let path = folder.join(format!("{}-{}.day", made.kind, made.seed));
+    match fs::write(&path, &made.bytes) {
+        Ok(()) => format!(
+            "\n  day file: {} (losses beside it, if any)",
+            path.display()
+        ),
+        Err(error) => format!("\n  the day file could not be kept: {error}"),
+    }
+}
+
+fn difference(made: &Made, name: &str, want: &[u8], got: &Output) -> String {
+    let (wanted, given) = (lines(want), lines(&got.stdout));
+    let same = wanted
+        .iter()
+        .zip(&given)
+        .take_while(|(want, got)| want == got)
+        .count();
+    let shown = |list: &[&[u8]]| match list.get(same) {
+        Some(line) => String::from_utf8_lossy(line).escape_debug().to_string(),
+        None => "(nothing)".to_string(),
+    };
+    let mut report = format!(
+        "difference: program {name}, kind {}, seed {}, line {}\n  second: {}\n  other:  {}",
+        made.kind,
+        made.seed,
+        same + 1,
+        shown(&wanted),
+        shown(&given)
+    );
+    if name == "day" {
+        report += &format!("\n  record: {}", record_hex(&made.bytes, same));
+    }
+    if matches!(made.pace, Pace::Trickle(_)) {
+        report += "\n  the day was fed in small pieces";
+    }
+    let said = String::from_utf8_lossy(&got.stderr);
+    report += &format!(
+        "\n  other ended with {}; it said: {}",
+        got.status,
+        said.trim_end()
+    );
+    report
+}
+
+/// Lines with their newline, since a missing one is a difference too.
+fn lines(text: &[u8]) -> Vec<&[u8]> {
+    text.split_inclusive(|&byte| byte == b'\n').collect()
+}
+
+fn record_hex(piece: &[u8], place: usize) -> String {
+    let mut reader = Reader::new(piece);
+    for _ in 0..place {
+        let Next::Record(_) = reader.next() else {
+            return "(none)".to_string();
+        };
+    }
+    let start = reader.place();
+    match reader.next() {
+        Next::Record(_) => text::hex(&piece[start..reader.place()]),
+        Next::Cut => format!("{} (cut)", text::hex(&piece[start..])),
+        Next::End => "(none)".to_string(),
+    }
+}

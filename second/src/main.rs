@@ -1,0 +1,164 @@
+//! An independent second program for the collateral book of one clearing
+//! member, written from document 01 alone and made to be compared with the
+//! first.
+
+mod book;
+mod bundle;
+mod carry;
+mod child;
+mod closeout;
+mod compare;
+mod day;
+mod dayfile;
+mod difference;
+mod make;
+mod options;
+mod print;
+mod rng;
+#[cfg(test)]
+mod tests;
+mod text;
+
+use std::ffi::OsString;
+use std::fs::File;
+use std::io::{self, Read, Write};
+use std::process::ExitCode;
+
+const USAGE: &str = "\
+second day [--check] < DAYFILE           a line per record, then end, cut or long
+second standings < DAYFILE               the closing line, then every account's five figures
+second closeouts LOSSFILE < DAYFILE      the closing line, then what each loss is paid from
+second make KIND SEED > DAYFILE          a made-up day: busy hostile bent bounds cuts serials
+                                         openings retire mixed million
+second losses SEED < DAYFILE > LOSSFILE  made-up losses for the book at that day's end
+second compare --day P --standings P --closeouts P
+               [--days N] [--seed S] [--millions K] [--trickle]
+                                         other programs against this one on made-up days
+second bundle --days N --seed S > BUNDLE many small days in one file
+second bundled < BUNDLE > ANSWERS        the answers to all of them
+second write < TEXT > DAYFILE            a day file from its readable form
+second read < DAYFILE > TEXT             and back
+";
+
+/// A million records hold at most this much; one byte more makes it `long`.
+const DAY_MOST: u64 = (day::MILLION * dayfile::LONGEST) as u64 + 1;
+
+type Output = Result<Vec<u8>, String>;
+
+fn main() -> ExitCode {
+    let arguments: Vec<OsString> = std::env::args_os().skip(1).collect();
+    let command = arguments
+        .first()
+        .and_then(|word| word.to_str())
+        .unwrap_or("");
+    // A path may be any bytes; all other words are plain text.
+    let words: Vec<String> = arguments
+        .iter()
+        .skip(1)
+        .map(|word| word.to_string_lossy().into_owned())
+        .collect();
+    let output = match command {
+        "day" => day_command(&words),
+        "standings" => day_file().map(|piece| print::standings(&piece)),
+        "closeouts" => closeouts_command(arguments.get(1)),
+        "make" => make_command(&words),
+        "losses" => losses_command(&words),
+        "compare" => compare::compare(&words).map(|line| (line + "\n").into_bytes()),
+        "bundle" => bundle::bundle(&words),
+        "bundled" => all_input().and_then(|input| bundle::bundled(&input)),
+        "write" => all_input().and_then(|input| text::write(&input)),
+        "read" => all_input().map(|input| text::read(&input).into_bytes()),
+        _ => Err(USAGE.trim_end().to_string()),
+    };
+    finish(output)
+}
+
+fn finish(output: Output) -> ExitCode {
+    let written = output.and_then(|bytes| {
+        let mut out = io::stdout().lock();
+        out.write_all(&bytes)
+            .and_then(|()| out.flush())
+            .map_err(|error| error.to_string())
+    });
+    match written {
+        Ok(()) => ExitCode::SUCCESS,
+        Err(error) => {
+            let _ = writeln!(io::stderr(), "{error}");
+            ExitCode::FAILURE
+        }
+    }
+}
+
+fn input(most: u64) -> Output {
+    let mut bytes = Vec::new();
+    let read = io::stdin().lock().take(most).read_to_end(&mut bytes);
+    read.map(|_| bytes)
+        .map_err(|error| format!("cannot read the input: {error}"))
+}
+
+fn all_input() -> Output {
+    input(u64::MAX)
+}
+
+fn day_file() -> Output {
+    input(DAY_MOST)
+}
+
+fn day_command(words: &[String]) -> Output {
+    match words {
+        [] => Ok(print::day(&day_file()?)),
+        [word] if word == "--check" => checked_day(&day_file()?),
+        _ => Err(USAGE.trim_end().to_string()),
+    }
+}
+
+/// As `day`, but looks after every record whether the book is sound.
+fn checked_day(piece: &[u8]) -> Output {
+    let (mut seen, mut first_fault) = (0, None);
+    let (out, _, _) = print::day_seen(piece, |_, book| {
+        seen += 1;
+        if first_fault.is_none() && !(book.is_sound() && book.kept_agrees()) {
+            first_fault = Some(seen);
+        }
+    });
+    match first_fault {
+        None => Ok(out),
+        Some(record) => Err(format!("the book is not sound after record {record}")),
+    }
+}
+
+fn closeouts_command(path: Option<&OsString>) -> Output {
+    let Some(losses) = path.and_then(|path| losses_file(path).ok()) else {
+        return Ok(print::closeouts(&[], None));
+    };
+    Ok(print::closeouts(&day_file()?, Some(&losses)))
+}
+
+/// One byte past the most that any book could want is refusal 15 already.
+fn losses_file(path: &OsString) -> io::Result<Vec<u8>> {
+    let mut bytes = Vec::new();
+    let most = 8 * book::MOST_ACCOUNTS as u64 + 1;
+    File::open(path)?.take(most).read_to_end(&mut bytes)?;
+    Ok(bytes)
+}
+
+fn seed(word: &str) -> Result<u64, String> {
+    word.parse().map_err(|_| format!("`{word}` is no seed"))
+}
+
+fn make_command(words: &[String]) -> Output {
+    let [kind, number] = words else {
+        return Err("make: a kind and a seed are expected".to_string());
+    };
+    let kind = make::kind_named(kind).ok_or_else(|| format!("make: unknown kind `{kind}`"))?;
+    Ok(make::make(kind, seed(number)?, make::NO_LIMIT))
+}
+
+fn losses_command(words: &[String]) -> Output {
+    let [number] = words else {
+        return Err("losses: a seed is expected".to_string());
+    };
+    let seed = seed(number)?;
+    let (book, _) = day::run_fresh(&day_file()?);
+    Ok(make::losses::make(&book, seed))
+}

@@ -1,0 +1,144 @@
+//! What the programs print. Every line ends with a newline.
+
+use crate::book::{Book, Sort, Standing};
+use crate::carry::Answer;
+use crate::closeout::{close_out_bytes, CloseOut};
+use crate::day::{run, run_fresh, Closing, Day, MILLION};
+
+pub const CANNOT_READ: &[u8] = b"closeouts: cannot read the file of losses\n";
+
+/// Room for six of the longest numbers, each with a space or the newline.
+const LINE: usize = 6 * 21;
+
+/// A line of up to six numbers, laid down from its end: a day may print five
+/// million numbers, and this way each line is copied once.
+fn push_numbers(out: &mut Vec<u8>, numbers: &[u64]) {
+    let mut line = [b' '; LINE];
+    let mut at = LINE - 1;
+    line[at] = b'\n';
+    for (place, &number) in numbers.iter().enumerate().rev() {
+        let mut left = number;
+        loop {
+            at -= 1;
+            line[at] = b'0' + (left % 10) as u8;
+            left /= 10;
+            if left == 0 {
+                break;
+            }
+        }
+        at -= usize::from(place > 0);
+    }
+    out.extend_from_slice(&line[at..]);
+}
+
+pub fn push_answer(out: &mut Vec<u8>, answer: &Answer) {
+    let numbers = [
+        u64::from(answer.serial),
+        u64::from(answer.code),
+        u64::from(answer.account),
+        u64::from(answer.refusal()),
+        u64::from(answer.opened()),
+    ];
+    push_numbers(out, &numbers);
+}
+
+fn push_closing(out: &mut Vec<u8>, day: &Day) {
+    let word: &[u8] = match day.closing {
+        Closing::End => b"end ",
+        Closing::Cut => b"cut ",
+        Closing::Long => b"long ",
+    };
+    out.extend_from_slice(word);
+    push_numbers(out, &[day.read as u64, day.carried as u64]);
+}
+
+/// The output of `day`; `each` may look at every answer besides.
+pub fn day_seen(piece: &[u8], mut each: impl FnMut(&Answer, &Book)) -> (Vec<u8>, Book, Day) {
+    let mut out = Vec::with_capacity(piece.len() + 64);
+    let mut book = Book::fresh();
+    let day = run(&mut book, piece, MILLION, |answer, book| {
+        push_answer(&mut out, answer);
+        each(answer, book);
+    });
+    push_closing(&mut out, &day);
+    (out, book, day)
+}
+
+pub fn day(piece: &[u8]) -> Vec<u8> {
+    day_seen(piece, |_, _| {}).0
+}
+
+fn sort_word(sort: Sort) -> &'static str {
+    match sort {
+        Sort::Cm => "cm",
+        Sort::Tm => "tm",
+        Sort::Client => "client",
+        Sort::Cp => "cp",
+        Sort::Unused => "unused",
+    }
+}
+
+fn push_standing(out: &mut Vec<u8>, book: &Book, account: usize, standing: &Standing) {
+    let row = &book.rows[account];
+    let state = if row.live { "live" } else { "retired" };
+    out.extend_from_slice(format!("{account} {} {state} ", sort_word(row.sort)).as_bytes());
+    let Standing {
+        collateral,
+        need,
+        blocked,
+        deemed,
+        free,
+    } = *standing;
+    push_numbers(
+        out,
+        &[u64::from(row.tm), collateral, need, blocked, deemed, free],
+    );
+}
+
+/// The lines of `standings` without the closing line.
+pub fn standing_lines(book: &Book) -> Vec<u8> {
+    let mut out = Vec::new();
+    for (account, standing) in book.standings().iter().enumerate() {
+        push_standing(&mut out, book, account, standing);
+    }
+    out
+}
+
+/// The output of `standings`.
+pub fn standings(piece: &[u8]) -> Vec<u8> {
+    let (book, day) = run_fresh(piece);
+    let mut out = Vec::new();
+    push_closing(&mut out, &day);
+    out.extend(standing_lines(&book));
+    out
+}
+
+/// The output of `closeouts`; no losses where their file can't be read.
+pub fn closeouts(piece: &[u8], losses: Option<&[u8]>) -> Vec<u8> {
+    let Some(losses) = losses else {
+        return CANNOT_READ.to_vec();
+    };
+    let (book, day) = run_fresh(piece);
+    let mut out = Vec::new();
+    push_closing(&mut out, &day);
+    match close_out_bytes(&book, losses) {
+        Ok(answer) => push_close_out(&mut out, &answer),
+        Err(refusal) => out.extend_from_slice(format!("refused {}\n", refusal as u8).as_bytes()),
+    }
+    out
+}
+
+fn push_close_out(out: &mut Vec<u8>, answer: &CloseOut) {
+    for (account, (loss, payment)) in answer.losses.iter().zip(&answer.payments).enumerate() {
+        let numbers = [
+            account as u64,
+            *loss,
+            payment.own,
+            payment.tm,
+            payment.cm,
+            payment.uncovered,
+        ];
+        push_numbers(out, &numbers);
+    }
+    out.extend_from_slice(format!("total {}\n", answer.total).as_bytes());
+}

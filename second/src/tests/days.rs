@@ -1,0 +1,195 @@
+//! Made-up days held against the rules written by the letter a second time.
+
+use super::*;
+use crate::book::{Sort, Standing};
+use crate::bundle;
+use crate::closeout::close_out_bytes;
+use crate::day::Closing;
+use crate::dayfile::{Next, Reader};
+use crate::make::{kind_named, losses, make, NO_LIMIT, ROUND};
+
+/// Need as the paper says it, with no walk order and nothing kept.
+fn need(book: &Book, account: usize) -> u64 {
+    let under = (0..book.count).filter(|&other| match book.rows[other].sort {
+        Sort::Client => usize::from(book.rows[other].tm) == account,
+        Sort::Tm | Sort::Cp => account == 0,
+        _ => false,
+    });
+    let deemed = |other| need(book, other).saturating_sub(book.rows[other].collateral());
+    book.rows[account].margin + under.map(deemed).sum::<u64>()
+}
+
+fn standing(book: &Book, account: usize) -> Standing {
+    let (collateral, need) = (book.rows[account].collateral(), need(book, account));
+    let blocked = need.min(collateral);
+    Standing {
+        collateral,
+        need,
+        blocked,
+        deemed: need - blocked,
+        free: collateral - blocked,
+    }
+}
+
+#[test]
+fn standings_by_the_letter() {
+    for kind in ROUND {
+        for seed in 300..325 {
+            let (book, _) = day::run_fresh(&make(kind, seed, 3_000));
+            for (account, given) in book.standings().into_iter().enumerate() {
+                assert_eq!(
+                    given,
+                    standing(&book, account),
+                    "kind {} seed {seed}",
+                    kind.0
+                );
+            }
+        }
+    }
+}
+
+#[test]
+fn sound_after_every_record() {
+    for kind in ROUND {
+        for seed in 0..40 {
+            print::day_seen(&make(kind, seed, 60_000), |_, book| {
+                assert!(
+                    book.is_sound() && book.kept_agrees(),
+                    "kind {} seed {seed}",
+                    kind.0
+                );
+            });
+        }
+    }
+}
+
+/// A refusal leaves every row as it was; what passes changes one row and the
+/// serial, an opening also the number of accounts.
+#[test]
+fn one_row_at_most() {
+    for kind in ROUND {
+        for seed in 0..25 {
+            let mut before = Book::fresh();
+            print::day_seen(&make(kind, seed, 20_000), |answer, book| {
+                let rows = (0..256)
+                    .filter(|&row| before.rows[row] != book.rows[row])
+                    .count();
+                let opened = usize::from(answer.opened() != 0);
+                assert!(rows <= usize::from(answer.refusal() == 0));
+                assert_eq!(book.count, before.count + opened);
+                let moved = u16::from(answer.refusal() != 3);
+                assert_eq!(book.serial, before.serial.wrapping_add(moved));
+                before = book.clone();
+            });
+        }
+    }
+}
+
+#[test]
+fn payments_add_up() {
+    let mut refused = 0;
+    for kind in ROUND {
+        for seed in 0..60 {
+            let (book, _) = day::run_fresh(&make(kind, seed, 5_000));
+            let Ok(answer) = close_out_bytes(&book, &losses::make(&book, seed)) else {
+                refused += 1;
+                continue;
+            };
+            let sums = answer
+                .payments
+                .iter()
+                .map(|paid| paid.own + paid.tm + paid.cm + paid.uncovered);
+            assert!(sums.eq(answer.losses.iter().copied()));
+            let own_cm = answer.payments[0].own;
+            let by_cm: u64 = answer.payments.iter().map(|paid| paid.cm).sum();
+            assert!(own_cm + by_cm <= book.rows[0].collateral());
+        }
+    }
+    assert!((40..250).contains(&refused), "{refused}");
+}
+
+#[test]
+fn busy_days_meet_every_refusal() {
+    let mut counts = [0; 17];
+    for seed in 0..60 {
+        let kind = kind_named("busy").unwrap();
+        let bytes = make(kind, seed, NO_LIMIT);
+        print::day_seen(&bytes, |answer, _| {
+            counts[usize::from(answer.refusal())] += 1
+        });
+    }
+    assert!(counts[7..=14].iter().all(|&count| count > 50), "{counts:?}");
+    assert!(counts[0] * 2 > counts.iter().sum::<usize>(), "{counts:?}");
+}
+
+#[test]
+fn cuts_reach_every_length() {
+    let kind = kind_named("cuts").unwrap();
+    let mut seen = [false; 150];
+    for seed in 0..3_000 {
+        if let Some(slot) = seen.get_mut(make(kind, seed, 4_000).len()) {
+            *slot = true;
+        }
+    }
+    assert!(seen.iter().all(|&seen| seen));
+}
+
+#[test]
+fn million_days_close_in_every_way() {
+    let mut seen = Vec::new();
+    for seed in 0..9 {
+        let bytes = make(kind_named("million").unwrap(), seed, NO_LIMIT);
+        let (_, day) = day::run_fresh(&bytes);
+        assert!((999_998..=1_000_000).contains(&day.read));
+        seen.push((day.closing, day.read));
+    }
+    for wanted in [(Closing::End, 1_000_000), (Closing::Long, 1_000_000)] {
+        assert!(seen.contains(&wanted), "{seen:?}");
+    }
+    assert!(
+        seen.iter().any(|(closing, _)| *closing == Closing::Cut),
+        "{seen:?}"
+    );
+}
+
+#[test]
+fn serials_go_round_somewhere() {
+    let kind = kind_named("serials").unwrap();
+    let longest = (0..40)
+        .map(|seed| day::run_fresh(&make(kind, seed, NO_LIMIT)).1.read)
+        .max();
+    assert!(longest > Some(65_536));
+}
+
+#[test]
+fn a_bundle_is_its_days() {
+    let words = ["--days", "18", "--seed", "5"].map(String::from);
+    let bytes = bundle::bundle(&words).unwrap();
+    let mut want = Vec::new();
+    for place in 0..18 {
+        let day = make(ROUND[place % ROUND.len()], 5 + place as u64, 3_000);
+        assert!(day.len() <= 3_000);
+        want.extend(print::day(&day));
+        let standings = print::standings(&day);
+        let first = standings.iter().position(|&byte| byte == b'\n').unwrap();
+        want.extend_from_slice(&standings[first + 1..]);
+    }
+    assert!(bundle::bundled(&bytes).unwrap() == want);
+    assert!(bundle::bundled(&bytes[..bytes.len() - 1]).is_err());
+    assert!(bundle::bundled(&[]).unwrap().is_empty());
+}
+
+/// Cutting a day after a whole record never changes the lines before.
+#[test]
+fn a_shorter_day_is_a_beginning() {
+    for seed in 0..6 {
+        let bytes = make(kind_named("mixed").unwrap(), seed, 2_000);
+        let whole = print::day(&bytes);
+        let mut reader = Reader::new(&bytes);
+        while let Next::Record(_) = reader.next() {
+            let part = print::day(&bytes[..reader.place()]);
+            let lines = part.iter().rposition(|&byte| byte == b'e').unwrap();
+            assert!(whole.starts_with(&part[..lines]));
+        }
+    }
+}

@@ -1,0 +1,174 @@
+//! Document 01, "The program" and "Figures to hold against it". Rupees there,
+//! paise here.
+
+use super::*;
+use crate::closeout::{close_out, CloseOut, Payment};
+
+/// CM 1000, TM-1 500 (account 1), its clients A 300 (2) and B 300 (3).
+const BOOK: &str = "
+tm
+client 1
+client 1
+receive 0 cash 100000
+allocate 0 cash 100000
+receive 1 cash 50000
+allocate 1 cash 50000
+receive 2 cash 30000
+allocate 2 cash 30000
+receive 3 cash 30000
+allocate 3 cash 30000
+";
+
+/// The book at P1 to P5.
+fn at(figure: usize) -> String {
+    let margins = [
+        "margin 3 10000",
+        "margin 2 60000",
+        "margin 3 60000",
+        "margin 3 90000",
+        "margin 3 150000",
+    ];
+    format!("{BOOK}{}\n", margins[..figure].join("\n"))
+}
+
+fn blocked(said: &str) -> [u64; 4] {
+    let all = book_after(said).standings();
+    assert_eq!(all.len(), 4);
+    std::array::from_fn(|account| all[account].blocked)
+}
+
+fn deemed(said: &str) -> [u64; 4] {
+    let all = book_after(said).standings();
+    std::array::from_fn(|account| all[account].deemed)
+}
+
+fn closed(said: &str, losses: [u64; 4]) -> CloseOut {
+    close_out(&book_after(said), losses.to_vec()).unwrap()
+}
+
+fn paid(own: u64, tm: u64, cm: u64, uncovered: u64) -> Payment {
+    Payment {
+        own,
+        tm,
+        cm,
+        uncovered,
+    }
+}
+
+#[test]
+fn the_example() {
+    let hex = "raw 0100 0000 0000
+raw 0200 0001 0001
+raw 0401 0002 0002 0000000000007530
+raw 0601 0003 0002 0000000000007530
+raw 0A20 0004 0002 000000000000EA60";
+    let want = "0 1 0 0 1\n1 2 1 0 2\n2 4 2 0 0\n3 6 2 0 0\n4 10 2 13 0\nend 5 4\n";
+    assert_eq!(printed(hex), want);
+}
+
+#[test]
+fn p1() {
+    assert_eq!(blocked(&at(1)), [0, 0, 0, 10_000]);
+}
+
+#[test]
+fn p2() {
+    assert_eq!(blocked(&at(2)), [0, 30_000, 30_000, 10_000]);
+}
+
+#[test]
+fn p3() {
+    assert_eq!(blocked(&at(3)), [10_000, 50_000, 30_000, 30_000]);
+}
+
+#[test]
+fn p4() {
+    assert_eq!(blocked(&at(4)), [40_000, 50_000, 30_000, 30_000]);
+    assert_eq!(deemed(&at(4)), [0, 40_000, 30_000, 60_000]);
+}
+
+#[test]
+fn p5() {
+    assert!(refusals(&at(5)).iter().all(|&refusal| refusal == 0));
+    assert_eq!(blocked(&at(5)), [100_000, 50_000, 30_000, 30_000]);
+}
+
+#[test]
+fn p6() {
+    assert_eq!(after(&at(4), "margin 3 150001"), 13);
+    assert_eq!(after(&at(5), "margin 3 150001"), 13);
+}
+
+#[test]
+fn p7() {
+    let answer = closed(&at(4), [0, 0, 60_000, 90_000]);
+    assert_eq!(answer.payments[2], paid(30_000, 30_000, 0, 0));
+    assert_eq!(answer.payments[3], paid(30_000, 20_000, 40_000, 0));
+    assert_eq!(answer.total, 0);
+}
+
+#[test]
+fn p8() {
+    let answer = closed(&at(4), [0, 0, 120_000, 120_000]);
+    assert_eq!(answer.payments[0], paid(0, 0, 0, 0));
+    assert_eq!(answer.payments[1], paid(0, 0, 0, 0));
+    assert_eq!(answer.payments[2], paid(30_000, 50_000, 40_000, 0));
+    assert_eq!(answer.payments[3], paid(30_000, 0, 60_000, 30_000));
+    assert_eq!(answer.total, 30_000);
+}
+
+#[test]
+fn p9() {
+    assert_eq!(after(&at(1), "release 3 cash 20000"), 0);
+    assert_eq!(after(&at(1), "release 3 cash 20001"), 12);
+}
+
+#[test]
+fn p10() {
+    assert_eq!(after(&at(0), "margin 2 0"), 0);
+    assert_eq!(last("margin 0 0"), 0);
+}
+
+#[test]
+fn p11() {
+    let mut long = vec![4, 0xFF];
+    long.resize(69, 0);
+    assert_eq!(print::day(&long), b"cut 0 0\n");
+    long.push(0);
+    assert_eq!(print::day(&long), b"0 4 0 5 0\nend 1 0\n");
+}
+
+#[test]
+fn fresh_close_out() {
+    let answer = close_out(&Book::fresh(), vec![5]).unwrap();
+    assert_eq!(answer.payments, [paid(0, 0, 0, 5)]);
+    assert_eq!(answer.total, 5);
+}
+
+/// "A client's later deposit must free the TM's collateral at once."
+#[test]
+fn blocking_is_not_by_arrival() {
+    let later = format!("{}receive 2 cash 10000\nallocate 2 cash 10000\n", at(2));
+    assert_eq!(blocked(&at(2))[1], 30_000);
+    assert_eq!(blocked(&later)[1], 20_000);
+}
+
+/// A's free collateral doesn't help B of the same TM.
+#[test]
+fn no_lending_between_clients() {
+    let said = format!("{BOOK}margin 3 40000\n");
+    assert_eq!(blocked(&said), [0, 10_000, 0, 30_000]);
+}
+
+/// TM and CM pay their own losses first, then one order over all others.
+#[test]
+fn close_out_order() {
+    let said = "tm\nclient 1\ncp\ntm\npledge 0 100\npledge 1 50\npledge 2 10\npledge 3 10";
+    let answer = close_out(&book_after(said), vec![30, 40, 35, 25, 50]).unwrap();
+    assert_eq!(answer.payments[0], paid(30, 0, 0, 0));
+    assert_eq!(answer.payments[1], paid(40, 0, 0, 0));
+    assert_eq!(answer.payments[2], paid(10, 10, 15, 0));
+    assert_eq!(answer.payments[3], paid(10, 0, 15, 0));
+    assert_eq!(answer.payments[4], paid(0, 0, 40, 10));
+    assert_eq!(answer.total, 10);
+}

@@ -1,0 +1,57 @@
+//! Document 01, "A sound book", one breach at a time.
+
+use super::*;
+use crate::book::{Row, Sort, CEILING};
+
+fn breached(breach: impl FnOnce(&mut Book)) -> bool {
+    let mut book = book_after("tm\nclient 1\ncp\nclient 1\nretire 4\npledge 0 5\nreceive 2 cash 7");
+    breach(&mut book);
+    !book.is_sound()
+}
+
+#[test]
+fn sound_ones() {
+    assert!(Book::fresh().is_sound());
+    assert!(!breached(|_| {}));
+    assert!(!breached(|book| book.serial = 65_535));
+    assert!(!breached(|book| book.rows[2].received[1] = CEILING));
+    assert!(!breached(|book| book.rows[2].allocated[0] = 7));
+    assert!(!breached(|book| book.rows[0].margin = 5));
+}
+
+#[test]
+fn counts_and_sorts() {
+    assert!(breached(|book| book.count = 0));
+    assert!(breached(|book| book.count = 257));
+    assert!(breached(|book| book.count = 4));
+    assert!(breached(|book| book.count = 6));
+    assert!(breached(|book| book.rows[9].tm = 1));
+    assert!(breached(|book| book.rows[0].live = false));
+    assert!(breached(|book| book.rows[0].sort = Sort::Tm));
+    assert!(breached(|book| book.rows[3].sort = Sort::Cm));
+    assert!(breached(|book| book.rows[3].sort = Sort::Unused));
+    assert!(breached(|book| book.rows[3].tm = 1));
+    assert!(breached(|book| book.rows[0].tm = 1));
+    assert!(breached(|book| book.rows[1].tm = 1));
+    assert!(breached(|book| book.rows[2].tm = 0));
+    assert!(breached(|book| book.rows[2].tm = 3));
+    assert!(breached(
+        |book| book.rows[2] = Row::opened(Sort::Client, 200)
+    ));
+    assert!(breached(|book| book.rows[1].live = false));
+}
+
+#[test]
+fn amounts() {
+    assert!(breached(|book| book.rows[4].received[0] = 1));
+    assert!(breached(|book| book.rows[2].received[1] = CEILING + 1));
+    assert!(breached(|book| book.rows[2].pledged = CEILING + 1));
+    assert!(breached(|book| book.rows[2].allocated[0] = 8));
+    assert!(breached(|book| book.rows[2].allocated[3] = 1));
+    assert!(breached(|book| book.rows[0].margin = 6));
+    assert!(breached(|book| book.rows[2].margin = 6));
+    assert!(breached(|book| {
+        book.rows[0].pledged = CEILING;
+        book.rows[0].margin = CEILING + 1;
+    }));
+}
