@@ -1,22 +1,34 @@
 // Records handed over as values, and books that aren't sound.
-use crate::asked;
 use crate::asked::CASH;
+use crate::asked::DEPOSITS;
+use crate::asked::MARGIN;
+use crate::asked::NONE;
+use crate::asked::OPEN_CLIENT;
+use crate::asked::OPEN_TM;
+use crate::asked::PLEDGE;
+use crate::asked::PLEDGED;
+use crate::asked::RECEIVE;
+use crate::asked::SET_MARGIN;
+use crate::asked::ask;
+use crate::asked::ask_bytes;
 use crate::books;
-use crate::made;
 use crate::shown;
+use crate::words;
 use dayfile::Record;
 use rows::Book;
 use rows::Kinds;
 
-fn hand(b: Book, text: &[u8], r: Record) -> Book {
+fn hand(b: Book, r: Record) -> Book {
     let done = desk::carry_out(b, r);
     let answer = done.answer;
     let after = done.book;
-    shown::done(text, answer, b, after);
+    words::values(r);
+    shown::answer(answer, b, after);
+    shown::end_line();
     after
 }
 
-// A record of the TM's account with the next serial, that holds no amount.
+// A record of account 1 with the next serial, that holds no amount.
 fn record(b: Book, code: u8, named: u8) -> Record {
     Record {
         serial: b.serial,
@@ -34,50 +46,45 @@ fn record(b: Book, code: u8, named: u8) -> Record {
     }
 }
 
-fn hand_kinds(b: Book, text: &[u8], code: u8, named: u8, kinds: Kinds) -> Book {
-    let mut r = record(b, code, named);
+fn hand_kinds(b: Book, named: u8, cash: u64, deposits: u64, others: u64) -> Book {
+    let kinds = Kinds {
+        cash,
+        deposits,
+        guarantees: others,
+        securities: others,
+    };
+    let mut r = record(b, RECEIVE, named);
     r.kinds = kinds;
-    hand(b, text, r)
+    hand(b, r)
 }
 
-fn hand_others(b: Book, text: &[u8], code: u8, named: u8, pledged: u64, margin: u64) -> Book {
+fn hand_other(b: Book, code: u8, named: u8, pledged: u64, margin: u64) -> Book {
     let mut r = record(b, code, named);
     r.pledged = pledged;
     r.margin = margin;
-    hand(b, text, r)
-}
-
-fn kinds(cash: u64, deposits: u64, guarantees: u64, securities: u64) -> Kinds {
-    Kinds {
-        cash,
-        deposits,
-        guarantees,
-        securities,
-    }
+    hand(b, r)
 }
 
 fn unnamed() {
     shown::heading(b"values: an unnamed amount that isn't 0 gives 6");
     let b = books::four();
-    let b = hand_kinds(b, b"cash 5", 4, 1, kinds(5, 0, 0, 0));
-    let b = hand_kinds(b, b"deposits 1 unnamed", 4, 1, kinds(5, 1, 0, 0));
-    let b = hand_kinds(b, b"guarantees 1 unnamed", 4, 1, kinds(5, 0, 1, 0));
-    let b = hand_kinds(b, b"securities 1 unnamed", 4, 1, kinds(5, 0, 0, 1));
-    let b = hand_kinds(b, b"cash 1 unnamed", 4, 2, kinds(1, 5, 0, 0));
-    let b = hand_kinds(b, b"deposits 0 named", 4, 3, kinds(5, 0, 0, 0));
-    let b = hand_others(b, b"pledge 5", 8, 16, 5, 0);
-    let b = hand_others(b, b"margin 1 unnamed", 8, 16, 5, 1);
-    hand_others(b, b"pledged 1 unnamed", 10, 32, 1, 5);
+    let b = hand_kinds(b, CASH, 5, 0, 0);
+    let b = hand_kinds(b, CASH, 5, 1, 0);
+    let b = hand_kinds(b, CASH, 5, 0, 1);
+    let b = hand_kinds(b, DEPOSITS, 1, 5, 0);
+    let b = hand_other(b, PLEDGE, PLEDGED, 5, 1);
+    let b = hand_other(b, PLEDGE, PLEDGED, 5, 0);
+    hand_other(b, SET_MARGIN, MARGIN, 1, 5);
 }
 
 fn judged() {
-    shown::heading(b"values: checked as one that was read");
+    shown::heading(b"values: checked as one that was read; the second has a serial gone by");
     let b = books::four();
     let unknown = record(b, 12, 0);
-    let b = hand(b, b"code 12", unknown);
-    let b = hand(b, b"code 12, serial gone by", unknown);
-    let b = hand(b, b"receive, second mark byte 0", record(b, 4, 0));
-    hand(b, b"open client", record(b, 2, 0));
+    let b = hand(b, unknown);
+    let b = hand(b, unknown);
+    let b = hand(b, record(b, RECEIVE, NONE));
+    hand(b, record(b, OPEN_CLIENT, NONE));
 }
 
 // The CM's margin is a paisa, and it has no collateral.
@@ -90,13 +97,11 @@ fn uncovered() -> Book {
 fn unsound() {
     shown::heading(b"1: the book isn't sound");
     let b = uncovered();
-    let b = asked::receive(b, b"receive", CASH, 1, 1);
-    let b = asked::with_serial(b, b"another serial", 4, 1, 9);
-    let b = asked::cut(b, b"13 bytes", 4, 1, 0, 13);
-    let p = made::piece(1, 0, 3, 0, 0);
-    let b = asked::piece_at(b, b"at the end", p, 6, 6);
-    let b = hand(b, b"by values", record(b, 2, 0));
-    shown::standing(b"CM", b, 0);
+    let b = ask(b, RECEIVE, CASH, 1, 1);
+    let b = ask_bytes(b, RECEIVE, CASH, 3, 13, 0);
+    let b = ask_bytes(b, OPEN_TM, NONE, 3, 6, 6);
+    let b = hand(b, record(b, OPEN_CLIENT, NONE));
+    shown::standing(b, 0);
 }
 
 pub fn lines() {

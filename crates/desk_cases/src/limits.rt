@@ -1,61 +1,65 @@
 // Refusals 10, 11 and 12: what an account can hold, has, and has free.
+use crate::asked::ALLOCATE;
+use crate::asked::BOTH;
 use crate::asked::CASH;
 use crate::asked::DEPOSITS;
-use crate::asked::allocate;
-use crate::asked::hand_back;
-use crate::asked::pledge;
-use crate::asked::receive;
-use crate::asked::release;
-use crate::asked::unpledge;
+use crate::asked::HAND_BACK;
+use crate::asked::MARGIN;
+use crate::asked::PLEDGE;
+use crate::asked::PLEDGED;
+use crate::asked::RECEIVE;
+use crate::asked::RELEASE;
+use crate::asked::SET_MARGIN;
+use crate::asked::UNPLEDGE;
+use crate::asked::ask;
 use crate::books;
+use crate::books::quietly;
 use crate::shown;
 use rows::CEILING;
 
-const BOTH: u8 = 3;
-
 fn ceilings() {
-    shown::heading(b"10: received and pledged are a paisa below the ceiling");
-    let b = books::received(books::four(), CASH, 2, CEILING - 1);
-    let b = books::pledged(b, 2, CEILING - 1);
-    let b = receive(b, b"receive 2", CASH, 2, 2);
-    let b = receive(b, b"receive 1", CASH, 2, 1);
-    let b = receive(b, b"cash 1 and deposits 1", BOTH, 2, 1);
-    let b = receive(b, b"deposits 1", DEPOSITS, 2, 1);
-    let b = pledge(b, b"pledge 2", 2, 2);
-    pledge(b, b"pledge 1", 2, 1);
+    shown::heading(b"10: cash received and pledged are a paisa below the ceiling");
+    let b = quietly(books::four(), RECEIVE, CASH, 2, CEILING - 1);
+    let b = quietly(b, PLEDGE, PLEDGED, 2, CEILING - 1);
+    let b = ask(b, RECEIVE, CASH, 2, 2);
+    let b = ask(b, RECEIVE, CASH, 2, 1);
+    let b = ask(b, RECEIVE, BOTH, 2, 1);
+    let b = ask(b, RECEIVE, DEPOSITS, 2, 1);
+    let b = ask(b, PLEDGE, PLEDGED, 2, 2);
+    ask(b, PLEDGE, PLEDGED, 2, 1);
 }
 
 fn had() {
-    shown::heading(b"11: cash 100 and deposits 100 received, cash 60 allocated, 70 pledged");
-    let b = books::allocated(books::four(), CASH, 2, 60);
-    let b = books::received(b, CASH, 2, 40);
-    let b = books::received(b, DEPOSITS, 2, 100);
-    let b = books::pledged(b, 2, 70);
-    let b = hand_back(b, b"hand back 41", CASH, 2, 41);
-    let b = hand_back(b, b"hand back 40", CASH, 2, 40);
-    let b = hand_back(b, b"cash 1 and deposits 1", BOTH, 2, 1);
-    let b = allocate(b, b"allocate 101", DEPOSITS, 2, 101);
-    let b = allocate(b, b"allocate 100", DEPOSITS, 2, 100);
-    let b = release(b, b"release 61 of both", BOTH, 2, 61);
-    let b = release(b, b"release 60 of both", BOTH, 2, 60);
-    let b = unpledge(b, b"unpledge 71", 2, 71);
-    unpledge(b, b"unpledge 70", 2, 70);
+    shown::heading(b"11: cash 100 and deposits 100, of them cash 60 allocated; pledged 70");
+    let b = books::given(books::four(), CASH, 2, 60);
+    let b = quietly(b, RECEIVE, CASH, 2, 40);
+    let b = quietly(b, RECEIVE, DEPOSITS, 2, 100);
+    let b = quietly(b, PLEDGE, PLEDGED, 2, 70);
+    let b = ask(b, HAND_BACK, CASH, 2, 41);
+    let b = ask(b, HAND_BACK, CASH, 2, 40);
+    let b = ask(b, HAND_BACK, BOTH, 2, 1);
+    let b = ask(b, ALLOCATE, DEPOSITS, 2, 101);
+    let b = ask(b, ALLOCATE, DEPOSITS, 2, 100);
+    let b = ask(b, RELEASE, BOTH, 2, 61);
+    let b = ask(b, RELEASE, BOTH, 2, 60);
+    let b = ask(b, UNPLEDGE, PLEDGED, 2, 71);
+    ask(b, UNPLEDGE, PLEDGED, 2, 70);
 }
 
-// Kind by kind, each of these releases is less than free.
+// Kind by kind, 76 is within free; added up, 152 is not.
 fn free() {
-    shown::heading(b"12: cash 100, deposits 100, pledged 100, margin 150");
-    let b = books::allocated(books::four(), BOTH, 2, 100);
-    let b = books::pledged(b, 2, 100);
-    let b = books::margined(b, 2, 150);
-    let b = release(b, b"release 101 of cash", CASH, 2, 101);
-    let b = release(b, b"release 76 of both", BOTH, 2, 76);
-    let b = release(b, b"release 75 of both", BOTH, 2, 75);
-    let b = unpledge(b, b"unpledge 1", 2, 1);
-    let b = books::margined(b, 2, 130);
-    let b = unpledge(b, b"unpledge 21, margin 130", 2, 21);
-    let b = unpledge(b, b"unpledge 20", 2, 20);
-    shown::standing(b"client", b, 2);
+    shown::heading(b"12: cash 100, deposits 100, pledged 100, of them 150 free");
+    let b = books::given(books::four(), BOTH, 2, 100);
+    let b = quietly(b, PLEDGE, PLEDGED, 2, 100);
+    let b = quietly(b, SET_MARGIN, MARGIN, 2, 150);
+    let b = ask(b, RELEASE, CASH, 2, 101);
+    let b = ask(b, RELEASE, BOTH, 2, 76);
+    let b = ask(b, RELEASE, BOTH, 2, 75);
+    let b = ask(b, UNPLEDGE, PLEDGED, 2, 1);
+    let b = ask(b, SET_MARGIN, MARGIN, 2, 130);
+    let b = ask(b, UNPLEDGE, PLEDGED, 2, 21);
+    let b = ask(b, UNPLEDGE, PLEDGED, 2, 20);
+    shown::standing(b, 2);
 }
 
 pub fn lines() {

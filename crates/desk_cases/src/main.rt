@@ -13,12 +13,13 @@ mod pieces;
 mod retired;
 mod serials;
 mod shown;
+mod words;
 
 fn main() {
     shown::say(
-        b"asked: serial code account refusal given ; next serial, accounts, rows changed, place\n",
+        b"asked (second mark byte): serial code account refusal given ; next serial, accounts, rows changed, place\n",
     );
-    shown::say(b"standing: collateral need blocked deemed free\n");
+    shown::say(b"   standing: collateral need blocked deemed free\n");
     pieces::lines();
     serials::lines();
     faults::lines();

@@ -1,52 +1,53 @@
 // Refusals 7, 8 and 9: the account named, and numbers to give.
 use crate::asked::CASH;
-use crate::asked::open_client;
-use crate::asked::open_cp;
-use crate::asked::open_tm;
-use crate::asked::receive;
-use crate::asked::retire;
+use crate::asked::NONE;
+use crate::asked::OPEN_CLIENT;
+use crate::asked::OPEN_CP;
+use crate::asked::OPEN_TM;
+use crate::asked::RECEIVE;
+use crate::asked::RETIRE;
+use crate::asked::ask;
 use crate::books;
 use crate::shown;
 
-fn given() {
-    shown::heading(b"7: never given (retired: see 14)");
+fn never_given() {
+    shown::heading(b"7: 4 numbers given (retired accounts: see 14)");
     let b = books::four();
-    let b = receive(b, b"receive at 3 of 4", CASH, 3, 1);
-    let b = receive(b, b"receive at 4 of 4", CASH, 4, 1);
-    let b = receive(b, b"receive at 256", CASH, 256, 1);
-    let b = open_tm(b, b"open TM naming 65535", 65535);
-    open_client(b, b"open client of 4", 4);
+    let b = ask(b, RECEIVE, CASH, 3, 1);
+    let b = ask(b, RECEIVE, CASH, 4, 1);
+    let b = ask(b, RECEIVE, CASH, 256, 1);
+    let b = ask(b, OPEN_TM, NONE, 65535, 0);
+    ask(b, OPEN_CLIENT, NONE, 4, 0);
 }
 
 fn sorts() {
-    shown::heading(b"8: the wrong sort");
+    shown::heading(b"8: 0 is the CM, 1 a TM, 2 a client, 3 a CP");
     let b = books::four();
-    let b = open_tm(b, b"open TM naming a TM", 1);
-    let b = open_tm(b, b"open TM naming the CM", 0);
-    let b = open_cp(b, b"open CP naming a CP", 3);
-    let b = open_cp(b, b"open CP naming the CM", 0);
-    let b = open_client(b, b"open client of the CM", 0);
-    let b = open_client(b, b"open client of a client", 2);
-    let b = open_client(b, b"open client of a CP", 3);
-    let b = open_client(b, b"open client of a TM", 1);
-    let b = books::received(b, CASH, 0, 1);
-    retire(b, b"retire the CM, received 1", 0);
+    let b = ask(b, OPEN_TM, NONE, 1, 0);
+    let b = ask(b, OPEN_TM, NONE, 0, 0);
+    let b = ask(b, OPEN_CP, NONE, 3, 0);
+    let b = ask(b, OPEN_CP, NONE, 0, 0);
+    let b = ask(b, OPEN_CLIENT, NONE, 0, 0);
+    let b = ask(b, OPEN_CLIENT, NONE, 2, 0);
+    let b = ask(b, OPEN_CLIENT, NONE, 3, 0);
+    let b = ask(b, OPEN_CLIENT, NONE, 1, 0);
+    let b = ask(b, RECEIVE, CASH, 0, 1);
+    ask(b, RETIRE, NONE, 0, 0);
 }
 
 fn full() {
-    shown::heading(b"9: 256 numbers given");
+    shown::heading(b"9: TM 1 and its clients 2 to 254");
     let b = books::nearly_full();
-    let b = open_client(b, b"the last number", 1);
-    let b = open_tm(b, b"open TM", 0);
-    let b = open_client(b, b"open client", 1);
-    let b = open_cp(b, b"open CP", 0);
-    let b = open_client(b, b"open client of a client", 2);
-    let b = retire(b, b"retire 255", 255);
-    open_client(b, b"open client after that", 1);
+    let b = ask(b, OPEN_CLIENT, NONE, 1, 0);
+    let b = ask(b, OPEN_TM, NONE, 0, 0);
+    let b = ask(b, OPEN_CLIENT, NONE, 1, 0);
+    let b = ask(b, OPEN_CLIENT, NONE, 2, 0);
+    let b = ask(b, RETIRE, NONE, 255, 0);
+    ask(b, OPEN_CLIENT, NONE, 1, 0);
 }
 
 pub fn lines() {
-    given();
+    never_given();
     sorts();
     full();
 }

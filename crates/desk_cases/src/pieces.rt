@@ -12,7 +12,8 @@ fn run(piece: &[u8], n: usize, times: u8) {
         let next = asked::carried(b, piece, n, place);
         let answer = next.answer;
         let after = next.book;
-        shown::next(b"next", answer, b, after, next.place);
+        shown::say(b"next");
+        shown::next(answer, b, after, next.place);
         b = after;
         place = next.place;
         i += 1;
@@ -22,7 +23,7 @@ fn run(piece: &[u8], n: usize, times: u8) {
 // Two records, of which n bytes are there in all.
 fn two(first: [u8; 70], at: usize, second: [u8; 70], n: usize) {
     let p = made::joined(first, at, second);
-    run(&p, n, 3);
+    run(&p, n, 2);
 }
 
 fn example() {
@@ -98,6 +99,4 @@ pub fn lines() {
         made::piece(1, 0, 1, 0, 0),
         76,
     );
-    shown::heading(b"a cut leaves the place");
-    two(opening, 6, made::piece(4, 1, 1, 1, 5), 19);
 }

@@ -1,46 +1,48 @@
 // Refusals 2 and 3: what is cut, and what has another serial than the next.
-use crate::asked::cut;
-use crate::asked::piece_at;
-use crate::asked::with_serial;
-use crate::made;
+use crate::asked::CASH;
+use crate::asked::OPEN_TM;
+use crate::asked::RECEIVE;
+use crate::asked::ask_bytes;
+use crate::asked::ask_serial;
 use crate::shown;
 
 fn cuts() {
-    shown::heading(b"2: too few bytes");
+    shown::heading(b"2: too few bytes (P11: 0xFF)");
     let b = book::fresh();
-    let b = cut(b, b"no bytes", 1, 0, 0, 0);
-    let b = cut(b, b"1 byte", 1, 0, 0, 1);
-    let b = cut(b, b"5 bytes", 1, 0, 0, 5);
-    let b = cut(b, b"6 bytes, open TM", 1, 0, 0, 6);
-    let b = cut(b, b"13 bytes, receive", 4, 1, 1, 13);
-    let b = cut(b, b"13 bytes, another serial", 4, 1, 9, 13);
-    let b = cut(b, b"14 bytes, receive", 4, 1, 1, 14);
-    let b = cut(b, b"P11 0xFF, 69 bytes", 4, 255, 2, 69);
-    let b = cut(b, b"P11 0xFF, 70 bytes", 4, 255, 2, 70);
-    let p = made::piece(1, 0, 3, 0, 0);
-    piece_at(b, b"the largest place", p, 6, 18446744073709551615);
+    let b = ask_bytes(b, OPEN_TM, 0, 0, 0, 0);
+    let b = ask_bytes(b, OPEN_TM, 0, 0, 1, 0);
+    let b = ask_bytes(b, OPEN_TM, 0, 0, 5, 0);
+    let b = ask_bytes(b, OPEN_TM, 0, 0, 6, 0);
+    let b = ask_bytes(b, RECEIVE, CASH, 1, 13, 0);
+    let b = ask_bytes(b, RECEIVE, CASH, 9, 13, 0);
+    let b = ask_bytes(b, RECEIVE, CASH, 1, 14, 0);
+    let b = ask_bytes(b, RECEIVE, 255, 2, 69, 0);
+    let b = ask_bytes(b, RECEIVE, 255, 2, 70, 0);
+    let b = ask_bytes(b, OPEN_TM, 0, 3, 6, 1);
+    let b = ask_bytes(b, OPEN_TM, 0, 3, 6, 6);
+    ask_bytes(b, OPEN_TM, 0, 3, 6, 18446744073709551615);
 }
 
 fn others() {
-    shown::heading(b"3: another serial than the next");
+    shown::heading(b"3: another serial than the next, which is 1");
     let mut b = book::fresh();
     b.serial = 1;
-    let b = with_serial(b, b"serial 0 where 1 is next", 4, 1, 0);
-    let b = with_serial(b, b"serial 2", 4, 1, 2);
-    let b = with_serial(b, b"serial 257", 4, 1, 257);
-    let b = with_serial(b, b"serial 2, code 12", 12, 0, 2);
-    with_serial(b, b"serial 1", 4, 1, 1);
+    let b = ask_serial(b, RECEIVE, CASH, 0);
+    let b = ask_serial(b, RECEIVE, CASH, 2);
+    let b = ask_serial(b, RECEIVE, CASH, 257);
+    let b = ask_serial(b, 12, 0, 2);
+    ask_serial(b, RECEIVE, CASH, 1);
 }
 
 fn wrap() {
     shown::heading(b"the serial after 65535 is 0");
     let mut last = book::fresh();
     last.serial = 65535;
-    let b = with_serial(last, b"serial 0 where 65535 is next", 1, 0, 0);
-    let b = with_serial(b, b"serial 65535", 1, 0, 65535);
-    let b = with_serial(b, b"serial 65535 again", 1, 0, 65535);
-    with_serial(b, b"serial 0", 1, 0, 0);
-    with_serial(last, b"serial 65535, code 12", 12, 0, 65535);
+    let b = ask_serial(last, OPEN_TM, 0, 0);
+    let b = ask_serial(b, OPEN_TM, 0, 65535);
+    let b = ask_serial(b, OPEN_TM, 0, 65535);
+    ask_serial(b, OPEN_TM, 0, 0);
+    ask_serial(last, 12, 0, 65535);
 }
 
 pub fn lines() {

@@ -38,38 +38,23 @@ fn outcome(o: Outcome) {
     }
 }
 
-// Serial, code, account, refusal, number given.
-fn answer(a: Answer) {
+// Serial, code, account, refusal, number given; then the book's next serial, its accounts, and how many rows changed.
+pub fn answer(a: Answer, before: Book, after: Book) {
+    say(b":");
     number(a.serial as u64);
     number(a.code as u64);
     number(a.account as u64);
     let o = a.outcome;
     outcome(o);
-}
-
-// The next serial, the number of accounts, and how many rows changed.
-fn state(before: Book, after: Book) {
+    say(b" ;");
     number(after.serial as u64);
     number(after.count as u64);
     number(changed::rows(before, after));
 }
 
-fn asked(text: &[u8], a: Answer, before: Book, after: Book) {
-    say(text);
-    say(b":");
-    answer(a);
-    say(b" ;");
-    state(before, after);
-}
-
-pub fn done(text: &[u8], a: Answer, before: Book, after: Book) {
-    asked(text, a, before, after);
-    end_line();
-}
-
 // The place too.
-pub fn next(text: &[u8], a: Answer, before: Book, after: Book, place: usize) {
-    asked(text, a, before, after);
+pub fn next(a: Answer, before: Book, after: Book, place: usize) {
+    answer(a, before, after);
     number(place as u64);
     end_line();
 }
@@ -85,10 +70,11 @@ pub fn figures(text: &[u8], b: Book, account: u16) {
     number(s.free);
 }
 
-pub fn standing(text: &[u8], b: Book, account: u16) {
-    say(b"   standing, refusal");
+pub fn standing(b: Book, account: u16) {
+    say(b"   standing of");
+    number(account as u64);
+    say(b": refusal");
     number(book::standing(b, account).refusal as u64);
-    say(b", ");
-    figures(text, b, account);
+    figures(b",", b, account);
     end_line();
 }

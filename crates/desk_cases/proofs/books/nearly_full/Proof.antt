@@ -12,14 +12,14 @@ abbrev μ-loop : tie.MeasureT-loop
 fresh-requires : tie.Need-fresh-requires Inv-loop μ-loop
 fresh-requires c κs = search needs
 
-quietly-requires : tie.Need-quietly-requires Inv-loop μ-loop
-quietly-requires c κs = search needs
+opened-requires : tie.Need-opened-requires Inv-loop μ-loop
+opened-requires c κs = search needs
 
 loop-holds : tie.Need-loop-holds Inv-loop μ-loop
 loop-holds c = search needs
 
-quietly-requires-2 : tie.Need-quietly-requires-2 Inv-loop μ-loop
-quietly-requires-2 c κs = search needs
+opened-requires-2 : tie.Need-opened-requires-2 Inv-loop μ-loop
+opened-requires-2 c κs = search needs
 
 add-i : tie.Need-add-i Inv-loop μ-loop
 add-i c = search needs
@@ -40,9 +40,9 @@ nearly-full-spec =
     Inv-loop
     μ-loop
     fresh-requires
-    quietly-requires
+    opened-requires
     loop-holds
-    quietly-requires-2
+    opened-requires-2
     add-i
     loop-less
     loop-again

@@ -18,8 +18,11 @@ loop-holds c = search needs
 carried-requires : tie.Need-carried-requires Inv-loop μ-loop
 carried-requires c κs = search needs
 
-slice-aggregate-next : tie.Need-slice-aggregate-next Inv-loop μ-loop
-slice-aggregate-next c = search needs
+slice-aggregate-say : tie.Need-slice-aggregate-say Inv-loop μ-loop
+slice-aggregate-say c = search needs
+
+say-requires : tie.Need-say-requires Inv-loop μ-loop
+say-requires c κs = search needs
 
 next-requires : tie.Need-next-requires Inv-loop μ-loop
 next-requires c κs = search needs
@@ -45,7 +48,8 @@ run-spec =
     fresh-requires
     loop-holds
     carried-requires
-    slice-aggregate-next
+    slice-aggregate-say
+    say-requires
     next-requires
     add-i
     loop-less
