@@ -1,3 +1,4 @@
+-- `desk_cases::asked::carried` meets its contract.
 use mathlib.Core.Path.{sym}
 use lib.Seq.{length-take-le}
 use borrow.Author.Needs.{needs}

@@ -1,3 +1,4 @@
+-- `desk_cases::books::nearly_full` meets its contract.
 use Prim.Native.Nat.{_≤_, _-_}
 use borrow.Author.Needs.{needs}
 use Rattle.desk_cases.proofs.books.nearly_full.Statement.{statement}

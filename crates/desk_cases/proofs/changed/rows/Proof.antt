@@ -1,3 +1,4 @@
+-- `desk_cases::changed::rows` meets its contract.
 use Prim.Native.Nat.{_≤_, _-_}
 use borrow.Author.Needs.{needs}
 use Rattle.desk_cases.proofs.changed.rows.Statement.{statement}

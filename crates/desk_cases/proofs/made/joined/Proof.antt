@@ -1,3 +1,4 @@
+-- `desk_cases::made::joined` meets its contract.
 use mathlib.Core.Path.{_≡_}
 use Prim.Native.Nat.{_≤_, _-_}
 use lib.ListN.{length}

@@ -1,3 +1,4 @@
+-- `desk_cases::pieces::run` meets its contract.
 use Prim.Native.Nat.{_≤_, _-_}
 use borrow.Author.Needs.{needs}
 use Rattle.desk_cases.proofs.pieces.run.Statement.{statement}
