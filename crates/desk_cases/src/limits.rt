@@ -52,7 +52,7 @@ fn free() {
     let b = books::given(books::four(), BOTH, 2, 100);
     let b = quietly(b, PLEDGE, PLEDGED, 2, 100);
     let b = quietly(b, SET_MARGIN, MARGIN, 2, 150);
-    let b = ask(b, RELEASE, CASH, 2, 101);
+    let b = ask(b, RELEASE, CASH, 2, 151);
     let b = ask(b, RELEASE, BOTH, 2, 76);
     let b = ask(b, RELEASE, BOTH, 2, 75);
     let b = ask(b, UNPLEDGE, PLEDGED, 2, 1);
