@@ -19,7 +19,8 @@ use Rattle.run.specs.declared.Closing.{Closing}
 use Rattle.run.specs.declared.Closing.the-variants.{End, Cut, Long, Unsound}
 use Rattle.run.specs.declared.Ran.{Ran}
 use Rattle.run.specs.Runs.{ranOf}
-use Rattle.run.proofs.Stops.{Stopped, ran-stops, ran-keeps, ran-moves}
+use Rattle.run.proofs.SoundRun.{ran-keeps}
+use Rattle.run.proofs.Stops.{Stopped, ran-stops, ran-moves}
 use Rattle.run.proofs.Pieces.{onFrom, on-twice, on-none, restOf, in-pieces}
 use Rattle.feed.specs.declared.Day.{Day}
 use Rattle.feed.specs.Fed.{dayOf, wholeDay, Came}

@@ -21,7 +21,8 @@ use Rattle.desk.specs.Steps.{stepOf}
 use Rattle.run.specs.declared.Closing.the-variants.{Unsound}
 use Rattle.run.specs.declared.Ran.{Ran}
 use Rattle.run.specs.Runs.{closed, stopped, onward, runOf, ranOf}
-use Rattle.run.proofs.Stops.{Stopped, run-stops, run-sound}
+use Rattle.run.proofs.SoundRun.{run-sound}
+use Rattle.run.proofs.Stops.{Stopped, run-stops}
 use Rattle.run.proofs.Tellings.{ran-sound, ran-unsound}
 
 -- what a run came to, after place bytes and with these counts before it

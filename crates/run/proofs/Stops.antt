@@ -118,27 +118,6 @@ run-enough s (suc m) (suc n) b at read done h w = by (foundAt s at) w (λ b′ n
     by TooFew v go = refl
     by (Whole r next) v go = go (stepOf b r .book) next (done + carriedIn (stepOf b r .answer .outcome)) v
 
-step-sound : (b : Book) (r : Record) → Sound b → Sound (stepOf b r .book)
-unfolding stepOf
-step-sound b r g = change-sound b r g
-
--- a sound book stays sound
-pub run-sound : (s : List ℕ) (most : ℕ) (b : Book) (at read done : ℕ) → Sound b → Sound (runOf s most b at read done .book)
-unfolding runOf
-run-sound s zero b at read done g = by (foundAt s at)
-  where
-    by : (f : Found) → Sound (stopped f b at read done .book)
-    by NoBytes = g
-    by TooFew = g
-    by (Whole r next) = g
-run-sound s (suc most) b at read done g = by (foundAt s at) (λ b′ next d k. run-sound s most b′ next (read + 1) d k)
-  where
-    by : (f : Found) → ((b′ : Book) (next d : ℕ) → Sound b′ → Sound (runOf s most b′ next (read + 1) d .book))
-        → Sound (onward (runOf s most) f b at read done .book)
-    by NoBytes go = g
-    by TooFew go = g
-    by (Whole r next) go = go (stepOf b r .book) next (done + carriedIn (stepOf b r .answer .outcome)) (step-sound b r g)
-
 -- ---- the public call
 
 module _ (b : Book) (s : List ℕ) (most : ℕ) where
@@ -148,9 +127,6 @@ module _ (b : Book) (s : List ℕ) (most : ℕ) where
       by : (t : Bool) → soundB b ≡ t → Stopped s most 0 0 0 (ranOf b s most)
       by true e = rw (sym (ran-sound b s most e)) (run-stops s most b 0 0 0)
       by false e = rw (sym (ran-unsound b s most e)) (here s most Unsound b 0 0 0 (λ w. never (cc)) (λ w. never (cc)) (λ w. never (cc)))
-
-  pub ran-keeps : Sound b → Sound (ranOf b s most .book)
-  ran-keeps g = rw (sym (ran-sound b s most (sound← b g))) (run-sound s most b 0 0 0 g)
 
   -- 70 bytes hold a record: where there are as many, the end and a cut come only after one
   pub ran-moves : Bytes s → 70 ≤ length s → (ranOf b s most .closing ≡ End) ⊎ (ranOf b s most .closing ≡ Cut) → 0 < ranOf b s most .read
