@@ -2,6 +2,7 @@ pub mod BySort
 pub mod Differences
 pub mod FreshSound
 pub mod Keeps
+pub mod KeptSums
 pub mod LiveClients
 pub mod OneRow
 pub mod Opens

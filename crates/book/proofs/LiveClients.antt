@@ -1,12 +1,12 @@
 -- Who has no live client.
-use mathlib.Core.Path.{_≡_, ap, _∙_, sym}
+use mathlib.Core.Path.{_≡_, refl, ap, _∙_, sym}
 use mathlib.Core.Bool.{Bool, true, false, not, _&&_}
 use Prim.Native.Nat.{ℕ, _<_}
 use lib.Dec.{eqb}
-use borrow.Author.Tests.{eq-eqb, not-true, not-false}
+use borrow.Author.Tests.{eq-eqb, eqb-true, not-true, not-false}
 use Rattle.sums.specs.Sum.{all}
-use Rattle.sums.proofs.Sums.{all-at}
-use Rattle.sums.proofs.Choices.{and-join, clash}
+use Rattle.sums.proofs.Sums.{all-at, all-from}
+use Rattle.sums.proofs.Choices.{and-join, and-split, clash}
 use Rattle.rows.specs.declared.Book.{Book}
 use Rattle.rows.specs.Rows.{rowAt, hasLiveClient}
 use Rattle.book.specs.Sound.{Sound}
@@ -26,3 +26,13 @@ no-live-client b t h j l c e p =
 pub no-TM-no-client : (b : Book) (t : ℕ) → Sound b → (rowAt b t .code ≡ 1 → ⊥)
     → (j : ℕ) → j < b .count → rowAt b j .code ≡ 2 → rowAt b j .tm ≡ t → ⊥
 no-TM-no-client b t s ne j l c e = ne (sym (ap (λ i. rowAt b i .code) e) ∙ s .shaped .tms j l c .1)
+
+pub no-TM-none-live : (b : Book) (t : ℕ) → Sound b → (rowAt b t .code ≡ 1 → ⊥) → hasLiveClient b t ≡ false
+unfolding hasLiveClient
+no-TM-none-live b t s ne = ap not (all-from (b .count) (λ i. not (liveClient b t i)) (λ i l. by i l (liveClient b t i) refl))
+  where
+    by : (i : ℕ) → i < b .count → (x : Bool) → liveClient b t i ≡ x → not (liveClient b t i) ≡ true
+    by i l false e = ap not e
+    by i l true e =
+        let h = and-split (eqb (rowAt b i .code) 2) (eqb (rowAt b i .tm) t) (and-split (eqb (rowAt b i .code) 2 && eqb (rowAt b i .tm) t) (rowAt b i .live) e .0) in
+        absurd (no-TM-no-client b t s ne i l (eqb-true _ _ (h .0)) (eqb-true _ _ (h .1)))

@@ -42,7 +42,7 @@ module _ (v w : View) (o : Opened v w) (s : Shaped v) where
   needTM-same t l = omega (arith, o .margin t l, same-clients t)
 
   -- nobody is a client of an account that isn't there yet
-  needTM-new : needTM w (v .count) ≡ 0
+  pub needTM-new : needTM w (v .count) ≡ 0
   unfolding needTM
   needTM-new =
       omega (

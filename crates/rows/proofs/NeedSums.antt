@@ -17,7 +17,7 @@ use Rattle.rows.specs.declared.Book.{Book}
 use Rattle.rows.specs.View.{View, isCM, isTM, isClientOf, ownDeemed, deemedOf, freeOf, deemedTM, needTM, needCM, need, members, free}
 use Rattle.rows.specs.Rows.{ceiling, collateral, rowAt, view}
 use Rattle.rows.specs.Ranges.{InRange}
-use Rattle.rows.specs.Inner.{Ranged, Slot, clientDue, memberDue, clientsBelow, membersBelow}
+use Rattle.rows.specs.Inner.{Ranged, Slot, clientDue, memberDue, clientsBelow, membersBelow, underTM, underCM}
 
 pub clients-none : (v : View) (t : ℕ) → clientsBelow v t 0 ≡ 0
 unfolding clientsBelow sum
@@ -49,6 +49,13 @@ member-most r d h =
       only-most (eqb (r .code) 3) (deemedOf (r .margin) (collateral r)),
       h .margin,
     )
+
+-- what is deemed under the CM after a change stays far from a word's end
+pub under-cm-most : (row new tm : Row) (under owed all : ℕ) → InRange new → InRange tm
+    → under ≤ 2_560_000_000_000_000 → owed ≤ 2_560_000_000_000_000 → all ≤ 2_560_000_000_000_000
+    → underCM row new under tm owed all ≤ 8_000_000_000_000_000
+under-cm-most row new tm under owed all n t a b c =
+    omega (arith, member-most new under n, member-most tm (underTM row new owed) t, due-most new n)
 
 module _ (b : Book) (h : Ranged b) where
   pub clients-most : (t n : ℕ) → n ≤ b .count → clientsBelow (view b) t n ≤ n * ceiling

@@ -2,7 +2,7 @@
 use mathlib.Core.Path.{_≡_}
 use mathlib.Core.Bool.{_&&_}
 use mathlib.Core.List.{List}
-use Prim.Native.Nat.{ℕ, _+_, _≤_, _<_}
+use Prim.Native.Nat.{ℕ, _+_, _-_, _≤_, _<_}
 use lib.Dec.{eqb, ltb}
 use lib.ListN.{length, getD}
 use Rattle.sums.specs.Sum.{sum, only}
@@ -48,3 +48,18 @@ pub record Owed (b : Book) (owed : List ℕ) : Type 0 where
 pub record Collaterals (b : Book) (list : List ℕ) : Type 0 where
   pub size : length list ≡ 256
   pub each : (i : ℕ) → i < 256 → getD list i 0 ≡ collateral (rowAt b i)
+
+-- the list holds what is deemed directly under each account: under the CM, what the TMs and CPs are
+pub record Unders (b : Book) (owed : List ℕ) : Type 0 where
+  pub size : length owed ≡ 256
+  pub all : getD owed 0 0 ≡ membersBelow (view b) (b .count)
+  pub each : (t : ℕ) → 0 < t → t < 256 → getD owed t 0 ≡ clientsBelow (view b) t (b .count)
+
+-- what is deemed under the place that a row names as its TM, after the row is put anew
+abbrev pub underTM : Row → Row → ℕ → ℕ
+underTM row new under = under + clientDue new - clientDue row
+
+-- what is deemed under the CM after that: by the row, with so much under it, and by the row tm that it names as its TM
+abbrev pub underCM : Row → Row → ℕ → Row → ℕ → ℕ → ℕ
+underCM row new under tm owed all =
+    all + (memberDue tm (underTM row new owed) + memberDue new under) - (memberDue tm owed + memberDue row under)

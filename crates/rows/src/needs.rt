@@ -6,7 +6,7 @@ ghost use Rattle.sums.specs.Sum.{only};
 ghost use Rattle.rows.specs.View.{blockedOf, deemedOf, needCM, need};
 ghost use Rattle.rows.specs.Rows.{collateral, view};
 ghost use Rattle.rows.specs.Ranges.{InRange};
-ghost use Rattle.rows.specs.Inner.{Ranged, Slot, Owed, clientDue, memberDue, membersBelow};
+ghost use Rattle.rows.specs.Inner.{Ranged, Slot, Owed, Unders, clientDue, memberDue, membersBelow};
 use super::Book;
 use super::Row;
 
@@ -26,7 +26,7 @@ fn deemed(need: u64, collateral: u64) -> u64
     }
 }
 
-fn only_if(t: bool, a: u64) -> u64
+pub fn only_if(t: bool, a: u64) -> u64
     ensures { λ x. ⌜ x ≡ only t a ⌝ }
 {
     if t { a } else { 0 }
@@ -40,7 +40,7 @@ pub fn collateral_of(r: Row) -> u64
     a.cash + a.deposits + a.guarantees + a.securities + r.pledged
 }
 
-fn client_due(r: Row) -> u64
+pub(crate) fn client_due(r: Row) -> u64
     requires { ⌜ InRange r ⌝ }
     ensures { λ x. ⌜ x ≡ clientDue r ⌝ }
 {
@@ -50,8 +50,8 @@ fn client_due(r: Row) -> u64
     )
 }
 
-fn member_due(r: Row, d: u64) -> u64
-    requires { ⌜ InRange r × (d ≤ 2_560_000_000_000_000) ⌝ }
+pub(crate) fn member_due(r: Row, d: u64) -> u64
+    requires { ⌜ InRange r × (d ≤ 2_570_000_000_000_000) ⌝ }
     ensures { λ x. ⌜ x ≡ memberDue r d ⌝ }
 {
     let c = collateral_of(r);
@@ -102,6 +102,17 @@ fn members_sum(b: Book, owed: [u64; 256]) -> u64
         i += 1;
     }
     sum
+}
+
+// What is deemed directly under each account: at the CM's place what the TMs and CPs are, at any other what its clients are.
+pub fn unders(b: Book) -> [u64; 256]
+    requires { ⌜ Ranged b ⌝ }
+    ensures { λ x. ⌜ Unders b x ⌝ }
+{
+    let mut owed = client_sums(b);
+    let all = members_sum(b, owed);
+    owed[0] = all;
+    owed
 }
 
 pub fn need_cm(b: Book) -> u64

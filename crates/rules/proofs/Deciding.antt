@@ -78,6 +78,24 @@ module _ (b : Book) (r : Record) (x : Row) where
           other : isOpening r ≡ false → passes (namedRow b r) r ≡ Put (amended (namedRow b r) r)
           other h = pick-no (isOpening r) _ _ h
 
+-- the row that is put, or opened
+module _ (b : Book) (r : Record) (x : Row) where
+  pub made-put : changeOf b r ≡ Put x → x ≡ amended (namedRow b r) r
+  unfolding pick
+  made-put e = by (isOpening r) (sym e ∙ passes-as b r x (put-passes b r x e) (no-refusal b r (ap isRefusal e)))
+    where
+      by : (t : Bool) → Put x ≡ pick t (Open (openedRow (r .code) (r .account))) (Put (amended (namedRow b r) r)) → x ≡ amended (namedRow b r) r
+      by true h = let z : _≡_ {A = ℕ} 0 1 = cc in absurd (omega arith)
+      by false h = cc
+
+  pub made-open : changeOf b r ≡ Open x → x ≡ openedRow (r .code) (r .account)
+  unfolding pick
+  made-open e = by (isOpening r) (sym e ∙ passes-as b r x (open-passes b r x e) (no-refusal b r (ap isRefusal e)))
+    where
+      by : (t : Bool) → Open x ≡ pick t (Open (openedRow (r .code) (r .account))) (Put (amended (namedRow b r) r)) → x ≡ openedRow (r .code) (r .account)
+      by true h = cc
+      by false h = let z : _≡_ {A = ℕ} 0 1 = cc in absurd (omega arith)
+
 -- the row named, read where the table has it
 pub named-in : (b : Book) (r : Record) → r .account < 256 → getD (b .rows) (r .account) noRow ≡ namedRow b r
 named-in b r l = refl

@@ -7,3 +7,4 @@ pub mod Passing
 pub mod SoundChange
 pub mod Looking
 pub mod Deciding
+pub mod Kept

@@ -56,7 +56,7 @@ module _ (b : Book) (r : Record) where
   }
 
   -- a new margin leaves the CM's collateral as it was
-  same-collateral : Sound b → r .account < b .count → collateral (rowAt (newMargin b r) 0) ≡ collateral (rowAt b 0)
+  pub same-collateral : Sound b → r .account < b .count → collateral (rowAt (newMargin b r) 0) ≡ collateral (rowAt b 0)
   same-collateral s l =
       at-all (λ j x y. collateral x ≡ collateral y) b (r .account) (withMargin (namedRow b r) (r .margin)) (in-table b s (r .account) l) refl (λ j. refl) 0
 

@@ -2,14 +2,16 @@
 use mathlib.Core.Bool.{Bool, false, not, _&&_, _||_}
 use mathlib.Core.List.{List, [], _∷_, _++_}
 use mathlib.Core.Path.{_≡_}
-use Prim.Native.Nat.{ℕ, _≤_, _<_}
+use Prim.Native.Nat.{ℕ, _+_, _≤_, _<_}
 use lib.Dec.{ltb, eqb}
+use Rattle.sums.specs.Sum.{only}
 use Rattle.sums.specs.Table.{Line, _when_, first}
 use Rattle.rows.specs.declared.Row.{Row}
 use Rattle.rows.specs.declared.Book.{Book}
-use Rattle.rows.specs.View.{free}
-use Rattle.rows.specs.Rows.{ceiling, view, hasLiveClient}
+use Rattle.rows.specs.View.{blockedOf, freeOf, free}
+use Rattle.rows.specs.Rows.{ceiling, collateral, view, withMargin, hasLiveClient}
 use Rattle.rows.specs.Ranges.{KindsWithin, ceilings}
+use Rattle.rows.specs.Inner.{underCM}
 use Rattle.dayfile.specs.declared.Record.{Record}
 use Rattle.dayfile.specs.Records.{faults}
 use Rattle.rules.specs.declared.Change.{Change}
@@ -71,3 +73,16 @@ nothing = record { free = 0; uncovered = false; tied = false }
 -- the records that ask something of the other rows: 7, 9, 10, 11
 abbrev pub asks : Record → Bool
 asks r = eqb (r .code) 7 || eqb (r .code) 9 || eqb (r .code) 10 || eqb (r .code) 11
+
+-- the CM's margin where the row gets the margin m
+abbrev pub topMargin : Row → Row → ℕ → ℕ
+topMargin row top m = only (eqb (row .code) 0) m + only (not (eqb (row .code) 0)) (top .margin)
+
+-- what is seen by the row named, the row tm that it names as its TM, the CM's row, and what is deemed under each of them
+abbrev pub seenBy : Row → ℕ → Row → ℕ → Row → ℕ → Bool → Record → Seen
+seenBy row under tm owed top all tied r = record {
+  free = freeOf (row .margin + under) (collateral row);
+  uncovered = ltb (collateral top)
+      (topMargin row top (blockedOf (r .margin) ceiling) + underCM row (withMargin row (blockedOf (r .margin) ceiling)) under tm owed all);
+  tied = tied;
+}

@@ -1,12 +1,12 @@
 // What a record does to the row named, and the change that it makes.
 use crate::Change;
 use crate::Seen;
-use crate::kinds::less;
 use crate::kinds::less_kinds;
 use crate::kinds::plus_kinds;
 use crate::refusals::refusal;
 use dayfile::Record;
 use rows::Row;
+use rows::kept::less;
 ghost use mathlib.Core.Path.{_≡_};
 ghost use Rattle.rows.specs.Ranges.{InRange};
 ghost use Rattle.rules.specs.Effects.{amended, passes};

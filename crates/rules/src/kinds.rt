@@ -1,18 +1,12 @@
 // Amounts kind by kind.
 use rows::Kinds;
+use rows::kept::less;
 ghost use mathlib.Core.Path.{_≡_};
 ghost use mathlib.Core.Bool.{_&&_};
-ghost use Prim.Native.Nat.{_+_, _-_, _<_, _≤_};
+ghost use Prim.Native.Nat.{_+_, _<_, _≤_};
 ghost use lib.Dec.{leb};
 ghost use Rattle.rows.specs.Rows.{total, plusKinds, lessKinds, ceiling};
 ghost use Rattle.rows.specs.Ranges.{kindsCapped, kindsWithin, KindsWithin, ceilings};
-
-// a less b, or 0
-pub(crate) fn less(a: u64, b: u64) -> u64
-    ensures { λ r. ⌜ r ≡ a - b ⌝ }
-{
-    if b <= a { a - b } else { 0 }
-}
 
 pub(crate) fn plus_kinds(a: Kinds, b: Kinds) -> Kinds
     requires { ⌜ KindsWithin a ceilings × KindsWithin b ceilings ⌝ }

@@ -2,9 +2,12 @@
 use crate::Seen;
 use dayfile::Record;
 use rows::Book;
+use rows::Row;
 ghost use mathlib.Core.Path.{_≡_};
+ghost use Prim.Native.Nat.{_≤_};
+ghost use Rattle.rows.specs.Ranges.{InRange};
 ghost use Rattle.book.specs.Sound.{Sound};
-ghost use Rattle.rules.specs.Inner.{SeenOf, nothing};
+ghost use Rattle.rules.specs.Inner.{SeenOf, nothing, seenBy};
 
 // Nothing seen: for a record that asks nothing of the other rows.
 pub fn nothing_seen() -> Seen
@@ -47,5 +50,34 @@ pub fn look(b: Book, r: Record) -> Seen
         free: 0,
         uncovered: false,
         tied: rows::asking::has_live_client(b, i),
+    }
+}
+
+// The same without the table: by the row named, the row that it names as its TM, the CM's row, and what is deemed under each.
+pub fn see(
+    row: Row,
+    under: u64,
+    tm: Row,
+    owed: u64,
+    top: Row,
+    all: u64,
+    tied: bool,
+    r: Record,
+) -> Seen
+    requires { ⌜ InRange row × InRange tm × InRange top ⌝ }
+    requires { ⌜ (under ≤ 2_560_000_000_000_000) × (owed ≤ 2_560_000_000_000_000) × (all ≤ 2_560_000_000_000_000) ⌝ }
+    ensures { λ x. ⌜ x ≡ seenBy row under tm owed top all tied r ⌝ }
+{
+    let margin = rows::needs::blocked_of(r.margin, rows::CEILING);
+    let new = rows::words::with_margin(row, margin);
+    let top_set = rows::needs::only_if(row.code == 0, margin);
+    let top_left = rows::needs::only_if(!(row.code == 0), top.margin);
+    let after = rows::kept::under_cm(row, new, under, tm, owed, all);
+    let need = top_set + top_left + after;
+    let cover = rows::needs::collateral_of(top);
+    Seen {
+        free: rows::kept::free_with(row, under),
+        uncovered: cover < need,
+        tied: tied,
     }
 }

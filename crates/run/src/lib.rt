@@ -78,6 +78,7 @@ fn run(b: Book, piece: &[u8], most: u64, room: &mut [u16], tell: bool) -> Ran
     ensures { λ r. ⌜ r ≡ runOf (now (piece .entry)) most b 0 0 0 ⌝ }
     ensures { λ r. ⌜ now (room .exit) ≡ pick tell (tellOf (now (piece .entry)) most b 0 0 (now (room .entry))) (now (room .entry)) ⌝ }
 {
+    let mut owed = rows::needs::unders(b);
     let mut book = b;
     let mut place: usize = 0;
     let mut read: u64 = 0;
@@ -102,13 +103,21 @@ fn run(b: Book, piece: &[u8], most: u64, room: &mut [u16], tell: bool) -> Ran
                 let count = book.count;
                 let serial = book.serial;
                 let mut row = rows::words::no_row();
+                let mut under: u64 = 0;
                 if i < 256 {
                     row = book.rows[i];
+                    under = owed[i];
                 }
-                let mut seen = rules::seeing::nothing_seen();
-                if (r.code == 7) | (r.code == 9) | (r.code == 10) | (r.code == 11) {
-                    seen = rules::seeing::look(book, r);
+                let t = rows::needs::slot(row);
+                let tm = book.rows[t];
+                let tm_owed = owed[t];
+                let top = book.rows[0];
+                let all = owed[0];
+                let mut tied = false;
+                if (r.code == 11) & (row.code == 1) {
+                    tied = rows::asking::has_live_client(book, i);
                 }
+                let seen = rules::seeing::see(row, under, tm, tm_owed, top, all, tied, r);
                 let change = rules::effects::change(row, count, serial, seen, r);
                 if tell {
                     put_five(
@@ -132,8 +141,12 @@ fn run(b: Book, piece: &[u8], most: u64, room: &mut [u16], tell: bool) -> Ran
                         }
                     }
                     Change::Put(new) => {
+                        let tm_after = rows::kept::under_tm(row, new, tm_owed);
+                        let all_after = rows::kept::under_cm(row, new, under, tm, tm_owed, all);
                         book.serial = after;
                         book.rows[i] = new;
+                        owed[t] = tm_after;
+                        owed[0] = all_after;
                     }
                     Change::Open(new) => {
                         let at = count as usize;

@@ -38,7 +38,7 @@ member-due-requires c κs =
     let b = start .args .t1 in
     let i = c .before .before .loop .i in
     let most = start .pre .0 .most in
-    (start .pre .0 .ranges i (omega arith), rw (start .pre .1 .each i (omega arith)) (clients-top b (start .pre .0) i))
+    (start .pre .0 .ranges i (omega arith), omega (arith, start .pre .1 .each i (omega arith), clients-top b (start .pre .0) i))
 
 -- what the row adds, by the sum of its clients
 adds : (c : tie.After-member-due Inv-loop μ-loop)
