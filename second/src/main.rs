@@ -1,5 +1,5 @@
 //! An independent second program for the collateral book of one clearing
-//! member, written from document 01 alone and made to be compared with the
+//! member, written from document 01 and the decisions on its open points, and made to be compared with the
 //! first.
 
 mod book;
