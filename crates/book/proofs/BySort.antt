@@ -11,47 +11,47 @@ use Rattle.sums.proofs.Choices.{and-split, and-join}
 use Rattle.rows.specs.View.{View, isTM, isClient, isCP, isClientOf, members, deemedOf, ownDeemed, needTM, deemedTM, needCM, need, deemed}
 
 module _ (v : View) (i : ℕ) where
-  pub need-CM : v .code i ≡ 0 → need v i ≡ needCM v
+  pub need-CM : v .sort i ≡ 0 → need v i ≡ needCM v
   unfolding need pick
   need-CM e = rw e
 
-  pub need-TM : v .code i ≡ 1 → need v i ≡ needTM v i
+  pub need-TM : v .sort i ≡ 1 → need v i ≡ needTM v i
   unfolding need pick
   need-TM e = rw e
 
-  pub need-client : v .code i ≡ 2 → need v i ≡ v .margin i
+  pub need-client : v .sort i ≡ 2 → need v i ≡ v .margin i
   unfolding need pick
   need-client e = rw e
 
-  pub need-CP : v .code i ≡ 3 → need v i ≡ v .margin i
+  pub need-CP : v .sort i ≡ 3 → need v i ≡ v .margin i
   unfolding need pick
   need-CP e = rw e
 
-  pub deemed-TM : v .code i ≡ 1 → deemed v i ≡ deemedTM v i
+  pub deemed-TM : v .sort i ≡ 1 → deemed v i ≡ deemedTM v i
   deemed-TM e = ap (λ n. deemedOf n (v .collateral i)) (need-TM e)
 
-  pub deemed-client : v .code i ≡ 2 → deemed v i ≡ ownDeemed v i
+  pub deemed-client : v .sort i ≡ 2 → deemed v i ≡ ownDeemed v i
   deemed-client e = ap (λ n. deemedOf n (v .collateral i)) (need-client e)
 
-  pub deemed-CP : v .code i ≡ 3 → deemed v i ≡ ownDeemed v i
+  pub deemed-CP : v .sort i ≡ 3 → deemed v i ≡ ownDeemed v i
   deemed-CP e = ap (λ n. deemedOf n (v .collateral i)) (need-CP e)
 
 module _ (v : View) (t i : ℕ) where
-  pub client-code : isClientOf v t i ≡ true → v .code i ≡ 2
-  client-code e = eqb-true _ _ (and-split (isClient v i) (eqb (v .tm i) t) e .0)
+  pub client-sort : isClientOf v t i ≡ true → v .sort i ≡ 2
+  client-sort e = eqb-true _ _ (and-split (isClient v i) (eqb (v .tm i) t) e .0)
 
   pub client-tm : isClientOf v t i ≡ true → v .tm i ≡ t
   client-tm e = eqb-true _ _ (and-split (isClient v i) (eqb (v .tm i) t) e .1)
 
-  pub client-of : v .code i ≡ 2 → v .tm i ≡ t → isClientOf v t i ≡ true
+  pub client-of : v .sort i ≡ 2 → v .tm i ≡ t → isClientOf v t i ≡ true
   client-of c e = and-join (eq-eqb _ _ c) (eq-eqb _ _ e)
 
 -- f at a TM and g at a CP decide what a member counts
-pub members-le : (v : View) (f g f′ g′ : ℕ → ℕ) (i : ℕ) → (v .code i ≡ 1 → f i ≤ f′ i) → (v .code i ≡ 3 → g i ≤ g′ i)
+pub members-le : (v : View) (f g f′ g′ : ℕ → ℕ) (i : ℕ) → (v .sort i ≡ 1 → f i ≤ f′ i) → (v .sort i ≡ 3 → g i ≤ g′ i)
     → members v f g i ≤ members v f′ g′ i
 members-le v f g f′ g′ i p q =
     omega (
       arith,
-      only-le (isTM v i) (λ e. p (eqb-true (v .code i) 1 e)),
-      only-le (isCP v i) (λ e. q (eqb-true (v .code i) 3 e)),
+      only-le (isTM v i) (λ e. p (eqb-true (v .sort i) 1 e)),
+      only-le (isCP v i) (λ e. q (eqb-true (v .sort i) 3 e)),
     )

@@ -7,8 +7,10 @@ use lib.ListN.{getD, replicate}
 use Rattle.sums.specs.Sum.{sum}
 use Rattle.rows.specs.View.{needCM}
 use Rattle.rows.specs.Rows.{noRow, rowAt, freshBook}
-use Rattle.rows.specs.Ranges.{InRange, noAmounts}
-use Rattle.book.specs.Sound.{Sound, soundB}
+use Rattle.rows.specs.Ranges.{noAmounts}
+use Rattle.rows.specs.Facts.{InRange}
+use Rattle.book.specs.Sound.{soundB}
+use Rattle.book.specs.Facts.{Sound}
 use Rattle.book.proofs.SoundTest.{sound←}
 
 getD-same : {A : Type 0} (n i : ℕ) (a : A) → getD (replicate n a) i a ≡ a
@@ -32,10 +34,10 @@ fresh-sound = record {
     some = omega arith;
     top = refl;
     sorts = λ i p l. absurd (omega arith);
-    tms = alone (λ i. rowAt freshBook i .code ≡ 2 → (rowAt freshBook i .tm < i) × (rowAt freshBook (rowAt freshBook i .tm) .code ≡ 1)) (λ e. absurd (omega arith));
+    tms = alone (λ i. rowAt freshBook i .sort ≡ 2 → (rowAt freshBook i .tm < i) × (rowAt freshBook (rowAt freshBook i .tm) .sort ≡ 1)) (λ e. absurd (omega arith));
   };
-  no-tm = alone (λ i. (rowAt freshBook i .code ≡ 2 → ⊥) → rowAt freshBook i .tm ≡ 0) (λ ne. refl);
-  tm-live = alone (λ i. rowAt freshBook i .code ≡ 2 → rowAt freshBook i .live ≡ true → rowAt freshBook (rowAt freshBook i .tm) .live ≡ true) (λ e p. refl);
+  no-tm = alone (λ i. (rowAt freshBook i .sort ≡ 2 → ⊥) → rowAt freshBook i .tm ≡ 0) (λ ne. refl);
+  tm-live = alone (λ i. rowAt freshBook i .sort ≡ 2 → rowAt freshBook i .live ≡ true → rowAt freshBook (rowAt freshBook i .tm) .live ≡ true) (λ e p. refl);
   retired = alone (λ i. rowAt freshBook i .live ≡ false → noAmounts (rowAt freshBook i) ≡ true) (λ e. refl);
   ranges = alone (λ i. InRange (rowAt freshBook i)) (omega arith);
   covered = omega arith;

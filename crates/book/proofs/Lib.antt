@@ -3,6 +3,8 @@ pub mod Differences
 pub mod FreshSound
 pub mod Keeps
 pub mod KeptSums
+pub mod KeptPut
+pub mod KeptOpen
 pub mod LiveClients
 pub mod OneRow
 pub mod Opens

@@ -8,7 +8,8 @@ use lib.ListN.{length}
 use lib.Seq.{getD-set-same, getD-set-other}
 use Rattle.rows.specs.declared.Row.{Row}
 use Rattle.rows.specs.declared.Book.{Book}
-use Rattle.rows.specs.View.{blocked, Shaped}
+use Rattle.rows.specs.View.{blocked}
+use Rattle.rows.specs.Facts.{Shaped}
 use Rattle.rows.specs.Rows.{noRow, rowAt, collateral, view, withRow, withNew}
 use Rattle.book.proofs.Keeps.{Kept}
 use Rattle.book.proofs.Opens.{Opened}
@@ -28,9 +29,9 @@ at-all P b i r l p q j = by (ℕ-discrete j i)
     by (yes e) = rw e (rw (row-same b i r l) p)
     by (no e) = rw (row-other b i j r e) (q j)
 
-module _ (b : Book) (i : ℕ) (r : Row) (l : i < length (b .rows)) (ec : r .code ≡ rowAt b i .code) (et : r .tm ≡ rowAt b i .tm) where
-  pub same-code : (j : ℕ) → rowAt (withRow b i r) j .code ≡ rowAt b j .code
-  same-code = at-all (λ j x y. x .code ≡ y .code) b i r l ec (λ j. refl)
+module _ (b : Book) (i : ℕ) (r : Row) (l : i < length (b .rows)) (ec : r .sort ≡ rowAt b i .sort) (et : r .tm ≡ rowAt b i .tm) where
+  pub same-sort : (j : ℕ) → rowAt (withRow b i r) j .sort ≡ rowAt b j .sort
+  same-sort = at-all (λ j x y. x .sort ≡ y .sort) b i r l ec (λ j. refl)
 
   pub same-tm : (j : ℕ) → rowAt (withRow b i r) j .tm ≡ rowAt b j .tm
   same-tm = at-all (λ j x y. x .tm ≡ y .tm) b i r l et (λ j. refl)
@@ -39,19 +40,19 @@ module _ (b : Book) (i : ℕ) (r : Row) (l : i < length (b .rows)) (ec : r .code
   pub row-kept : r .margin ≤ rowAt b i .margin → blocked (view b) i ≤ collateral r → Kept (view b) (view (withRow b i r))
   row-kept m c = record {
     count = refl;
-    code = same-code;
+    sort = same-sort;
     tm = same-tm;
     margin = at-all (λ j x y. x .margin ≤ y .margin) b i r l m (λ j. omega arith);
     collateral = at-all (λ j x y. blocked (view b) j ≤ collateral x) b i r l c (λ j. omega arith);
   }
 
-  -- the shape goes by code and TM alone
+  -- the shape goes by sort and TM alone
   pub row-shaped : Shaped (view b) → Shaped (view (withRow b i r))
   row-shaped s = record {
     some = s .some;
-    top = same-code 0 ∙ s .top;
-    sorts = λ j p q. rw (same-code j) (s .sorts j p q);
-    tms = λ j q e. rw (same-tm j) (rw (same-code (rowAt b j .tm)) (s .tms j q (sym (same-code j) ∙ e)));
+    top = same-sort 0 ∙ s .top;
+    sorts = λ j p q. rw (same-sort j) (s .sorts j p q);
+    tms = λ j q e. rw (same-tm j) (rw (same-sort (rowAt b j .tm)) (s .tms j q (sym (same-sort j) ∙ e)));
   }
 
 -- an opening, where the table has room
@@ -65,15 +66,15 @@ module _ (b : Book) (r : Row) (room : b .count < length (b .rows)) where
   pub above : (i : ℕ) → b .count < i → rowAt (withNew b r) i ≡ rowAt b i
   above i q = getD-set-other (b .rows) (b .count) i r noRow (λ e. omega arith)
 
-  pub row-opened : r .margin ≡ 0 → (r .code ≡ 1) ⊎ ((r .code ≡ 2) ⊎ (r .code ≡ 3))
-      → (r .code ≡ 2 → (r .tm < b .count) × (rowAt b (r .tm) .code ≡ 1)) → Opened (view b) (view (withNew b r))
+  pub row-opened : r .margin ≡ 0 → (r .sort ≡ 1) ⊎ ((r .sort ≡ 2) ⊎ (r .sort ≡ 3))
+      → (r .sort ≡ 2 → (r .tm < b .count) × (rowAt b (r .tm) .sort ≡ 1)) → Opened (view b) (view (withNew b r))
   row-opened m k t = record {
     count = refl;
-    code = λ i q. ap (λ x. x .code) (below i q);
+    sort = λ i q. ap (λ x. x .sort) (below i q);
     tm = λ i q. ap (λ x. x .tm) (below i q);
     margin = λ i q. ap (λ x. x .margin) (below i q);
     collateral = λ i q. ap collateral (below i q);
     no-margin = rw new m;
-    sort = rw new k;
+    new-sort = rw new k;
     its-tm = rw new t;
   }

@@ -6,26 +6,27 @@ use native.Mathlib.Omega.{arith}
 use native.Mathlib.Decide.{ℕ-discrete}
 use Rattle.sums.specs.Sum.{sum, only}
 use Rattle.sums.proofs.Sums.{sum-step, sum-eq, sum-zero, only-zero}
-use Rattle.rows.specs.View.{View, isTM, isCP, isClientOf, members, ofClients, ownDeemed, needTM, deemedTM, needCM, Shaped, Covered}
-use Rattle.book.proofs.BySort.{client-code, client-tm}
+use Rattle.rows.specs.View.{View, isTM, isCP, isClientOf, members, ofClients, ownDeemed, needTM, deemedTM, needCM}
+use Rattle.rows.specs.Facts.{Shaped, Covered}
+use Rattle.book.proofs.BySort.{client-sort, client-tm}
 
 -- w is v with one account more, whose margin is 0 and which is a TM, a CP or a client of one of v's TMs
 pub record Opened (v w : View) : Type 0 where
   pub count : w .count ≡ v .count + 1
-  pub code : (i : ℕ) → i < v .count → w .code i ≡ v .code i
+  pub sort : (i : ℕ) → i < v .count → w .sort i ≡ v .sort i
   pub tm : (i : ℕ) → i < v .count → w .tm i ≡ v .tm i
   pub margin : (i : ℕ) → i < v .count → w .margin i ≡ v .margin i
   pub collateral : (i : ℕ) → i < v .count → w .collateral i ≡ v .collateral i
   pub no-margin : w .margin (v .count) ≡ 0
-  pub sort : (w .code (v .count) ≡ 1) ⊎ ((w .code (v .count) ≡ 2) ⊎ (w .code (v .count) ≡ 3))
-  pub its-tm : w .code (v .count) ≡ 2 → (w .tm (v .count) < v .count) × (v .code (w .tm (v .count)) ≡ 1)
+  pub new-sort : (w .sort (v .count) ≡ 1) ⊎ ((w .sort (v .count) ≡ 2) ⊎ (w .sort (v .count) ≡ 3))
+  pub its-tm : w .sort (v .count) ≡ 2 → (w .tm (v .count) < v .count) × (v .sort (w .tm (v .count)) ≡ 1)
 
 module _ (v w : View) (o : Opened v w) (s : Shaped v) where
   new-own : ownDeemed w (v .count) ≡ 0
   new-own = omega (arith, o .no-margin)
 
   same-part : (t i : ℕ) → i < v .count → only (isClientOf w t i) (ownDeemed w i) ≡ only (isClientOf v t i) (ownDeemed v i)
-  same-part t i l = rw (o .code i l, o .tm i l, o .margin i l, o .collateral i l)
+  same-part t i l = rw (o .sort i l, o .tm i l, o .margin i l, o .collateral i l)
 
   same-clients : (t : ℕ) → ofClients w t (ownDeemed w) ≡ ofClients v t (ownDeemed v)
   same-clients t =
@@ -51,11 +52,11 @@ module _ (v w : View) (o : Opened v w) (s : Shaped v) where
         same-clients (v .count),
         sum-zero (v .count) (λ i. only (isClientOf v (v .count) i) (ownDeemed v i))
             (λ i l. only-zero (isClientOf v (v .count) i) (ownDeemed v i)
-            (λ e. absurd (omega (arith, s .tms i l (client-code v (v .count) i e) .0, client-tm v (v .count) i e)))),
+            (λ e. absurd (omega (arith, s .tms i l (client-sort v (v .count) i e) .0, client-tm v (v .count) i e)))),
       )
 
   same-member : (i : ℕ) → i < v .count → members w (deemedTM w) (ownDeemed w) i ≡ members v (deemedTM v) (ownDeemed v) i
-  same-member i l = rw (needTM-same i l, o .code i l, o .margin i l, o .collateral i l)
+  same-member i l = rw (needTM-same i l, o .sort i l, o .margin i l, o .collateral i l)
 
   new-member : members w (deemedTM w) (ownDeemed w) (v .count) ≡ 0
   new-member =
@@ -83,19 +84,19 @@ module _ (v w : View) (o : Opened v w) (s : Shaped v) where
   pub opened-shaped : Shaped w
   opened-shaped = record {
     some = omega (arith, o .count);
-    top = o .code 0 (s .some) ∙ s .top;
+    top = o .sort 0 (s .some) ∙ s .top;
     sorts = λ i p l. sorts i p (ℕ-discrete i (v .count)) (omega (arith, o .count));
     tms = λ i l e. tms i e (ℕ-discrete i (v .count)) (omega (arith, o .count));
   }
     where
-      sorts : (i : ℕ) → 0 < i → Dec (i ≡ v .count) → i ≤ v .count → (w .code i ≡ 1) ⊎ ((w .code i ≡ 2) ⊎ (w .code i ≡ 3))
-      sorts i p (yes e) l = rw e (o .sort)
-      sorts i p (no e) l = rw (o .code i (omega arith)) (s .sorts i p (omega arith))
+      sorts : (i : ℕ) → 0 < i → Dec (i ≡ v .count) → i ≤ v .count → (w .sort i ≡ 1) ⊎ ((w .sort i ≡ 2) ⊎ (w .sort i ≡ 3))
+      sorts i p (yes e) l = rw e (o .new-sort)
+      sorts i p (no e) l = rw (o .sort i (omega arith)) (s .sorts i p (omega arith))
 
-      tms : (i : ℕ) → w .code i ≡ 2 → Dec (i ≡ v .count) → i ≤ v .count → (w .tm i < i) × (w .code (w .tm i) ≡ 1)
+      tms : (i : ℕ) → w .sort i ≡ 2 → Dec (i ≡ v .count) → i ≤ v .count → (w .tm i < i) × (w .sort (w .tm i) ≡ 1)
       tms i e (yes q) l =
           let h = o .its-tm (rw q at e) in
-          rw q (h .0, o .code _ (h .0) ∙ h .1)
+          rw q (h .0, o .sort _ (h .0) ∙ h .1)
       tms i e (no q) l =
-          let h = s .tms i (omega arith) (sym (o .code i (omega arith)) ∙ e) in
-          rw (o .tm i (omega arith)) (h .0, o .code _ (omega (arith, h .0)) ∙ h .1)
+          let h = s .tms i (omega arith) (sym (o .sort i (omega arith)) ∙ e) in
+          rw (o .tm i (omega arith)) (h .0, o .sort _ (omega (arith, h .0)) ∙ h .1)

@@ -6,7 +6,8 @@ use Rattle.sums.proofs.Choices.{and-left, and-right, and-join}
 use Rattle.rows.specs.declared.Kinds.{Kinds}
 use Rattle.rows.specs.declared.Row.{Row}
 use Rattle.rows.specs.Rows.{noKinds, noRow}
-use Rattle.rows.specs.Ranges.{kindsZero, kindsWithin, kindsCapped, noAmounts, inRange, KindsWithin, ceilings, InRange}
+use Rattle.rows.specs.Ranges.{kindsZero, kindsWithin, kindsCapped, noAmounts, inRange, ceilings}
+use Rattle.rows.specs.Facts.{KindsWithin, InRange}
 use Rattle.book.specs.Sound.{isBlank}
 
 pub within→ : (a b : Kinds) → kindsWithin a b ≡ true → KindsWithin a b
@@ -53,9 +54,9 @@ amounts← r h =
     and-join (and-join (and-join (zero← _ (h .received)) (zero← _ (h .allocated))) (eq-eqb _ _ (h .pledged))) (eq-eqb _ _ (h .margin))
 
 pub blank→ : (r : Row) → isBlank r ≡ true → r ≡ noRow
-blank→ r e = λ j. record { code = c j; live = l j; tm = t j; received = a .received j; allocated = a .allocated j; pledged = a .pledged j; margin = a .margin j }
+blank→ r e = λ j. record { sort = c j; live = l j; tm = t j; received = a .received j; allocated = a .allocated j; pledged = a .pledged j; margin = a .margin j }
   where
-    c : r .code ≡ 0
+    c : r .sort ≡ 0
     c = search (and-left, and-right, eqb-true)
 
     l : r .live ≡ false

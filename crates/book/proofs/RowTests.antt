@@ -1,5 +1,5 @@
--- What the test of a row says, and which row the code may take for a row's TM.
-use mathlib.Core.Path.{_≡_, refl, sym, ap, _∙_}
+-- What the test of a row says, and which row the sort may take for a row's TM.
+use mathlib.Core.Path.{_≡_, sym, ap, _∙_}
 use mathlib.Core.Bool.{Bool, true, false, _&&_, and-false}
 use Prim.Native.Nat.{ℕ, _≤_, _<_}
 use native.Mathlib.Omega.{arith}
@@ -16,8 +16,10 @@ use Rattle.rows.specs.declared.Row.{Row}
 use Rattle.rows.specs.declared.Book.{Book}
 use Rattle.rows.specs.View.{needCM}
 use Rattle.rows.specs.Rows.{ceiling, rowAt, collateral, view}
-use Rattle.rows.specs.Ranges.{kindsCapped, kindsWithin, inRange, ceilings, KindsWithin, InRange}
-use Rattle.book.specs.Sound.{isBlank, isTop, goodClient, goodSort, goodRetired, goodRow, rowSound, soundB, Sound}
+use Rattle.rows.specs.Ranges.{kindsCapped, kindsWithin, inRange, ceilings}
+use Rattle.rows.specs.Facts.{KindsWithin, InRange}
+use Rattle.book.specs.Sound.{isBlank, isTop, goodClient, goodSort, goodRetired, goodRow, rowSound, soundB}
+use Rattle.book.specs.Facts.{Sound}
 use Rattle.rows.specs.Inner.{Ranged, Slot}
 
 and-four : (a b c d : Bool) → (a && b && c && d) ≡ true → (a ≡ true) × (b ≡ true) × (c ≡ true) × (d ≡ true)

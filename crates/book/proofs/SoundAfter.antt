@@ -10,13 +10,14 @@ use Rattle.sums.proofs.Choices.{clash}
 use Rattle.rows.specs.declared.Kinds.{Kinds}
 use Rattle.rows.specs.declared.Row.{Row}
 use Rattle.rows.specs.declared.Book.{Book}
-use Rattle.rows.specs.View.{blocked, free, Covered}
-use Rattle.rows.specs.Rows.{ceiling, rowAt, total, collateral, view, openedRow, plusKinds, lessKinds, withReceived, withAllocated, withPledged, withMargin, withLive, withRow, withNew}
-use Rattle.rows.specs.Ranges.{noAmounts, KindsWithin, ceilings, InRange}
-use Rattle.book.specs.Sound.{Sound}
+use Rattle.rows.specs.View.{blocked, free}
+use Rattle.rows.specs.Facts.{Covered, KindsWithin, InRange}
+use Rattle.rows.specs.Ranges.{ceilings, noAmounts}
+use Rattle.rows.specs.Rows.{ceiling, rowAt, addedUp, collateral, view, openedRow, plusKinds, lessKinds, withReceived, withAllocated, withPledged, withMargin, withLive, withRow, withNew}
+use Rattle.book.specs.Facts.{Sound}
 use Rattle.book.proofs.Keeps.{kept-covered}
 use Rattle.book.proofs.Opens.{Opened, opened-covered, opened-shaped}
-use Rattle.book.proofs.OneRow.{row-other, at-all, same-code, same-tm, row-kept, row-shaped, new, below, above, row-opened}
+use Rattle.book.proofs.OneRow.{row-other, at-all, same-sort, same-tm, row-kept, row-shaped, new, below, above, row-opened}
 
 -- soundness doesn't look at the serial
 pub serial-sound : (b : Book) (n : ℕ) → Sound b → Sound (record { count = b .count; serial = n; rows = b .rows })
@@ -37,10 +38,10 @@ serial-sound b n s = record {
 pub in-table : (b : Book) → Sound b → (i : ℕ) → i < b .count → i < length (b .rows)
 in-table b s i m = omega (arith, s .table, s .most)
 
--- row i changes, keeps code and TM, and is in range; a client that is live after it has a live TM
-module _ (b : Book) (s : Sound b) (i : ℕ) (m : i < b .count) (r : Row) (ec : r .code ≡ rowAt b i .code) (et : r .tm ≡ rowAt b i .tm) where
+-- row i changes, keeps sort and TM, and is in range; a client that is live after it has a live TM
+module _ (b : Book) (s : Sound b) (i : ℕ) (m : i < b .count) (r : Row) (ec : r .sort ≡ rowAt b i .sort) (et : r .tm ≡ rowAt b i .tm) where
   row-sound : InRange r → (r .live ≡ false → noAmounts r ≡ true) → rowAt (withRow b i r) 0 .live ≡ true
-      → ((j : ℕ) → j < b .count → rowAt b j .code ≡ 2 → rowAt (withRow b i r) j .live ≡ true → rowAt (withRow b i r) (rowAt b j .tm) .live ≡ true)
+      → ((j : ℕ) → j < b .count → rowAt b j .sort ≡ 2 → rowAt (withRow b i r) j .live ≡ true → rowAt (withRow b i r) (rowAt b j .tm) .live ≡ true)
       → Covered (view (withRow b i r)) → Sound (withRow b i r)
   row-sound ranges retired top tms c = record {
     table = length-set (b .rows) i r ∙ s .table;
@@ -48,8 +49,8 @@ module _ (b : Book) (s : Sound b) (i : ℕ) (m : i < b .count) (r : Row) (ec : r
     top-live = top;
     blank = λ j h. row-other b i j r (λ e. omega arith) ∙ s .blank j h;
     shaped = row-shaped b i r l ec et (s .shaped);
-    no-tm = λ j h ne. tm j ∙ s .no-tm j h (λ e. ne (code j ∙ e));
-    tm-live = λ j h e p. rw (tm j) (tms j h (sym (code j) ∙ e) p);
+    no-tm = λ j h ne. tm j ∙ s .no-tm j h (λ e. ne (sort j ∙ e));
+    tm-live = λ j h e p. rw (tm j) (tms j h (sym (sort j) ∙ e) p);
     retired = λ j h. at-all (λ k x y. (y .live ≡ false → noAmounts y ≡ true) → x .live ≡ false → noAmounts x ≡ true) b i r l
         (λ q. retired) (λ k q. q) j (s .retired j h);
     ranges = λ j h. at-all (λ k x y. InRange y → InRange x) b i r l (λ q. ranges) (λ k q. q) j (s .ranges j h);
@@ -59,15 +60,15 @@ module _ (b : Book) (s : Sound b) (i : ℕ) (m : i < b .count) (r : Row) (ec : r
       l : i < length (b .rows)
       l = in-table b s i m
 
-      code : (j : ℕ) → rowAt (withRow b i r) j .code ≡ rowAt b j .code
-      code = same-code b i r l ec et
+      sort : (j : ℕ) → rowAt (withRow b i r) j .sort ≡ rowAt b j .sort
+      sort = same-sort b i r l ec et
 
       tm : (j : ℕ) → rowAt (withRow b i r) j .tm ≡ rowAt b j .tm
       tm = same-tm b i r l ec et
 
 module _ (b : Book) (s : Sound b) (i : ℕ) (m : i < b .count) (live : rowAt b i .live ≡ true) where
   -- a live row's amounts change within the ranges, and the CM stays covered
-  pub amounts-sound : (r : Row) → r .code ≡ rowAt b i .code → r .tm ≡ rowAt b i .tm → r .live ≡ true → InRange r
+  pub amounts-sound : (r : Row) → r .sort ≡ rowAt b i .sort → r .tm ≡ rowAt b i .tm → r .live ≡ true → InRange r
       → Covered (view (withRow b i r)) → Sound (withRow b i r)
   amounts-sound r ec et el f c =
       row-sound b s i m r ec et f (clash el) (lives 0 ∙ s .top-live)
@@ -77,7 +78,7 @@ module _ (b : Book) (s : Sound b) (i : ℕ) (m : i < b .count) (live : rowAt b i
       lives = at-all (λ j x y. x .live ≡ y .live) b i r (in-table b s i m) (el ∙ sym live) (λ j. refl)
 
   -- the margin doesn't rise, and collateral stays no lower than blocked
-  pub kept-sound : (r : Row) → r .code ≡ rowAt b i .code → r .tm ≡ rowAt b i .tm → r .live ≡ true → InRange r
+  pub kept-sound : (r : Row) → r .sort ≡ rowAt b i .sort → r .tm ≡ rowAt b i .tm → r .live ≡ true → InRange r
       → r .margin ≤ rowAt b i .margin → blocked (view b) i ≤ collateral r → Sound (withRow b i r)
   kept-sound r ec et el f hm hb =
       amounts-sound r ec et el f
@@ -98,7 +99,7 @@ module _ (b : Book) (s : Sound b) (i : ℕ) (m : i < b .count) (live : rowAt b i
   allocate-sound k h = kept-sound _ refl refl live (omega (arith, s .ranges i m)) (omega arith) (omega arith)
 
   -- 11 and 12 do not apply
-  pub release-sound : (k : Kinds) → KindsWithin k (rowAt b i .allocated) → total k ≤ free (view b) i
+  pub release-sound : (k : Kinds) → KindsWithin k (rowAt b i .allocated) → addedUp k ≤ free (view b) i
       → Sound (withRow b i (withAllocated (rowAt b i) (lessKinds (rowAt b i .allocated) k)))
   release-sound k h f = kept-sound _ refl refl live (omega (arith, s .ranges i m)) (omega arith) (omega arith)
 
@@ -120,7 +121,7 @@ module _ (b : Book) (s : Sound b) (i : ℕ) (m : i < b .count) (live : rowAt b i
 
 -- 7, 8 and 14 do not apply
 module _ (b : Book) (s : Sound b) (i : ℕ) (m : i < b .count) (ne : i ≡ 0 → ⊥) (none : noAmounts (rowAt b i) ≡ true)
-    (alone : (j : ℕ) → j < b .count → rowAt b j .code ≡ 2 → rowAt b j .tm ≡ i → rowAt b j .live ≡ true → ⊥) where
+    (alone : (j : ℕ) → j < b .count → rowAt b j .sort ≡ 2 → rowAt b j .tm ≡ i → rowAt b j .live ≡ true → ⊥) where
   abbrev gone : Row
   gone = withLive (rowAt b i) false
 
@@ -135,14 +136,14 @@ module _ (b : Book) (s : Sound b) (i : ℕ) (m : i < b .count) (ne : i ≡ 0 →
       same-range : InRange (rowAt b i) → InRange gone
       same-range f = record { received = f .received; allocated = f .allocated; pledged = f .pledged; margin = f .margin }
 
-      tms : (j : ℕ) → j < b .count → rowAt b j .code ≡ 2 → rowAt b j .live ≡ true → Dec (rowAt b j .tm ≡ i)
+      tms : (j : ℕ) → j < b .count → rowAt b j .sort ≡ 2 → rowAt b j .live ≡ true → Dec (rowAt b j .tm ≡ i)
           → rowAt (withRow b i gone) (rowAt b j .tm) .live ≡ true
       tms j h e p (yes q) = absurd (alone j h e q p)
       tms j h e p (no q) = ap (λ r. r .live) (row-other b i (rowAt b j .tm) gone q) ∙ s .tm-live j h e p
 
--- 7, 8 and 9 do not apply: code 1, 2 or 3, and for 2 a live TM
+-- 7, 8 and 9 do not apply: sort 1, 2 or 3, and for 2 a live TM
 module _ (b : Book) (s : Sound b) (c t : ℕ) (room : b .count < 256) (sort : (c ≡ 1) ⊎ ((c ≡ 2) ⊎ (c ≡ 3)))
-    (tm : c ≡ 2 → (t < b .count) × (rowAt b t .code ≡ 1) × (rowAt b t .live ≡ true)) (no-tm : (c ≡ 2 → ⊥) → t ≡ 0) where
+    (tm : c ≡ 2 → (t < b .count) × (rowAt b t .sort ≡ 1) × (rowAt b t .live ≡ true)) (no-tm : (c ≡ 2 → ⊥) → t ≡ 0) where
   abbrev opened : Book
   opened = withNew b (openedRow c t)
 
@@ -170,8 +171,8 @@ module _ (b : Book) (s : Sound b) (c t : ℕ) (room : b .count < 256) (sort : (c
     top-live = still-live 0 (s .shaped .some) (s .top-live);
     blank = λ j h. above b (openedRow c t) space j (omega arith) ∙ s .blank j (omega arith);
     shaped = opened-shaped (view b) (view opened) one-more (s .shaped);
-    no-tm = each (λ r. (r .code ≡ 2 → ⊥) → r .tm ≡ 0) no-tm (s .no-tm);
-    tm-live = each (λ r. r .code ≡ 2 → r .live ≡ true → rowAt opened (r .tm) .live ≡ true) (λ e p. still-live t (tm e .0) (tm e .2))
+    no-tm = each (λ r. (r .sort ≡ 2 → ⊥) → r .tm ≡ 0) no-tm (s .no-tm);
+    tm-live = each (λ r. r .sort ≡ 2 → r .live ≡ true → rowAt opened (r .tm) .live ≡ true) (λ e p. still-live t (tm e .0) (tm e .2))
         (λ j l e p. still-live (rowAt b j .tm) (omega (arith, s .shaped .tms j l e .0)) (s .tm-live j l e p));
     retired = each (λ r. r .live ≡ false → noAmounts r ≡ true) (λ q. refl) (s .retired);
     ranges = each InRange (omega arith) (s .ranges);

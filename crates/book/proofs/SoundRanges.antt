@@ -4,8 +4,8 @@ use native.Mathlib.Decide.{decLt}
 use native.Mathlib.Omega.{arith}
 use Rattle.rows.specs.declared.Book.{Book}
 use Rattle.rows.specs.Rows.{rowAt}
-use Rattle.rows.specs.Ranges.{InRange}
-use Rattle.book.specs.Sound.{Sound}
+use Rattle.rows.specs.Facts.{InRange}
+use Rattle.book.specs.Facts.{Sound}
 
 -- those beyond the number too
 pub sound-ranges : (b : Book) → Sound b → (i : ℕ) → InRange (rowAt b i)

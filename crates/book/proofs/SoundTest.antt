@@ -14,27 +14,29 @@ use Rattle.sums.proofs.Choices.{pick-yes, pick-no, and-left, and-right, and-joi
 use Rattle.rows.specs.declared.Row.{Row}
 use Rattle.rows.specs.declared.Book.{Book}
 use Rattle.rows.specs.Rows.{noRow, rowAt}
-use Rattle.rows.specs.Ranges.{noAmounts, inRange, InRange}
-use Rattle.book.specs.Sound.{isBlank, isTop, goodClient, goodSort, goodRetired, goodRow, rowSound, soundB, Sound}
+use Rattle.rows.specs.Ranges.{noAmounts, inRange}
+use Rattle.rows.specs.Facts.{InRange}
+use Rattle.book.specs.Sound.{isBlank, isTop, goodClient, goodSort, goodRetired, goodRow, rowSound, soundB}
+use Rattle.book.specs.Facts.{Sound}
 use Rattle.book.proofs.RowFacts.{range→, range←, blank→, blank←}
 
 -- "a client whose TM is a lower-numbered TM row. A live client's TM is live."
 record GoodClient (i : ℕ) (r t : Row) : Type 0 where
-  code : r .code ≡ 2
+  sort : r .sort ≡ 2
   lower : r .tm < i
-  its-tm : t .code ≡ 1
+  its-tm : t .sort ≡ 1
   tm-live : r .live ≡ true → t .live ≡ true
 
 -- "Every other account is a TM, a CP, or a client"
 data GoodSort (i : ℕ) (r t : Row) : Type 0 where
-  tm : r .code ≡ 1 → r .tm ≡ 0 → GoodSort i r t
-  cp : r .code ≡ 3 → r .tm ≡ 0 → GoodSort i r t
+  tm : r .sort ≡ 1 → r .tm ≡ 0 → GoodSort i r t
+  cp : r .sort ≡ 3 → r .tm ≡ 0 → GoodSort i r t
   client : GoodClient i r t → GoodSort i r t
 
 module _ (i : ℕ) (r t : Row) where
   client→ : goodClient i r t ≡ true → GoodClient i r t
   client→ e = record {
-    code = search (and-left, and-right, eqb-true);
+    sort = search (and-left, and-right, eqb-true);
     lower = search (and-left, and-right, ltb-true);
     its-tm = search (and-left, and-right, eqb-true);
     tm-live = λ p. or-else (not (r .live)) (t .live) (search (and-left, and-right)) (ap not p);
@@ -42,22 +44,22 @@ module _ (i : ℕ) (r t : Row) where
 
   client← : GoodClient i r t → goodClient i r t ≡ true
   client← h =
-      and-join (and-join (and-join (eq-eqb _ _ (h .code)) (lt-ltb _ _ (h .lower))) (eq-eqb _ _ (h .its-tm)))
+      and-join (and-join (and-join (eq-eqb _ _ (h .sort)) (lt-ltb _ _ (h .lower))) (eq-eqb _ _ (h .its-tm)))
       (or-from (not (r .live)) (t .live) (λ q. h .tm-live (not-false _ q)))
 
   sort→ : goodSort i r t ≡ true → GoodSort i r t
-  sort→ e = ⊎-elim plain (λ c. client (client→ c)) (or-split ((eqb (r .code) 1 || eqb (r .code) 3) && eqb (r .tm) 0) (goodClient i r t) e)
+  sort→ e = ⊎-elim plain (λ c. client (client→ c)) (or-split ((eqb (r .sort) 1 || eqb (r .sort) 3) && eqb (r .tm) 0) (goodClient i r t) e)
     where
-      plain : ((eqb (r .code) 1 || eqb (r .code) 3) && eqb (r .tm) 0) ≡ true → GoodSort i r t
+      plain : ((eqb (r .sort) 1 || eqb (r .sort) 3) && eqb (r .tm) 0) ≡ true → GoodSort i r t
       plain h =
           let z : r .tm ≡ 0 = search (and-left, and-right, eqb-true) in
           ⊎-elim (λ q. tm (eqb-true _ _ q) z) (λ q. cp (eqb-true _ _ q) z)
-          (or-split (eqb (r .code) 1) (eqb (r .code) 3) (search and-left))
+          (or-split (eqb (r .sort) 1) (eqb (r .sort) 3) (search and-left))
 
   sort← : GoodSort i r t → goodSort i r t ≡ true
-  sort← (tm c z) = or-left (goodClient i r t) (and-join (or-left (eqb (r .code) 3) (eq-eqb _ _ c)) (eq-eqb _ _ z))
-  sort← (cp c z) = or-left (goodClient i r t) (and-join (or-right (eqb (r .code) 1) (eq-eqb _ _ c)) (eq-eqb _ _ z))
-  sort← (client h) = or-right ((eqb (r .code) 1 || eqb (r .code) 3) && eqb (r .tm) 0) (client← h)
+  sort← (tm c z) = or-left (goodClient i r t) (and-join (or-left (eqb (r .sort) 3) (eq-eqb _ _ c)) (eq-eqb _ _ z))
+  sort← (cp c z) = or-left (goodClient i r t) (and-join (or-right (eqb (r .sort) 1) (eq-eqb _ _ c)) (eq-eqb _ _ z))
+  sort← (client h) = or-right ((eqb (r .sort) 1 || eqb (r .sort) 3) && eqb (r .tm) 0) (client← h)
 
 -- a sound book's row, by its place
 module _ (b : Book) (i : ℕ) where
@@ -101,7 +103,7 @@ module _ (b : Book) (i : ℕ) where
       good : i < b .count → (i ≡ 0 → ⊥) → GoodSort i r t
       good l z =
           ⊎-elim (λ c. tm c (s .no-tm i l (λ q. absurd (omega arith))))
-          (⊎-elim (λ c. client (record { code = c; lower = s .shaped .tms i l c .0; its-tm = s .shaped .tms i l c .1; tm-live = s .tm-live i l c }))
+          (⊎-elim (λ c. client (record { sort = c; lower = s .shaped .tms i l c .0; its-tm = s .shaped .tms i l c .1; tm-live = s .tm-live i l c }))
           (λ c. cp c (s .no-tm i l (λ q. absurd (omega arith)))))
           (s .shaped .sorts i (omega arith) l)
 
@@ -147,7 +149,7 @@ sound→ b e = record {
     row : (i : ℕ) → i < 256 → rowSound b i ≡ true
     row = all-at 256 (rowSound b) (search (and-left, and-right))
 
-    top : (rowAt b 0 .code ≡ 0) × (rowAt b 0 .live ≡ true) × (rowAt b 0 .tm ≡ 0)
+    top : (rowAt b 0 .sort ≡ 0) × (rowAt b 0 .live ≡ true) × (rowAt b 0 .tm ≡ 0)
     top = let h = row-top b 0 (row 0 (omega arith)) some refl in search (and-left, and-right, eqb-true)
 
     beyond : (i : ℕ) → b .count ≤ i → Dec (i < 256) → rowAt b i ≡ noRow
@@ -157,28 +159,28 @@ sound→ b e = record {
     good : (i : ℕ) → i < b .count → (i ≡ 0 → ⊥) → GoodSort i (rowAt b i) (rowAt b (rowAt b i .tm))
     good i l z = row-sort b i (row i (omega (arith, most))) l z
 
-    sorts : {i : ℕ} {r t : Row} → GoodSort i r t → (r .code ≡ 1) ⊎ ((r .code ≡ 2) ⊎ (r .code ≡ 3))
+    sorts : {i : ℕ} {r t : Row} → GoodSort i r t → (r .sort ≡ 1) ⊎ ((r .sort ≡ 2) ⊎ (r .sort ≡ 3))
     sorts (tm c z) = inl c
     sorts (cp c z) = inr (inr c)
-    sorts (client h) = inr (inl (h .code))
+    sorts (client h) = inr (inl (h .sort))
 
-    only-client : {i : ℕ} {r t : Row} → r .code ≡ 2 → GoodSort i r t → GoodClient i r t
+    only-client : {i : ℕ} {r t : Row} → r .sort ≡ 2 → GoodSort i r t → GoodClient i r t
     only-client c (tm d z) = absurd (omega arith)
     only-client c (cp d z) = absurd (omega arith)
     only-client c (client h) = h
 
-    not-top : (i : ℕ) → rowAt b i .code ≡ 2 → i ≡ 0 → ⊥
-    not-top i c z = omega (arith, top .0, ap (λ j. rowAt b j .code) z)
+    not-top : (i : ℕ) → rowAt b i .sort ≡ 2 → i ≡ 0 → ⊥
+    not-top i c z = omega (arith, top .0, ap (λ j. rowAt b j .sort) z)
 
-    as-client : (i : ℕ) → i < b .count → rowAt b i .code ≡ 2 → GoodClient i (rowAt b i) (rowAt b (rowAt b i .tm))
+    as-client : (i : ℕ) → i < b .count → rowAt b i .sort ≡ 2 → GoodClient i (rowAt b i) (rowAt b (rowAt b i .tm))
     as-client i l c = only-client c (good i l (not-top i c))
 
-    plain : {i : ℕ} {r t : Row} → (r .code ≡ 2 → ⊥) → GoodSort i r t → r .tm ≡ 0
+    plain : {i : ℕ} {r t : Row} → (r .sort ≡ 2 → ⊥) → GoodSort i r t → r .tm ≡ 0
     plain ne (tm c z) = z
     plain ne (cp c z) = z
-    plain ne (client h) = absurd (ne (h .code))
+    plain ne (client h) = absurd (ne (h .sort))
 
-    no-tm : (i : ℕ) → i < b .count → (rowAt b i .code ≡ 2 → ⊥) → Dec (i ≡ 0) → rowAt b i .tm ≡ 0
+    no-tm : (i : ℕ) → i < b .count → (rowAt b i .sort ≡ 2 → ⊥) → Dec (i ≡ 0) → rowAt b i .tm ≡ 0
     no-tm i l ne (yes z) = rw z (top .2)
     no-tm i l ne (no z) = plain ne (good i l z)
 

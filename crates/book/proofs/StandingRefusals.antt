@@ -2,14 +2,15 @@
 use mathlib.Core.Path.{_≡_, refl, ap, _∙_}
 use mathlib.Core.Bool.{true, false, not}
 use mathlib.Core.List.{[], _∷_}
-use Prim.Native.Nat.{ℕ}
+use Prim.Native.Nat.{ℕ, zero, suc}
+use Rattle.sums.specs.Choice.{unlessRefused}
 use Rattle.sums.specs.Table.{_when_, first}
 use Rattle.sums.proofs.Tables.{first-here, first-later}
 use Rattle.rows.specs.declared.Book.{Book}
 use Rattle.book.specs.declared.Figures.{Figures}
-use Rattle.rows.specs.Rows.{view}
+use Rattle.rows.specs.Rows.{view, isLive}
 use Rattle.book.specs.Sound.{soundB}
-use Rattle.book.specs.Asked.{isLive, standingRefusal, figuresOf, answered, standingOf}
+use Rattle.book.specs.Asked.{standingRefusal, noFigures, figuresOf, standingOf}
 
 module _ (b : Book) (i : ℕ) where
   pub unsound-refused : soundB b ≡ false → standingRefusal b i ≡ 1
@@ -26,6 +27,15 @@ module _ (b : Book) (i : ℕ) where
   live-answered e l =
       first-later 1 (not (soundB b)) ((7 when not (isLive b i)) ∷ []) (ap not e) ∙ first-later 7 (not (isLive b i)) [] (ap not l)
 
-  pub standing-by : {r : Figures} (n : ℕ) → standingRefusal b i ≡ n → r ≡ answered n (figuresOf (view b) i) → r ≡ standingOf b i
+  pub standing-by : {r : Figures} (n : ℕ) → standingRefusal b i ≡ n → r ≡ unlessRefused n (figuresOf (view b) i) noFigures → r ≡ standingOf b i
   unfolding standingOf
   standing-by n e h = rw e h
+
+  -- the number of the answer is the refusal
+  pub standing-number : standingOf b i .refusal ≡ standingRefusal b i
+  unfolding standingOf
+  standing-number = by (standingRefusal b i)
+    where
+      by : (n : ℕ) → unlessRefused n (figuresOf (view b) i) noFigures .refusal ≡ n
+      by zero = refl
+      by (suc n) = refl

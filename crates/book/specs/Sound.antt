@@ -1,32 +1,31 @@
--- Document 01, 'A sound book': as the test that refusal 1 is about, and as a record of facts.
-use mathlib.Core.Path.{_≡_}
-use mathlib.Core.Bool.{Bool, true, false, not, _&&_, _||_}
-use Prim.Native.Nat.{ℕ, _≤_, _<_}
+-- Document 01, 'A sound book': as the test that refusal 1 is about (as facts: Facts.antt).
+use mathlib.Core.Bool.{Bool, not, _&&_, _||_}
+use Prim.Native.Nat.{ℕ}
 use lib.Dec.{eqb, ltb, leb}
 use lib.ListN.{length}
 use Rattle.sums.specs.Sum.{all}
 use Rattle.sums.specs.Choice.{pick}
 use Rattle.rows.specs.declared.Row.{Row}
 use Rattle.rows.specs.declared.Book.{Book}
-use Rattle.rows.specs.View.{needCM, Shaped, Covered}
-use Rattle.rows.specs.Rows.{noRow, rowAt, collateral, view}
-use Rattle.rows.specs.Ranges.{noAmounts, inRange, InRange}
+use Rattle.rows.specs.View.{needCM}
+use Rattle.rows.specs.Rows.{rowAt, collateral, view}
+use Rattle.rows.specs.Ranges.{noAmounts, inRange}
 
 -- "rows beyond the number are all zero"
 abbrev pub isBlank : Row → Bool
-isBlank r = eqb (r .code) 0 && not (r .live) && eqb (r .tm) 0 && noAmounts r
+isBlank r = eqb (r .sort) 0 && not (r .live) && eqb (r .tm) 0 && noAmounts r
 
 -- "account 0 is the CM and live"; its TM word is 0, as of every row that is no client's
 abbrev pub isTop : Row → Bool
-isTop r = eqb (r .code) 0 && r .live && eqb (r .tm) 0
+isTop r = eqb (r .sort) 0 && r .live && eqb (r .tm) 0
 
 -- "a client whose TM is a lower-numbered TM row. A live client's TM is live." Row t is what the client i names.
 abbrev pub goodClient : ℕ → Row → Row → Bool
-goodClient i r t = eqb (r .code) 2 && ltb (r .tm) i && eqb (t .code) 1 && (not (r .live) || t .live)
+goodClient i r t = eqb (r .sort) 2 && ltb (r .tm) i && eqb (t .sort) 1 && (not (r .live) || t .live)
 
 -- "Every other account is a TM, a CP, or a client": the TM word of a TM and a CP is 0
 abbrev pub goodSort : ℕ → Row → Row → Bool
-goodSort i r t = (eqb (r .code) 1 || eqb (r .code) 3) && eqb (r .tm) 0 || goodClient i r t
+goodSort i r t = (eqb (r .sort) 1 || eqb (r .sort) 3) && eqb (r .tm) 0 || goodClient i r t
 
 -- "A retired account's amounts are all zero."
 abbrev pub goodRetired : Row → Bool
@@ -36,6 +35,7 @@ goodRetired r = r .live || noAmounts r
 unfoldable pub goodRow : ℕ → ℕ → Row → Row → Bool
 goodRow n i r t = pick (ltb i n) (pick (eqb i 0) (isTop r) (goodSort i r t) && goodRetired r && inRange r) (isBlank r)
 
+-- row i of a book
 unfoldable pub rowSound : Book → ℕ → Bool
 rowSound b i = goodRow (b .count) i (rowAt b i) (rowAt b (rowAt b i .tm))
 
@@ -44,17 +44,3 @@ rowSound b i = goodRow (b .count) i (rowAt b i) (rowAt b (rowAt b i .tm))
 unfoldable pub soundB : Book → Bool
 soundB b =
     leb 1 (b .count) && leb (b .count) 256 && all 256 (rowSound b) && leb (needCM (view b)) (collateral (rowAt b 0)) && eqb (length (b .rows)) 256
-
--- The same as facts.
-
-pub record Sound (b : Book) : Type 0 where
-  pub table : length (b .rows) ≡ 256
-  pub most : b .count ≤ 256
-  pub top-live : rowAt b 0 .live ≡ true
-  pub blank : (i : ℕ) → b .count ≤ i → rowAt b i ≡ noRow
-  pub shaped : Shaped (view b)
-  pub no-tm : (i : ℕ) → i < b .count → (rowAt b i .code ≡ 2 → ⊥) → rowAt b i .tm ≡ 0
-  pub tm-live : (i : ℕ) → i < b .count → rowAt b i .code ≡ 2 → rowAt b i .live ≡ true → rowAt b (rowAt b i .tm) .live ≡ true
-  pub retired : (i : ℕ) → i < b .count → rowAt b i .live ≡ false → noAmounts (rowAt b i) ≡ true
-  pub ranges : (i : ℕ) → i < b .count → InRange (rowAt b i)
-  pub covered : Covered (view b)

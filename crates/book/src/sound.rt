@@ -4,9 +4,7 @@ ghost use lib.Dec.{eqb};
 ghost use lib.ListN.{length};
 ghost use Rattle.sums.specs.Sum.{all};
 ghost use Rattle.sums.specs.Choice.{pick};
-ghost use Rattle.rows.specs.Ranges.{noAmounts, inRange};
 ghost use Rattle.book.specs.Sound.{isTop, goodSort, goodRow, rowSound};
-ghost use Rattle.rows.specs.Inner.{Slot};
 use rows::Book;
 use rows::Row;
 use rows::needs::slot;
@@ -16,15 +14,15 @@ use rows::ranges::no_amounts;
 fn is_top(r: Row) -> bool
     ensures { λ x. ⌜ x ≡ isTop r ⌝ }
 {
-    (r.code == 0) & r.live & (r.tm == 0)
+    (r.sort == 0) & r.live & (r.tm == 0)
 }
 
 // The sort of an account other than 0, where t is the row that it names as its TM.
 fn good_sort(i: usize, r: Row, t: Row) -> bool
     ensures { λ x. ⌜ x ≡ goodSort i r t ⌝ }
 {
-    (((r.code == 1) | (r.code == 3)) & (r.tm == 0))
-        | ((r.code == 2) & ((r.tm as usize) < i) & (t.code == 1) & (!r.live | t.live))
+    (((r.sort == 1) | (r.sort == 3)) & (r.tm == 0))
+        | ((r.sort == 2) & ((r.tm as usize) < i) & (t.sort == 1) & (!r.live | t.live))
 }
 
 fn good_place(i: usize, r: Row, t: Row) -> bool
@@ -43,7 +41,7 @@ fn good_row(n: usize, i: usize, r: Row, t: Row) -> bool
     if i < n {
         good_place(i, r, t) & (r.live | no_amounts(r)) & in_range(r)
     } else {
-        (r.code == 0) & !r.live & (r.tm == 0) & no_amounts(r)
+        (r.sort == 0) & !r.live & (r.tm == 0) & no_amounts(r)
     }
 }
 

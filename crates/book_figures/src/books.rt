@@ -40,13 +40,13 @@ pub fn with_kinds(r: Row, kind: u8, received: u64, allocated: u64) -> Row {
 }
 
 // A live account with all of its collateral in allocated cash.
-fn account(code: u8, tm: u16, amount: u64, margin: u64) -> Row {
-    let r = with_kinds(words::opened_row(code, tm), 0, amount, amount);
+fn account(sort: u8, tm: u16, amount: u64, margin: u64) -> Row {
+    let r = with_kinds(words::opened_row(sort, tm), 0, amount, amount);
     words::with_margin(r, margin)
 }
 
-pub fn retired(code: u8, tm: u16) -> Row {
-    words::with_live(words::opened_row(code, tm), false)
+pub fn retired(sort: u8, tm: u16) -> Row {
+    words::with_live(words::opened_row(sort, tm), false)
 }
 
 // The book with row i put anew.

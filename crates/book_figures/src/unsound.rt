@@ -71,29 +71,29 @@ fn spare_amounts() {
     beyond(b"row 4 of 4 with margin 1", words::with_margin(zero, 1));
 }
 
-fn sort(name: &[u8], code: u8, tm: u16) {
-    fifth(name, words::opened_row(code, tm));
+fn of_sort(name: &[u8], sort: u8, tm: u16) {
+    fifth(name, words::opened_row(sort, tm));
 }
 
 // "Every other account is a TM, a CP, or a client"
 fn sorts() {
-    sort(b"account 4 a TM", 1, 0);
-    sort(b"account 4 a CP", 3, 0);
-    sort(b"account 4 of sort 4", 4, 0);
-    sort(b"account 4 of sort 255", 255, 0);
-    sort(b"account 4 a second CM", 0, 0);
-    sort(b"account 4 a TM with a TM word", 1, 1);
-    sort(b"account 4 a CP with a TM word", 3, 1);
+    of_sort(b"account 4 a TM", 1, 0);
+    of_sort(b"account 4 a CP", 3, 0);
+    of_sort(b"account 4 of sort 4", 4, 0);
+    of_sort(b"account 4 of sort 255", 255, 0);
+    of_sort(b"account 4 a second CM", 0, 0);
+    of_sort(b"account 4 a TM with a TM word", 1, 1);
+    of_sort(b"account 4 a CP with a TM word", 3, 1);
 }
 
 // "a client whose TM is a lower-numbered TM row"
 fn clients() {
-    sort(b"account 4 a client of 1, a TM", 2, 1);
-    sort(b"account 4 a client of 0, the CM", 2, 0);
-    sort(b"account 4 a client of 2, a client", 2, 2);
-    sort(b"account 4 a client of itself", 2, 4);
-    sort(b"account 4 a client of 255", 2, 255);
-    sort(b"account 4 a client of 65535", 2, 65535);
+    of_sort(b"account 4 a client of 1, a TM", 2, 1);
+    of_sort(b"account 4 a client of 0, the CM", 2, 0);
+    of_sort(b"account 4 a client of 2, a client", 2, 2);
+    of_sort(b"account 4 a client of itself", 2, 4);
+    of_sort(b"account 4 a client of 255", 2, 255);
+    of_sort(b"account 4 a client of 65535", 2, 65535);
 }
 
 fn family(name: &[u8], tm: Row, client: Row) {

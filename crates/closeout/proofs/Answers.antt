@@ -6,6 +6,7 @@ use Prim.Native.Nat.{ℕ, _*_, _≤_, _<_}
 use lib.Dec.{eqb, leb}
 use lib.ListN.{length}
 use borrow.Author.Tests.{leb-true}
+use Rattle.sums.specs.Choice.{unlessRefused}
 use Rattle.sums.specs.Table.{first}
 use Rattle.sums.proofs.Sums.{all-at}
 use Rattle.sums.proofs.Choices.{and-split}
@@ -15,41 +16,41 @@ use Rattle.rows.specs.Rows.{ceiling, rowAt, view}
 use Rattle.book.specs.Sound.{soundB}
 use Rattle.closeout.specs.declared.Closed.{Closed}
 use Rattle.closeout.specs.Columns.{four, rowsTo, total}
-use Rattle.closeout.specs.Closing.{lossAt, goodLoss, goodLosses, refusalOf, answered, closedOf, filled, roomOf}
+use Rattle.closeout.specs.Closing.{lossAt, goodLoss, goodLosses, noTotal, closeOutRefusal, closedOf, roomOf}
 
 none-left : first [] ≡ 0
 unfolding first
 none-left = refl
 
 module _ (b : Book) (losses room : List ℕ) where
-  pub refused-sound : soundB b ≡ false → refusalOf b losses room ≡ 1
-  unfolding refusalOf
+  pub refused-sound : soundB b ≡ false → closeOutRefusal b losses room ≡ 1
+  unfolding closeOutRefusal
   refused-sound e = first-here 1 _ _ (ap not e)
 
   module _ (s : soundB b ≡ true) where
-    pub refused-losses : eqb (length losses) (b .count) ≡ false → refusalOf b losses room ≡ 15
-    unfolding refusalOf
+    pub refused-losses : eqb (length losses) (b .count) ≡ false → closeOutRefusal b losses room ≡ 15
+    unfolding closeOutRefusal
     refused-losses e = first-later 1 _ _ (ap not s) ∙ first-here 15 _ _ (ap not e)
 
     module _ (n : eqb (length losses) (b .count) ≡ true) where
-      pub refused-room : eqb (length room) (4 * b .count) ≡ false → refusalOf b losses room ≡ 15
-      unfolding refusalOf
+      pub refused-room : eqb (length room) (4 * b .count) ≡ false → closeOutRefusal b losses room ≡ 15
+      unfolding closeOutRefusal
       refused-room e = first-later 1 _ _ (ap not s) ∙ first-later 15 _ _ (ap not n) ∙ first-here 15 _ _ (ap not e)
 
       module _ (w : eqb (length room) (4 * b .count) ≡ true) where
-        pub refused-loss : goodLosses b losses ≡ false → refusalOf b losses room ≡ 16
-        unfolding refusalOf
+        pub refused-loss : goodLosses b losses ≡ false → closeOutRefusal b losses room ≡ 16
+        unfolding closeOutRefusal
         refused-loss e =
             first-later 1 _ _ (ap not s) ∙ first-later 15 _ _ (ap not n) ∙ first-later 15 _ _ (ap not w) ∙ first-here 16 _ _ (ap not e)
 
-        pub none-refused : goodLosses b losses ≡ true → refusalOf b losses room ≡ 0
-        unfolding refusalOf
+        pub none-refused : goodLosses b losses ≡ true → closeOutRefusal b losses room ≡ 0
+        unfolding closeOutRefusal
         none-refused e =
             first-later 1 _ _ (ap not s) ∙ first-later 15 _ _ (ap not n) ∙ first-later 15 _ _ (ap not w) ∙ first-later 16 _ _ (ap not e) ∙ none-left
 
   -- the answer and the room go by the refusal
-  pub settled : (n : ℕ) {x : Closed} {room′ : List ℕ} → refusalOf b losses room ≡ n → x ≡ answered n (total (view b) (lossAt losses))
-      → room′ ≡ filled n (rowsTo (four (view b) (lossAt losses)) (b .count)) room → (x ≡ closedOf b losses room) × (room′ ≡ roomOf b losses room)
+  pub settled : (n : ℕ) {x : Closed} {room′ : List ℕ} → closeOutRefusal b losses room ≡ n → x ≡ unlessRefused n (record { refusal = 0; total = total (view b) (lossAt losses) }) noTotal
+      → room′ ≡ unlessRefused n (rowsTo (four (view b) (lossAt losses)) (b .count)) (λ m. room) → (x ≡ closedOf b losses room) × (room′ ≡ roomOf b losses room)
   unfolding closedOf roomOf
   settled n e p q = rw e (p, q)
 

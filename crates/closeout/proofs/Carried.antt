@@ -4,33 +4,31 @@ use mathlib.Core.Bool.{Bool, true, false}
 use mathlib.Core.List.{List}
 use Prim.Native.Nat.{ℕ, zero, suc, _+_, _*_, _≤_, _<_, min}
 use native.Mathlib.Omega.{arith}
-use lib.ListN.{getD}
+use native.Mathlib.Nat.{add-zero}
 use Rattle.sums.specs.Sum.{sum}
 use Rattle.rows.specs.declared.Book.{Book}
 use Rattle.rows.specs.Rows.{rowAt, collateral, view}
-use Rattle.book.specs.Sound.{soundB, Sound}
+use Rattle.book.specs.Sound.{soundB}
+use Rattle.book.specs.Facts.{Sound}
 use Rattle.book.proofs.SoundTest.{sound→}
-use Rattle.closeout.specs.Columns.{four, rowsTo, total, beyond}
-use Rattle.closeout.specs.Closing.{lossAt, refusalOf, closedOf, roomOf}
+use Rattle.closeout.specs.Columns.{four, rowsTo, total}
+use Rattle.closeout.specs.Bound.{beyond, cellOf}
+use Rattle.closeout.specs.Closing.{lossAt, closeOutRefusal, closedOf, roomOf}
 use Rattle.closeout.proofs.Payments.{adds}
 use Rattle.closeout.proofs.Fund.{fund-covered}
 use Rattle.closeout.proofs.Cells.{own-cell, fromTM-cell, fromCM-cell, uncovered-cell}
 use Rattle.closeout.proofs.Answers.{refused-sound}
 
 -- "A refusal leaves the room untouched and gives a total of 0."
-pub refused-total : (b : Book) (losses room : List ℕ) (n : ℕ) → refusalOf b losses room ≡ suc n → closedOf b losses room .total ≡ 0
+pub refused-total : (b : Book) (losses room : List ℕ) (n : ℕ) → closeOutRefusal b losses room ≡ suc n → closedOf b losses room .total ≡ 0
 unfolding closedOf
 refused-total b losses room n e = rw e
 
-pub refused-untouched : (b : Book) (losses room : List ℕ) (n : ℕ) → refusalOf b losses room ≡ suc n → roomOf b losses room ≡ room
+pub refused-untouched : (b : Book) (losses room : List ℕ) (n : ℕ) → closeOutRefusal b losses room ≡ suc n → roomOf b losses room ≡ room
 unfolding roomOf
 refused-untouched b losses room n e = rw e
 
--- the cells of account i
-abbrev pub cellOf : Book → List ℕ → List ℕ → ℕ → ℕ → ℕ
-cellOf b losses room i k = getD (roomOf b losses room) (4 * i + k) 0
-
-module _ (b : Book) (losses room : List ℕ) (ok : refusalOf b losses room ≡ 0) where
+module _ (b : Book) (losses room : List ℕ) (ok : closeOutRefusal b losses room ≡ 0) where
   pub carried-sound : Sound b
   carried-sound = sound→ b (by (soundB b) refl)
     where
@@ -47,37 +45,37 @@ module _ (b : Book) (losses room : List ℕ) (ok : refusalOf b losses room ≡ 0
   carried-room = rw ok
 
   -- "A client or CP pays the lesser of loss and collateral from its own."
-  pub carried-own : (i : ℕ) → i < b .count → getD (roomOf b losses room) (4 * i) 0 ≡ min (lossAt losses i) (collateral (rowAt b i))
-  carried-own i m = rw carried-room (own-cell (view b) (lossAt losses) (b .count) i m)
+  pub carried-own : (i : ℕ) → i < b .count → cellOf b losses room i 0 ≡ min (lossAt losses i) (collateral (rowAt b i))
+  carried-own i m = rw (add-zero (4 * i), carried-room) (own-cell (view b) (lossAt losses) (b .count) i m)
 
   -- "They add up to the loss."
   pub carried-adds : (i : ℕ) → i < b .count
-      → getD (roomOf b losses room) (4 * i) 0 + cellOf b losses room i 1 + cellOf b losses room i 2 + cellOf b losses room i 3 ≡ lossAt losses i
+      → cellOf b losses room i 0 + cellOf b losses room i 1 + cellOf b losses room i 2 + cellOf b losses room i 3 ≡ lossAt losses i
   carried-adds i m =
-      rw (carried-room)
+      rw (add-zero (4 * i), carried-room)
       (omega (
         arith,
         own-cell (view b) (lossAt losses) (b .count) i m,
         fromTM-cell (view b) (lossAt losses) (b .count) i m,
         fromCM-cell (view b) (lossAt losses) (b .count) i m,
         uncovered-cell (view b) (lossAt losses) (b .count) i m,
-        adds (view b) (carried-sound .shaped) (lossAt losses) i m,
+        adds (view b) (lossAt losses) i,
       ))
 
 -- no other account has a say in what an account pays from its own: two calls that were carried out and agree on account i's
 -- loss and collateral put the same amount into its first cell
-pub own-paid-alone : (b c : Book) (losses others room space : List ℕ) → refusalOf b losses room ≡ 0 → refusalOf c others space ≡ 0 → (i : ℕ)
+pub own-paid-alone : (b c : Book) (losses others room space : List ℕ) → closeOutRefusal b losses room ≡ 0 → closeOutRefusal c others space ≡ 0 → (i : ℕ)
     → i < b .count → i < c .count → lossAt losses i ≡ lossAt others i → collateral (rowAt b i) ≡ collateral (rowAt c i)
-    → getD (roomOf b losses room) (4 * i) 0 ≡ getD (roomOf c others space) (4 * i) 0
+    → cellOf b losses room i 0 ≡ cellOf c others space i 0
 own-paid-alone b c losses others room space p q i m n e f =
     carried-own b losses room p i m ∙ ap (λ (x : ℕ). min x (collateral (rowAt b i))) e ∙ ap (min (lossAt others i)) f
     ∙ sym (carried-own c others space q i n)
 
 -- the total given is at most the losses beyond the margins, whatever was asked
 pub total-bound : (b : Book) (losses room : List ℕ) → closedOf b losses room .total ≤ sum (b .count) (beyond (view b) (lossAt losses))
-total-bound b losses room = by (refusalOf b losses room) refl
+total-bound b losses room = by (closeOutRefusal b losses room) refl
   where
-    by : (n : ℕ) → refusalOf b losses room ≡ n → closedOf b losses room .total ≤ sum (b .count) (beyond (view b) (lossAt losses))
+    by : (n : ℕ) → closeOutRefusal b losses room ≡ n → closedOf b losses room .total ≤ sum (b .count) (beyond (view b) (lossAt losses))
     by zero e =
         let s = carried-sound b losses room e in
         rw (carried-total b losses room e) (fund-covered (view b) (s .shaped) (lossAt losses) (s .covered))

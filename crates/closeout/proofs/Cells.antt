@@ -10,7 +10,6 @@ use Rattle.sums.specs.Sum.{sum}
 use Rattle.sums.proofs.Sums.{sum-eq}
 use Rattle.rows.specs.View.{View}
 use Rattle.closeout.specs.Columns.{own, fromTM, fromCM, uncovered, four, rowsTo, total}
-use Rattle.closeout.proofs.Payments.{own-alone}
 
 -- rows of four, whatever they are
 module _ (f : ℕ → List ℕ) (of-four : (i : ℕ) → length (f i) ≡ 4) where
@@ -54,8 +53,3 @@ module _ (v : View) (l : ℕ → ℕ) where
   -- "The total left uncovered is given beside the list.": it is the sum of the list's fourth column
   pub total-cells : total v l ≡ sum (v .count) (λ i. getD (rowsTo (four v l) (v .count)) (4 * i + 3) 0)
   total-cells = sum-eq (v .count) (uncovered v l) _ (λ i m. sym (uncovered-cell (v .count) i m))
-
--- the first column's cell of account i, in the rooms of two views and two lists of losses that agree on account i
-pub own-cell-alone : (v w : View) (l m : ℕ → ℕ) (n k i : ℕ) → i < n → i < k → l i ≡ m i → v .collateral i ≡ w .collateral i
-    → getD (rowsTo (four v l) n) (4 * i) 0 ≡ getD (rowsTo (four w m) k) (4 * i) 0
-own-cell-alone v w l m n k i p q e c = own-cell v l n i p ∙ own-alone v w l m i e c ∙ sym (own-cell w m k i q)

@@ -1,16 +1,17 @@
 -- The fund's bound: what is left uncovered in all is at most the losses beyond the margins, and what the CM lacks.
 use mathlib.Core.Path.{_≡_, refl, _∙_}
 use mathlib.Core.Bool.{Bool, true, false}
-use mathlib.Core.Logic.{inl, inr}
 use Prim.Native.Nat.{ℕ, _+_, _-_, _≤_, _<_, min}
 use native.Mathlib.Omega.{arith}
 use Rattle.sums.specs.Sum.{sum, only}
-use Rattle.sums.proofs.Sums.{sum-term, sum-le, sum-eq, sum-zero, sum-add, only-add, waterfall}
-use Rattle.rows.specs.View.{View, isTM, isCP, isClientOf, members, ofClients, ownDeemed, needTM, deemedTM, needCM, Shaped, Covered}
+use Rattle.sums.proofs.Sums.{sum-le, sum-eq, sum-zero, sum-add, only-add, waterfall}
+use Rattle.rows.specs.View.{View, isTM, isCP, isClientOf, members, ofClients, ownDeemed, needTM, deemedTM, needCM}
+use Rattle.rows.specs.Facts.{Shaped, Covered}
 use Rattle.book.proofs.BySort.{members-le}
-use Rattle.closeout.specs.Columns.{own, short, leftTM, asked, uncovered, total, beyond}
+use Rattle.closeout.specs.Columns.{own, short, leftTM, asked, uncovered, total}
+use Rattle.closeout.specs.Bound.{beyond}
 use Rattle.closeout.proofs.Groups.{group, regroup}
-use Rattle.closeout.proofs.Payments.{over, asked-CM, asked-member, asked-client}
+use Rattle.closeout.proofs.Payments.{over, asked-other, asked-client}
 
 -- what is left in the hand of a payer with b
 in-hand : (a b : ℕ) → b - min a b ≡ b - a
@@ -47,15 +48,15 @@ module _ (v : View) (l : ℕ → ℕ) where
       by i false = omega arith
 
   -- a TM and its clients together
-  group-le : (t : ℕ) → v .code t ≡ 1 → group v (asked v l) t ≤ group v (beyond v l) t + deemedTM v t
+  group-le : (t : ℕ) → v .sort t ≡ 1 → group v (asked v l) t ≤ group v (beyond v l) t + deemedTM v t
   unfolding needTM
   group-le t e =
-      rw (asked-member v l t (inl e), asked-clients t)
+      rw (asked-other v l t (rw e), asked-clients t)
       (pool (l t) (v .collateral t) (v .margin t) (ofClients v t (short v l)) (ofClients v t (beyond v l)) (ofClients v t (ownDeemed v))
       (short-le t))
 
-  CP-le : (i : ℕ) → v .code i ≡ 3 → asked v l i ≤ beyond v l i + ownDeemed v i
-  CP-le i e = omega (arith, asked-member v l i (inr e))
+  CP-le : (i : ℕ) → v .sort i ≡ 3 → asked v l i ≤ beyond v l i + ownDeemed v i
+  CP-le i e = omega (arith, asked-other v l i (rw e))
 
   members-split : (i : ℕ) → members v (λ t. group v (beyond v l) t + deemedTM v t) (λ t. beyond v l t + ownDeemed v t) i
       ≡ members v (group v (beyond v l)) (beyond v l) i + members v (deemedTM v) (ownDeemed v) i
@@ -74,18 +75,18 @@ module _ (v : View) (l : ℕ → ℕ) where
       (group-le i) (CP-le i))
 
   -- the total: what the CM's collateral doesn't reach
-  pub total-asked : total v l ≡ sum (v .count) (asked v l) - v .collateral 0
+  pub total-asked : total v l ≡ sum (v .count) (asked v l) - (v .collateral 0 - own v l 0)
   unfolding uncovered
-  total-asked = waterfall (v .count) (asked v l) (v .collateral 0)
+  total-asked = waterfall (v .count) (asked v l) (v .collateral 0 - own v l 0)
 
 module _ (v : View) (s : Shaped v) (l : ℕ → ℕ) where
-  -- all that is asked of the CM's collateral
-  asked-le : sum (v .count) (asked v l) ≤ sum (v .count) (beyond v l) + needCM v
+  -- the CM's own loss, and all that is asked of its collateral
+  asked-le : own v l 0 + sum (v .count) (asked v l) ≤ sum (v .count) (beyond v l) + needCM v
   unfolding needCM
   asked-le =
       omega (
         arith,
-        asked-CM v l 0 (s .top),
+        asked-other v l 0 (rw (s .top)),
         regroup v s (asked v l),
         regroup v s (beyond v l),
         sum-le (v .count) (members v (group v (asked v l)) (asked v l))
@@ -102,6 +103,3 @@ module _ (v : View) (s : Shaped v) (l : ℕ → ℕ) where
   -- where no loss passes its margin, nothing is left uncovered
   pub fund-within : Covered v → ((i : ℕ) → i < v .count → l i ≤ v .margin i) → total v l ≡ 0
   fund-within c h = omega (arith, fund-covered c, sum-zero (v .count) (beyond v l) (λ i m. omega (arith, h i m)))
-
-  pub account-within : Covered v → ((i : ℕ) → i < v .count → l i ≤ v .margin i) → (i : ℕ) → i < v .count → uncovered v l i ≡ 0
-  account-within c h i m = omega (arith, fund-within c h, sum-term (v .count) (uncovered v l) i m)

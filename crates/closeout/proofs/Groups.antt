@@ -8,15 +8,16 @@ use lib.Dec.{eqb}
 use borrow.Author.Tests.{eqb-true, eq-eqb, ne-eqb}
 use Rattle.sums.specs.Sum.{sum, only}
 use Rattle.sums.proofs.Sums.{sum-eq, sum-zero, sum-add, sum-single, sum-only, sum-swap, only-zero, only-add}
-use Rattle.rows.specs.View.{View, isCM, isTM, isClient, isClientOf, members, ofClients, Shaped}
+use Rattle.rows.specs.View.{View, isCM, isTM, isClient, isClientOf, members, ofClients}
+use Rattle.rows.specs.Facts.{Shaped}
 
 -- f of a TM and of all its clients
 abbrev pub group : View → (ℕ → ℕ) → ℕ → ℕ
 group v f t = f t + ofClients v t f
 
 module _ (v : View) (s : Shaped v) where
-  -- the CM alone has code 0
-  pub CM-first : (i : ℕ) → i < v .count → v .code i ≡ 0 → i ≡ 0
+  -- the CM alone has sort 0
+  CM-first : (i : ℕ) → i < v .count → v .sort i ≡ 0 → i ≡ 0
   CM-first zero m e = refl
   CM-first (suc i) m e =
       ⊎-elim (λ q. omega arith) (⊎-elim (λ q. omega arith) (λ q. omega arith)) (s .sorts (suc i) (omega arith) m)
@@ -27,10 +28,10 @@ module _ (v : View) (s : Shaped v) where
       ⊎-elim (λ e. rw e (omega arith)) (⊎-elim (λ e. rw e (omega arith)) (λ e. rw e (omega arith)))
       (s .sorts (suc i) (omega arith) m)
 
-  pub of-CM : (f : ℕ → ℕ) → sum (v .count) (λ i. only (isCM v i) (f i)) ≡ f 0
+  of-CM : (f : ℕ → ℕ) → sum (v .count) (λ i. only (isCM v i) (f i)) ≡ f 0
   of-CM f =
       sum-single (v .count) (λ i. only (isCM v i) (f i)) 0 (s .some)
-      (λ i m ne. only-zero (isCM v i) (f i) (λ e. absurd (ne (CM-first i m (eqb-true (v .code i) 0 e)))))
+      (λ i m ne. only-zero (isCM v i) (f i) (λ e. absurd (ne (CM-first i m (eqb-true (v .sort i) 0 e)))))
       ∙ rw (s .top)
 
   -- a client counts once, with its TM
@@ -42,7 +43,7 @@ module _ (v : View) (s : Shaped v) where
           → sum (v .count) (λ t. only (isTM v t) (only (b && eqb (v .tm i) t) (f i))) ≡ only b (f i)
       by false e = sum-zero (v .count) (λ t. only (isTM v t) 0) (λ t q. only-zero (isTM v t) 0 (λ r. refl))
       by true e =
-          let h = s .tms i m (eqb-true (v .code i) 2 e) in
+          let h = s .tms i m (eqb-true (v .sort i) 2 e) in
           sum-single (v .count) (λ t. only (isTM v t) (only (eqb (v .tm i) t) (f i))) (v .tm i) (omega (arith, h .0))
           (λ t q ne. only-zero (isTM v t) (only (eqb (v .tm i) t) (f i)) (λ r. rw (ne-eqb (v .tm i) t (λ d. ne (sym d)))))
           ∙ rw (h .1, eq-eqb (v .tm i) (v .tm i) refl)

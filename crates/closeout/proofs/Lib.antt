@@ -1,5 +1,6 @@
 pub mod Groups
 pub mod Payments
+pub mod ZeroColumns
 pub mod Fund
 pub mod Limits
 pub mod Cells

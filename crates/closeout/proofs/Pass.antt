@@ -7,19 +7,19 @@ use native.Mathlib.Decide.{ℕ-discrete}
 use lib.Dec.{eqb}
 use lib.ListN.{length, getD, set, drop, length-set}
 use Rattle.sums.specs.Sum.{sum}
-use Rattle.sums.proofs.Sums.{sum-step}
+use Rattle.sums.proofs.Sums.{sum-step, only-most}
 use Rattle.rows.specs.declared.Row.{Row}
 use Rattle.rows.specs.declared.Book.{Book}
 use Rattle.rows.specs.Rows.{ceiling, rowAt, collateral, view}
-use Rattle.book.specs.Sound.{Sound}
+use Rattle.book.specs.Facts.{Sound}
 use Rattle.closeout.specs.declared.pays.Paid.{Paid}
-use Rattle.closeout.specs.Columns.{leftTM, asked, leftCM, uncovered, four, rowsTo, total}
+use Rattle.closeout.specs.Columns.{leftTM, leftCM, fromCM, uncovered, four, rowsTo, total}
 use Rattle.closeout.specs.Closing.{lossAt}
 use Rattle.closeout.specs.Inner.{paidOf, shortBy, paidBy, fourOf, putAt}
 use Rattle.closeout.proofs.Cells.{four-long}
 use Rattle.closeout.proofs.Steps.{leftCM-step, uncovered-most}
 use Rattle.closeout.proofs.Rooms.{row-more, rows-all}
-use Rattle.closeout.proofs.Turns.{part-le, left-turn, row-pays}
+use Rattle.closeout.proofs.Turns.{left-turn, row-pays}
 
 -- where the pass stands at account i
 pub record Passed (b : Book) (losses room₀ room left : List ℕ) (cm open-sum i : ℕ) : Type 0 where
@@ -30,15 +30,16 @@ pub record Passed (b : Book) (losses room₀ room left : List ℕ) (cm open-sum 
   pub cm-left : cm ≡ leftCM (view b) (lossAt losses) i
   pub uncovered-sum : open-sum ≡ sum i (uncovered (view b) (lossAt losses))
 
-pub start : (b : Book) (losses room left : List ℕ) (cm : ℕ) → length left ≡ 256 → cm ≡ collateral (rowAt b 0)
-    → Passed b losses room room left cm 0 0
+-- c is the CM's collateral, and own what its own loss takes of it
+pub start : (b : Book) (losses room left : List ℕ) {c own : ℕ} → length left ≡ 256 → c ≡ collateral (rowAt b 0) → own ≡ min (lossAt losses 0) c
+    → Passed b losses room room left (c - own) 0 0
 unfolding rowsTo sum
-start b losses room left cm n e = record {
+start b losses room left n has paid = record {
   rows = refl;
   wide = refl;
   size = n;
   tms = λ k d. absurd (omega arith);
-  cm-left = omega arith;
+  cm-left = rw (paid, has) (omega arith);
   uncovered-sum = refl;
 }
 
@@ -61,17 +62,17 @@ sum-fits {b} {losses} {i = i} at small m =
 -- a payer doesn't pay more than it has
 pub tm-has : (r : Row) (loss tm cm : ℕ) {p : Paid} → p ≡ paidBy r loss tm cm → p .tm ≤ tm
 unfolding paidBy
-tm-has r loss tm cm e = rw e (part-le (eqb (r .code) 2) (shortBy r loss) tm .1)
+tm-has r loss tm cm e = rw e (omega (arith, only-most (eqb (r .sort) 2) (min (shortBy r loss) tm)))
 
-pub cm-has : (r : Row) (loss tm cm : ℕ) {p : Paid} → p ≡ paidBy r loss tm cm → p .borne ≤ cm
+pub cm-has : (r : Row) (loss tm cm : ℕ) {p : Paid} → p ≡ paidBy r loss tm cm → p .cm ≤ cm
 unfolding paidBy
 cm-has r loss tm cm e = rw e (omega arith)
 
 -- the account that i names doesn't come after it
 pub named-low : (b : Book) → Sound b → (i : ℕ) → i < b .count → rowAt b i .tm ≤ i
-named-low b h i m = by (ℕ-discrete (rowAt b i .code) 2)
+named-low b h i m = by (ℕ-discrete (rowAt b i .sort) 2)
   where
-    by : Dec (rowAt b i .code ≡ 2) → rowAt b i .tm ≤ i
+    by : Dec (rowAt b i .sort ≡ 2) → rowAt b i .tm ≤ i
     by (yes e) = omega (arith, h .shaped .tms i m e .0)
     by (no e) = omega (arith, h .no-tm i m e)
 
@@ -88,7 +89,7 @@ module _ {b : Book} {losses room₀ room left : List ℕ} {cm open-sum i : ℕ} 
 
   pub turn : {p : Paid} {room′ : List ℕ} → p ≡ paidBy (rowAt b i) (lossAt losses i) (getD left t 0) cm → room′ ≡ putAt room (4 * i) (fourOf p)
       → length room′ ≡ length room
-      → Passed b losses room₀ room′ (set (set left t (getD left t 0 - p .tm)) i (p .kept)) (cm - p .borne) (open-sum + p .uncovered) (i + 1)
+      → Passed b losses room₀ room′ (set (set left t (getD left t 0 - p .tm)) i (p .kept)) (cm - p .cm) (open-sum + p .uncovered) (i + 1)
   unfolding paidOf four
   turn {p} {room′} e r same =
       let q : p ≡ paidOf (view b) (lossAt losses) i = pays-now e in
@@ -100,8 +101,8 @@ module _ {b : Book} {losses room₀ room left : List ℕ} {cm open-sum i : ℕ} 
         size = simp length-set (at .size);
         tms = λ k d. ap (λ x. getD (set (set left t (getD left t 0 - x .tm)) i (x .kept)) k 0) q
             ∙ left-turn (view b) (h .shaped) (lossAt losses) i m left (omega (arith, h .most, at .size)) (at .tms) k d;
-        cm-left = ap (λ x. cm - x .borne) q
-            ∙ ap (λ (c : ℕ). c - min (asked (view b) (lossAt losses) i) (leftCM (view b) (lossAt losses) i)) (at .cm-left)
+        cm-left = ap (λ x. cm - x .cm) q
+            ∙ ap (λ (c : ℕ). c - fromCM (view b) (lossAt losses) i) (at .cm-left)
             ∙ sym (leftCM-step (view b) (lossAt losses) i);
         uncovered-sum = ap (λ x. open-sum + x .uncovered) q
             ∙ ap (λ (c : ℕ). c + uncovered (view b) (lossAt losses) i) (at .uncovered-sum)

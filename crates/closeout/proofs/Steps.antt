@@ -6,10 +6,11 @@ use native.Mathlib.Omega.{arith}
 use borrow.Author.Tests.{eqb-true, eq-eqb}
 use Rattle.sums.specs.Sum.{sum, only}
 use Rattle.sums.proofs.Sums.{sum-step, sum-zero, sum-most, only-zero}
-use Rattle.rows.specs.View.{View, isCM, isClient, isClientOf, Shaped}
-use Rattle.book.proofs.BySort.{client-code, client-tm}
-use Rattle.closeout.specs.Columns.{own, short, leftTM, fromTM, asked, leftCM, uncovered}
-use Rattle.closeout.proofs.Payments.{fromTM-other, asked-CM, asked-other, uncovered-le}
+use Rattle.rows.specs.View.{View, isClient, isClientOf}
+use Rattle.rows.specs.Facts.{Shaped}
+use Rattle.book.proofs.BySort.{client-sort, client-tm}
+use Rattle.closeout.specs.Columns.{own, short, leftTM, fromTM, asked, leftCM, fromCM, uncovered}
+use Rattle.closeout.proofs.Payments.{fromTM-other, adds}
 
 spend : (c w a : ℕ) → c - (w + a) ≡ (c - w) - min a (c - w)
 spend c w a = omega arith
@@ -26,9 +27,10 @@ not-named v t i ne = by (isClientOf v t i) refl
     by false e = e
 
 module _ (v : View) (l : ℕ → ℕ) where
-  -- the CM's collateral: less what it bears of i's loss
-  pub leftCM-step : (i : ℕ) → leftCM v l (i + 1) ≡ leftCM v l i - min (asked v l i) (leftCM v l i)
-  leftCM-step i = rw (sum-step i (asked v l)) (spend (v .collateral 0) (sum i (asked v l)) (asked v l i))
+  -- the CM's collateral: less what it pays of i's loss
+  pub leftCM-step : (i : ℕ) → leftCM v l (i + 1) ≡ leftCM v l i - fromCM v l i
+  unfolding fromCM
+  leftCM-step i = rw (sum-step i (asked v l)) (spend (v .collateral 0 - own v l 0) (sum i (asked v l)) (asked v l i))
 
   -- t's collateral after an account that is not its client
   pub leftTM-other : (t i : ℕ) → isClientOf v t i ≡ false → leftTM v l t (i + 1) ≡ leftTM v l t i
@@ -36,7 +38,7 @@ module _ (v : View) (l : ℕ → ℕ) where
       rw (sum-step i (λ j. only (isClientOf v t j) (short v l j)))
       (rw e (same (v .collateral t - own v l t) (sum i (λ j. only (isClientOf v t j) (short v l j)))))
 
-  leftTM-client : (i : ℕ) → v .code i ≡ 2 → leftTM v l (v .tm i) (i + 1) ≡ leftTM v l (v .tm i) i - fromTM v l i
+  leftTM-client : (i : ℕ) → v .sort i ≡ 2 → leftTM v l (v .tm i) (i + 1) ≡ leftTM v l (v .tm i) i - fromTM v l i
   unfolding fromTM
   leftTM-client i e =
       rw (sum-step i (λ j. only (isClientOf v (v .tm i) j) (short v l j)))
@@ -48,20 +50,12 @@ module _ (v : View) (l : ℕ → ℕ) where
   leftTM-named i = by (isClient v i) refl
     where
       by : (b : Bool) → isClient v i ≡ b → leftTM v l (v .tm i) (i + 1) ≡ leftTM v l (v .tm i) i - fromTM v l i
-      by true e = leftTM-client i (eqb-true (v .code i) 2 e)
+      by true e = leftTM-client i (eqb-true (v .sort i) 2 e)
       by false e = omega (arith, leftTM-other (v .tm i) i (rw e), fromTM-other v l i e)
-
-  -- no account asks for more than its loss
-  pub asked-le-loss : (i : ℕ) → asked v l i ≤ l i
-  asked-le-loss i = by (isCM v i) refl
-    where
-      by : (b : Bool) → isCM v i ≡ b → asked v l i ≤ l i
-      by true e = omega (arith, asked-CM v l i (eqb-true (v .code i) 0 e))
-      by false e = omega (arith, asked-other v l i e)
 
   -- what the first i leave uncovered, where no loss passes k
   pub uncovered-most : (k i : ℕ) → ((j : ℕ) → j < i → l j ≤ k) → sum i (uncovered v l) ≤ i * k
-  uncovered-most k i h = sum-most i k (uncovered v l) (λ j m. omega (arith, uncovered-le v l j, asked-le-loss j, h j m))
+  uncovered-most k i h = sum-most i k (uncovered v l) (λ j m. omega (arith, adds v l j, h j m))
 
 module _ (v : View) (s : Shaped v) (l : ℕ → ℕ) where
   -- no client comes before its TM
@@ -71,5 +65,5 @@ module _ (v : View) (s : Shaped v) (l : ℕ → ℕ) where
         arith,
         sum-zero (t + 1) (λ j. only (isClientOf v t j) (short v l j))
             (λ j q. only-zero (isClientOf v t j) (short v l j)
-            (λ e. absurd (omega (arith, s .tms j (omega arith) (client-code v t j e) .0, client-tm v t j e)))),
+            (λ e. absurd (omega (arith, s .tms j (omega arith) (client-sort v t j e) .0, client-tm v t j e)))),
       )

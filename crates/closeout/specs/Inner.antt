@@ -4,17 +4,17 @@ use mathlib.Core.List.{List, [], _∷_, _++_}
 use Prim.Native.Nat.{ℕ, _+_, _-_, _*_, _≤_, _<_, min}
 use lib.Dec.{eqb}
 use lib.ListN.{length, take, drop}
-use Rattle.sums.specs.Choice.{pick}
+use Rattle.sums.specs.Sum.{only}
 use Rattle.rows.specs.declared.Row.{Row}
 use Rattle.rows.specs.declared.Book.{Book}
 use Rattle.rows.specs.View.{View}
 use Rattle.rows.specs.Rows.{ceiling, collateral}
-use Rattle.book.specs.Sound.{Sound}
+use Rattle.book.specs.Facts.{Sound}
 use Rattle.closeout.specs.declared.pays.Paid.{Paid}
-use Rattle.closeout.specs.Columns.{own, fromTM, asked, leftCM, fromCM, uncovered}
+use Rattle.closeout.specs.Columns.{own, fromTM, fromCM, uncovered}
 use Rattle.closeout.specs.Closing.{lossAt}
 
--- account i's four amounts, what its collateral keeps after its own loss, and what the CM's collateral bears
+-- account i's four amounts, and what its collateral keeps after its own loss
 unfoldable pub paidOf : View → (ℕ → ℕ) → ℕ → Paid
 paidOf v l i = record {
   own = own v l i;
@@ -22,7 +22,6 @@ paidOf v l i = record {
   cm = fromCM v l i;
   uncovered = uncovered v l i;
   kept = v .collateral i - own v l i;
-  borne = min (asked v l i) (leftCM v l i);
 }
 
 -- The same from one row and its loss, where its TM's collateral has tm left, and the CM's has cm.
@@ -32,20 +31,19 @@ abbrev pub shortBy : Row → ℕ → ℕ
 shortBy r loss = loss - min loss (collateral r)
 
 abbrev pub tmBy : Row → ℕ → ℕ → ℕ
-tmBy r loss tm = pick (eqb (r .code) 2) (min (shortBy r loss) tm) 0
+tmBy r loss tm = only (eqb (r .sort) 2) (min (shortBy r loss) tm)
 
--- what is asked of the CM's collateral
+-- what neither own collateral nor the TM's can pay
 abbrev pub askedBy : Row → ℕ → ℕ → ℕ
-askedBy r loss tm = pick (eqb (r .code) 0) loss (shortBy r loss - tmBy r loss tm)
+askedBy r loss tm = shortBy r loss - tmBy r loss tm
 
 unfoldable pub paidBy : Row → ℕ → ℕ → ℕ → Paid
 paidBy r loss tm cm = record {
   own = min loss (collateral r);
   tm = tmBy r loss tm;
-  cm = pick (eqb (r .code) 0) 0 (min (askedBy r loss tm) cm);
-  uncovered = askedBy r loss tm - min (askedBy r loss tm) cm;
+  cm = min (askedBy r loss tm) cm;
+  uncovered = askedBy r loss tm - cm;
   kept = collateral r - min loss (collateral r);
-  borne = min (askedBy r loss tm) cm;
 }
 
 abbrev pub fourOf : Paid → List ℕ

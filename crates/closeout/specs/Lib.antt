@@ -1,3 +1,4 @@
 pub mod Columns
 pub mod Closing
+pub mod Bound
 pub mod Inner

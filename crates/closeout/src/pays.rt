@@ -2,37 +2,30 @@
 ghost use mathlib.Core.Path.{_≡_};
 ghost use Prim.Native.Nat.{_+_, _≤_, min};
 ghost use lib.ListN.{length};
-ghost use Rattle.sums.specs.Choice.{pick};
 ghost use Rattle.rows.specs.Rows.{view};
-ghost use Rattle.rows.specs.Ranges.{InRange};
+ghost use Rattle.rows.specs.Facts.{InRange};
 ghost use Rattle.closeout.specs.Columns.{four, rowsTo, total};
 ghost use Rattle.closeout.specs.Closing.{lossAt};
 ghost use Rattle.closeout.specs.Inner.{paidBy, fourOf, putAt, Checked};
 use rows::Book;
 use rows::Row;
 use rows::needs::collateral_of;
+use rows::needs::only_if;
 use rows::needs::zeros;
 
-// One account's four amounts, what its collateral keeps after its own loss, and what the CM's collateral bears.
+// One account's four amounts, and what its collateral keeps after its own loss.
 pub(crate) struct Paid {
     own: u64,
     tm: u64,
     cm: u64,
     uncovered: u64,
     kept: u64,
-    borne: u64,
 }
 
 fn lesser(a: u64, b: u64) -> u64
     ensures { λ x. ⌜ x ≡ min a b ⌝ }
 {
     if a < b { a } else { b }
-}
-
-fn choose(t: bool, a: u64, b: u64) -> u64
-    ensures { λ x. ⌜ x ≡ pick t a b ⌝ }
-{
-    if t { a } else { b }
 }
 
 // One account, whose TM's collateral has `tm` left, and the CM's `cm`.
@@ -43,16 +36,15 @@ fn pay(r: Row, loss: u64, tm: u64, cm: u64) -> Paid
     let c = collateral_of(r);
     let own = lesser(loss, c);
     let short = loss - own;
-    let from_tm = choose(r.code == 2, lesser(short, tm), 0);
-    let asked = choose(r.code == 0, loss, short - from_tm);
-    let borne = lesser(asked, cm);
+    let from_tm = only_if(r.sort == 2, lesser(short, tm));
+    let asked = short - from_tm;
+    let from_cm = lesser(asked, cm);
     Paid {
         own: own,
         tm: from_tm,
-        cm: choose(r.code == 0, 0, borne),
-        uncovered: asked - borne,
+        cm: from_cm,
+        uncovered: asked - from_cm,
         kept: c - own,
-        borne: borne,
     }
 }
 
@@ -67,13 +59,14 @@ fn put(room: &mut [u64], at: usize, p: Paid)
 }
 
 // The rows, and the total left uncovered. left[t] is what account t's collateral has left after its own loss and the
-// clients passed: a TM's row comes before its clients'.
+// clients passed: a TM's row comes before its clients'. cm is what the CM's has left after its own loss and the accounts passed.
 pub(crate) fn fill(b: Book, losses: &[u64], room: &mut [u64]) -> u64
     requires { ⌜ Checked b (now losses) (now room) ⌝ }
     ensures { λ x. ⌜ (now (room .exit) ≡ rowsTo (four (view b) (lossAt (now (losses .entry)))) (b .count)) × (x ≡ total (view b) (lossAt (now (losses .entry)))) ⌝ }
 {
     let mut left = zeros();
-    let mut cm = collateral_of(b.rows[0]);
+    let c = collateral_of(b.rows[0]);
+    let mut cm = c - lesser(losses[0], c);
     let mut uncovered: u64 = 0;
     let n = b.count as usize;
     let mut i: usize = 0;
@@ -84,7 +77,7 @@ pub(crate) fn fill(b: Book, losses: &[u64], room: &mut [u64]) -> u64
         put(room, 4 * i, p);
         left[t] = left[t] - p.tm;
         left[i] = p.kept;
-        cm -= p.borne;
+        cm -= p.cm;
         uncovered += p.uncovered;
         i += 1;
     }

@@ -12,9 +12,9 @@ fn cash(amount: u64) -> Kinds {
     }
 }
 
-fn row(code: u8, tm: u16, amount: u64, margin: u64) -> Row {
+fn row(sort: u8, tm: u16, amount: u64, margin: u64) -> Row {
     Row {
-        code: code,
+        sort: sort,
         live: true,
         tm: tm,
         received: cash(amount),
@@ -24,8 +24,8 @@ fn row(code: u8, tm: u16, amount: u64, margin: u64) -> Row {
     }
 }
 
-fn retired(code: u8, tm: u16) -> Row {
-    let mut r = row(code, tm, 0, 0);
+fn retired(sort: u8, tm: u16) -> Row {
+    let mut r = row(sort, tm, 0, 0);
     r.live = false;
     r
 }

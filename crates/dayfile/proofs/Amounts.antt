@@ -2,15 +2,15 @@
 use mathlib.Core.Bool.{true}
 use mathlib.Core.Path.{_≡_, refl, sym}
 use mathlib.Core.List.{List, [], _++_}
-use Prim.Native.Nat.{ℕ, zero, suc, _+_, _*_, _^_, _≤_, _<_}
+use Prim.Native.Nat.{ℕ, zero, suc, _+_, _*_, _≤_, _<_}
 use native.Mathlib.Omega.{arith}
-use lib.Dec.{lit<}
 use lib.ListN.{length, drop, length-drop}
-use Rattle.dayfile.specs.Bytes.{number, bytesOf, Bytes}
+use Rattle.dayfile.specs.Bytes.{number, bytesOf}
+use Rattle.dayfile.specs.Files.{Bytes}
 use Rattle.dayfile.specs.Records.{bit, goodAmount}
 use Rattle.dayfile.specs.Reading.{got, past}
 use Rattle.dayfile.specs.Written.{field}
-use Rattle.dayfile.proofs.Numbers.{length-bytesOf, number-bytesOf, drop-bytesOf, bytesOf-number, bytes-drop, number-lt}
+use Rattle.dayfile.proofs.Numbers.{length-bytesOf, number-bytesOf, drop-bytesOf, bytesOf-number, bytes-drop}
 use Rattle.dayfile.proofs.Marks.{bit-lt}
 use Rattle.dayfile.proofs.Good.{amount-most, amount-unnamed}
 
@@ -31,11 +31,6 @@ past-drop (suc (suc b)) l h = absurd (omega arith)
 
 pub past-bit : (w n : ℕ) (l : List ℕ) → past (bit w n) l ≡ drop (8 * bit w n) l
 past-bit w n l = past-drop (bit w n) l (bit-lt w n)
-
-pub got-lt : (b : ℕ) (l : List ℕ) → Bytes l → got b l < 2 ^ 64
-unfolding got
-got-lt zero l h = lit< tt
-got-lt (suc b) l h = number-lt 8 l h
 
 pub bytes-past : (b : ℕ) (l : List ℕ) → Bytes l → Bytes (past b l)
 unfolding past

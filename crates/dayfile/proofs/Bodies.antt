@@ -7,11 +7,10 @@ use lib.Count.{ones}
 use lib.ListN.{length, drop, length-drop}
 use lib.Seq.{drop-drop}
 use Rattle.dayfile.specs.declared.Record.{Record}
-use Rattle.dayfile.specs.Bytes.{Bytes}
+use Rattle.dayfile.specs.Files.{Bytes, WordsFit}
 use Rattle.dayfile.specs.Records.{bit}
 use Rattle.dayfile.specs.Written.{bodyOf, writtenOf}
 use Rattle.dayfile.specs.Reading.{past, recordOf}
-use Rattle.dayfile.specs.Words.{WordsFit}
 use Rattle.dayfile.proofs.Numbers.{number-bytesOf, drop-bytesOf, bytesOf-number, bytes-drop}
 use Rattle.dayfile.proofs.Marks.{ones-bits, ones-zero}
 use Rattle.dayfile.proofs.Amounts.{got-field, past-field, field-got, past-length, past-bit, bytes-past}

@@ -1,16 +1,26 @@
 -- What a record with no fault is known to be.
 use mathlib.Core.Bool.{Bool, true, false, not, _&&_, _||_}
 use mathlib.Core.Logic.{_⊎_, inl, inr}
+use mathlib.Core.List.{List, _++_}
 use mathlib.Core.Path.{_≡_, refl}
 use Prim.Native.Nat.{ℕ, _≤_, _<_}
 use native.Mathlib.Omega.{arith}
-use lib.Dec.{leb, eqb}
+use lib.Dec.{leb, eqb, lit<}
 use borrow.Author.Tests.{leb-true, eqb-true, eqb-false, not-false}
 use Rattle.sums.proofs.Choices.{and-split}
-use Rattle.sums.proofs.Tables.{first-fails}
+use Rattle.sums.specs.Table.{Line, first}
+use Rattle.sums.proofs.Tables.{Numbered, first-none, first-fails}
 use Rattle.rows.specs.Rows.{ceiling}
 use Rattle.dayfile.specs.declared.Record.{Record}
-use Rattle.dayfile.specs.Records.{bit, knownCode, suits, goodAmount, goodAmounts, faultOf}
+use Rattle.dayfile.specs.Records.{bit, knownCode, suits, goodAmount, goodAmounts, faults, faultOf}
+
+pub three-numbered : (r : Record) → Numbered (faults r)
+three-numbered r = (lit< tt, (lit< tt, (lit< tt, tt)))
+
+-- past the faults a table goes on
+pub past-faults : (r : Record) (rest : List Line) → faultOf r ≡ 0 → first (faults r ++ rest) ≡ first rest
+unfolding faultOf
+past-faults r rest e = first-none (faults r) rest (three-numbered r) e
 
 -- each part of the judgement holds
 pub record Good (r : Record) : Type 0 where
@@ -52,7 +62,7 @@ or-false true e = refl
 or-false false e = e
 
 module _ (b least x : ℕ) (h : goodAmount b least x ≡ true) where
-  pub amount-cases : ((b ≡ 0) × (x ≡ 0)) ⊎ ((b ≡ 0 → ⊥) × (least ≤ x) × (x ≤ ceiling))
+  amount-cases : ((b ≡ 0) × (x ≡ 0)) ⊎ ((b ≡ 0 → ⊥) × (least ≤ x) × (x ≤ ceiling))
   amount-cases = by (eqb b 0) refl h
     where
       by : (t : Bool) → eqb b 0 ≡ t → (t && eqb x 0 || not t && leb least x && leb x ceiling) ≡ true

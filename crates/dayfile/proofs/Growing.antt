@@ -5,7 +5,6 @@ use mathlib.Core.Path.{_≡_, refl, sym, ap, _∙_}
 use Prim.Native.Nat.{ℕ, zero, suc, _+_, _*_, _^_, _≤_, _<_}
 use native.Mathlib.Nat.{add-assoc}
 use native.Mathlib.Omega.{arith}
-use lib.Count.{ones}
 use lib.Dec.{leb}
 use lib.ListN.{length, drop, length-append, length-drop}
 use lib.Seq.{drop-append-le, drop-drop}
@@ -15,7 +14,8 @@ use Rattle.sums.proofs.Choices.{pick-yes}
 use Rattle.dayfile.specs.declared.Record.{Record}
 use Rattle.dayfile.specs.declared.Found.{Found}
 use Rattle.dayfile.specs.declared.Found.the-variants.{End, Cut, Whole}
-use Rattle.dayfile.specs.Bytes.{number, Bytes}
+use Rattle.dayfile.specs.Bytes.{number}
+use Rattle.dayfile.specs.Files.{Bytes}
 use Rattle.dayfile.specs.Records.{bit}
 use Rattle.dayfile.specs.Reading.{sizeOf, got, past, recordOf, foundFrom, foundAt}
 use Rattle.dayfile.proofs.Apart.{apart}
@@ -43,7 +43,7 @@ unfolding past
 past-longer zero k l x h = refl
 past-longer (suc b) k l x h = drop-append-le 8 l x (omega arith)
 
-record-longer : (c n : ℕ) (l x : List ℕ) → 4 + 8 * ones n ≤ length l → recordOf c n (l ++ x) ≡ recordOf c n l
+record-longer : (c n : ℕ) (l x : List ℕ) → sizeOf n ≤ 2 + length l → recordOf c n (l ++ x) ≡ recordOf c n l
 unfolding recordOf
 record-longer c n l x h =
     let la = drop 2 l in
@@ -83,9 +83,9 @@ record-longer c n l x h =
 from-longer : (l x : List ℕ) (at : ℕ) (r : Record) (next : ℕ) → Stands l at r next → foundFrom (l ++ x) at ≡ Whole r next
 unfolding foundFrom
 from-longer l x at r next w =
-    let fits = le-leb (4 + 8 * ones (w .named)) (length (w .rest ++ x)) (omega (arith, w .whole, length-append (w .rest) x)) in
+    let fits = le-leb (sizeOf (w .named)) (2 + length (w .rest ++ x)) (omega (arith, w .whole, length-append (w .rest) x)) in
     rw (w .bytes)
-    (pick-yes (leb (4 + 8 * ones (w .named)) (length (w .rest ++ x))) _ _ fits
+    (pick-yes (leb (sizeOf (w .named)) (2 + length (w .rest ++ x))) _ _ fits
     ∙ ap (λ k. Whole k (at + sizeOf (w .named))) (record-longer (w .code) (w .named) (w .rest) x (w .whole) ∙ sym (w .is))
     ∙ ap (Whole r) (sym (w .after)))
 
@@ -108,7 +108,7 @@ from-further : (l : List ℕ) (p at : ℕ) → foundFrom l (p + at) ≡ further 
 unfolding foundFrom pick
 from-further [] p at = refl
 from-further (c ∷ []) p at = refl
-from-further (c ∷ n ∷ l) p at = by (leb (4 + 8 * ones n) (length l))
+from-further (c ∷ n ∷ l) p at = by (leb (sizeOf n) (2 + length l))
   where
     by : (t : Bool) → pick t (Whole (recordOf c n l) (p + at + sizeOf n)) Cut ≡ further p (pick t (Whole (recordOf c n l) (at + sizeOf n)) Cut)
     by true = ap (Whole (recordOf c n l)) (add-assoc p at (sizeOf n))
@@ -124,11 +124,11 @@ cut-from : (l : List ℕ) (at : ℕ) → Bytes l → foundFrom l at ≡ Cut → 
 unfolding foundFrom pick
 cut-from [] at y e = omega arith
 cut-from (c ∷ []) at y e = omega arith
-cut-from (c ∷ n ∷ l) at y e = by (leb (4 + 8 * ones n) (length l)) refl e
+cut-from (c ∷ n ∷ l) at y e = by (leb (sizeOf n) (2 + length l)) refl e
   where
-    by : (t : Bool) → leb (4 + 8 * ones n) (length l) ≡ t → pick t (Whole (recordOf c n l) (at + sizeOf n)) Cut ≡ Cut → length (c ∷ n ∷ l) < 70
+    by : (t : Bool) → leb (sizeOf n) (2 + length l) ≡ t → pick t (Whole (recordOf c n l) (at + sizeOf n)) Cut ≡ Cut → length (c ∷ n ∷ l) < 70
     by true q e = apart (cc)
-    by false q e = omega (arith, leb-false (4 + 8 * ones n) (length l) q, size-most n (y 1))
+    by false q e = omega (arith, leb-false (sizeOf n) (2 + length l) q, size-most n (y 1))
 
 -- "The longest record is 70 bytes.": where there are 70, they are not too few
 pub cut-near : (s : List ℕ) (at : ℕ) → Bytes s → foundAt s at ≡ Cut → length s < at + 70

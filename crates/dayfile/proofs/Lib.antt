@@ -1,14 +1,14 @@
 mod Apart
-mod Numbers
+pub mod Numbers
 mod Marks
 mod Amounts
 mod Looking
 mod Rooms
-mod Answers
 mod Bodies
 pub mod Good
 pub mod Lengths
 pub mod Places
 pub mod Growing
+pub mod Answers
 pub mod RoundTrip
 pub mod ReaderCall

@@ -1,13 +1,12 @@
 -- What `foundAt` and `readAt` give, by what a reader tests.
 use mathlib.Core.Path.{_≡_, refl}
 use mathlib.Core.List.{List}
-use Prim.Native.Nat.{ℕ, zero, suc, _+_, _-_, _*_, _≤_, _<_}
+use Prim.Native.Nat.{ℕ, suc, _+_, _-_, _*_, _≤_, _<_}
 use native.Mathlib.Omega.{arith}
 use lib.ListN.{length, drop, getD, length-drop, drop-of-length-le}
-use lib.Count.{ones}
 use lib.Seq.{drop-cons, drop-drop}
 use borrow.Author.Tests.{le-leb, lt-leb}
-use Rattle.sums.proofs.Choices.{pass, stop}
+use Rattle.sums.proofs.Choices.{pass, stop, refused-by}
 use Rattle.dayfile.specs.declared.Record.{Record}
 use Rattle.dayfile.specs.declared.Found.the-variants.{End as NoBytes, Cut as TooFew, Whole}
 use Rattle.dayfile.specs.declared.Read.the-variants.{End, Cut, Good, Bad}
@@ -32,14 +31,14 @@ module _ (s : List ℕ) (at : ℕ) (h : at + 2 ≤ length s) where
   unfolding foundAt foundFrom
   found-short n e k =
       rw (two-at s at h)
-      (stop _ (lt-leb (4 + 8 * ones (getD s (at + 1) 0)) (length (drop (at + 2) s)) (rw length-drop (omega arith))) refl)
+      (stop _ (lt-leb (sizeOf (getD s (at + 1) 0)) (2 + length (drop (at + 2) s)) (rw length-drop (omega arith))) refl)
 
   pub found-whole : (n : ℕ) → n ≡ sizeOf (getD s (at + 1) 0) → n ≤ length s - at
       → (r : Record) → r ≡ recordOf (getD s at 0) (getD s (at + 1) 0) (drop (at + 2) s) → Whole r (at + n) ≡ foundAt s at
   unfolding foundAt foundFrom
   found-whole n e k r er =
       rw (two-at s at h, er, e)
-      (pass _ (le-leb (4 + 8 * ones (getD s (at + 1) 0)) (length (drop (at + 2) s)) (rw length-drop (omega arith))) refl)
+      (pass _ (le-leb (sizeOf (getD s (at + 1) 0)) (2 + length (drop (at + 2) s)) (rw length-drop (omega arith))) refl)
 
 module _ (s : List ℕ) (at : ℕ) where
   pub read-end : foundAt s at ≡ NoBytes → End ≡ readAt s at
@@ -57,11 +56,7 @@ module _ (s : List ℕ) (at : ℕ) where
 
     pub read-bad : (f ≡ 0 → ⊥) → Bad f (r .serial) (r .code) (r .account) next ≡ readAt s at
     unfolding readAt readOf judged
-    read-bad h = rw (e, ← w) (bad f h)
-      where
-        bad : (k : ℕ) → (k ≡ 0 → ⊥) → Bad k (r .serial) (r .code) (r .account) next ≡ judged k r next
-        bad zero h = absurd (h refl)
-        bad (suc k) h = refl
+    read-bad h = rw (e, ← w) (refused-by f _ (λ n. Bad n (r .serial) (r .code) (r .account) next) h)
 
 -- the record whose bytes after the mark stand at a place, with the place of each of its parts
 pub record-at : (code named : ℕ) (s : List ℕ) (at : ℕ) → _≡_ {A = Record} (record {

@@ -10,7 +10,8 @@ use lib.Dec.{lit<}
 use lib.ListN.{length, drop, getD}
 use lib.Pow.{pow-add}
 use lib.Seq.{drop-at, drop-cons, drop-drop, getD-drop}
-use Rattle.dayfile.specs.Bytes.{number, bytesOf, Bytes}
+use Rattle.dayfile.specs.Bytes.{number, bytesOf}
+use Rattle.dayfile.specs.Files.{Bytes}
 
 pow-pos : (k : ℕ) → 0 < 256 ^ k
 pow-pos k = one-le-pow k 256 (lit< tt)
@@ -35,13 +36,13 @@ number-mod (suc k) x t =
 pub number-bytesOf : (k x : ℕ) (t : List ℕ) → x < 256 ^ k → number k (bytesOf k x ++ t) ≡ x
 number-bytesOf k x t h = number-mod k x t ∙ mod-eq-of-lt h
 
-pub bytes-tail : (b : ℕ) (l : List ℕ) → Bytes (b ∷ l) → Bytes l
+bytes-tail : (b : ℕ) (l : List ℕ) → Bytes (b ∷ l) → Bytes l
 bytes-tail b l h i = h (suc i)
 
 pub bytes-drop : (k : ℕ) (l : List ℕ) → Bytes l → Bytes (drop k l)
 bytes-drop k l h i = rw getD-drop (h (k + i))
 
-pub number-lt : (k : ℕ) (l : List ℕ) → Bytes l → number k l < 256 ^ k
+number-lt : (k : ℕ) (l : List ℕ) → Bytes l → number k l < 256 ^ k
 unfolding number
 number-lt zero l h = lit< tt
 number-lt (suc k) [] h = pow-pos (suc k)

@@ -1,24 +1,19 @@
--- Where a whole record ends, when there is none, and what its words can hold: what a loop over records needs.
-use mathlib.Core.Path.{_≡_, refl, sym, ap}
+-- Where a whole record ends, and when there is none: what a loop over records needs.
+use mathlib.Core.Path.{_≡_, refl, sym, ap, _∙_}
 use mathlib.Core.Bool.{Bool, true, false}
 use mathlib.Core.List.{List, [], _∷_}
-use Prim.Native.Nat.{ℕ, suc, _+_, _*_, _^_, _≤_, _<_}
+use Prim.Native.Nat.{ℕ, suc, _+_, _≤_, _<_}
+use native.Mathlib.Decide.{decLe}
 use native.Mathlib.Omega.{arith}
-use lib.Count.{ones}
 use lib.Dec.{leb}
-use lib.ListN.{length, drop, length-drop}
+use lib.ListN.{length, drop, getD, length-drop}
 use borrow.Author.Tests.{leb-true}
 use Rattle.sums.specs.Choice.{pick}
 use Rattle.dayfile.specs.declared.Record.{Record}
 use Rattle.dayfile.specs.declared.Found.the-variants.{End, Cut, Whole}
-use Rattle.dayfile.specs.Bytes.{Bytes}
-use Rattle.dayfile.specs.Records.{bit}
 use Rattle.dayfile.specs.Reading.{sizeOf, recordOf, foundFrom, foundAt}
-use Rattle.dayfile.specs.Words.{WordsFit, AmountsFit}
 use Rattle.dayfile.proofs.Apart.{apart}
-use Rattle.dayfile.proofs.Numbers.{number-lt, bytes-drop}
-use Rattle.dayfile.proofs.Amounts.{got-lt, bytes-past}
-use Rattle.dayfile.proofs.Looking.{found-end}
+use Rattle.dayfile.proofs.Looking.{found-end, found-one, found-short, found-whole}
 
 -- ---- a whole record, taken apart
 
@@ -28,7 +23,7 @@ pub record Stands (l : List ℕ) (at : ℕ) (r : Record) (next : ℕ) : Type 0 w
   pub named : ℕ
   pub rest : List ℕ
   pub bytes : l ≡ code ∷ named ∷ rest
-  pub whole : 4 + 8 * ones named ≤ length rest
+  pub whole : sizeOf named ≤ 2 + length rest
   pub is : r ≡ recordOf code named rest
   pub after : next ≡ at + sizeOf named
 
@@ -42,7 +37,7 @@ unfolding foundFrom
 stands-from [] at r next e = apart (cc)
 stands-from (c ∷ []) at r next e = apart (cc)
 stands-from (c ∷ n ∷ l) at r next e =
-    let p = picked (leb (4 + 8 * ones n) (length l)) (recordOf c n l) r (at + sizeOf n) next e in
+    let p = picked (leb (sizeOf n) (2 + length l)) (recordOf c n l) r (at + sizeOf n) next e in
     record { code = c; named = n; rest = l; bytes = refl; whole = leb-true _ _ (p .0); is = p .1; after = p .2 }
 
 pub named-from : (l : List ℕ) (at : ℕ) {r : Record} {next : ℕ} (w : Stands l at r next) → r .named ≡ w .named
@@ -88,41 +83,23 @@ end-at s at e = omega (arith, end-from (drop at s) at e, length-drop at s)
 pub at-end : (s : List ℕ) (at : ℕ) → length s ≤ at → foundAt s at ≡ End
 at-end s at h = sym (found-end s at h)
 
--- ---- ranges
+-- ---- too few bytes
 
-words-of : (c n : ℕ) (l : List ℕ) → c < 2 ^ 8 → n < 2 ^ 8 → Bytes l → WordsFit (recordOf c n l)
-unfolding recordOf
-words-of c n l hc hn y = record { serial = number-lt 2 l y; code = hc; named = hn; account = number-lt 2 (drop 2 l) (bytes-drop 2 l y) }
+-- "bytes are left, but too few for the record's first six bytes or for its amounts": exactly where that is found. Where one byte is
+-- left there is no second mark byte: 0 stands for it, and six bytes are asked for.
+pub cut-at : (s : List ℕ) (at : ℕ) → foundAt s at ≡ Cut → (at < length s) × (length s < at + sizeOf (getD s (at + 1) 0))
+cut-at s at e = by (decLe (length s) at) (decLe (at + sizeOf (getD s (at + 1) 0)) (length s))
+  where
+    by : Dec (length s ≤ at) → Dec (at + sizeOf (getD s (at + 1) 0) ≤ length s) → (at < length s) × (length s < at + sizeOf (getD s (at + 1) 0))
+    by (yes h) q = let z : End ≡ Cut = found-end s at h ∙ e in apart (cc)
+    by (no h) (yes q) =
+        let z : Whole _ (at + sizeOf (getD s (at + 1) 0)) ≡ Cut = found-whole s at (omega arith) _ refl (omega arith) _ refl ∙ e in
+        apart (cc)
+    by (no h) (no q) = (omega arith, omega arith)
 
-amounts-of : (c n : ℕ) (l : List ℕ) → Bytes l → AmountsFit (recordOf c n l)
-unfolding recordOf
-amounts-of c n l y =
-    let y0 = bytes-drop 2 (drop 2 l) (bytes-drop 2 l y) in
-    let y1 = bytes-past (bit 0 n) _ y0 in
-    let y2 = bytes-past (bit 1 n) _ y1 in
-    let y3 = bytes-past (bit 2 n) _ y2 in
-    let y4 = bytes-past (bit 3 n) _ y3 in
-    let y5 = bytes-past (bit 4 n) _ y4 in
-    record {
-      cash = got-lt (bit 0 n) _ y0;
-      deposits = got-lt (bit 1 n) _ y1;
-      guarantees = got-lt (bit 2 n) _ y2;
-      securities = got-lt (bit 3 n) _ y3;
-      pledged = got-lt (bit 4 n) _ y4;
-      margin = got-lt (bit 5 n) _ y5;
-    }
-
--- what was read out of bytes fits the record's words
-module _ (s : List ℕ) (at : ℕ) {r : Record} {next : ℕ} (y : Bytes s) (found : foundAt s at ≡ Whole r next) where
-  stands-bytes : Bytes (stands s at found .code ∷ stands s at found .named ∷ stands s at found .rest)
-  stands-bytes = rw (stands s at found .bytes) at (bytes-drop at s y)
-
-  pub words-fit : WordsFit r
-  words-fit =
-      let w = stands s at found in
-      rw (w .is) (words-of (w .code) (w .named) (w .rest) (stands-bytes 0) (stands-bytes 1) (λ i. stands-bytes (suc (suc i))))
-
-  pub amounts-fit : AmountsFit r
-  amounts-fit =
-      let w = stands s at found in
-      rw (w .is) (amounts-of (w .code) (w .named) (w .rest) (λ i. stands-bytes (suc (suc i))))
+pub at-cut : (s : List ℕ) (at : ℕ) → at < length s → length s < at + sizeOf (getD s (at + 1) 0) → foundAt s at ≡ Cut
+at-cut s at h k = by (decLe (at + 2) (length s))
+  where
+    by : Dec (at + 2 ≤ length s) → foundAt s at ≡ Cut
+    by (yes q) = sym (found-short s at q _ refl (omega arith))
+    by (no q) = sym (found-one s at h (omega arith))

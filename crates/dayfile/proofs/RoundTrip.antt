@@ -1,45 +1,44 @@
 -- The round trip: what was written reads back, and what reads as a good record is what would be written.
-use mathlib.Core.Bool.{Bool, true, false}
 use mathlib.Core.List.{List, [], _∷_, _++_, append-assoc}
 use mathlib.Core.Path.{_≡_, refl, sym, ap, _∙_}
 use Prim.Native.Nat.{ℕ, zero, suc, _+_, _-_, _*_, _≤_, _<_}
 use native.Mathlib.Omega.{arith}
 use lib.Count.{ones}
-use lib.Dec.{leb, eqb}
+use lib.Dec.{leb}
 use lib.ListN.{length, drop, take, length-append, drop-of-length-le, take-append-drop}
 use lib.Seq.{drop-append-seam, take-append-seam, drop-drop}
-use borrow.Author.Tests.{le-leb, eqb-true}
-use Rattle.sums.specs.Choice.{pick}
+use borrow.Author.Tests.{le-leb}
+use Rattle.sums.specs.Choice.{unlessRefused}
 use Rattle.sums.proofs.Choices.{pick-yes}
 use Rattle.dayfile.specs.declared.Record.{Record}
 use Rattle.dayfile.specs.declared.Found.{Found}
 use Rattle.dayfile.specs.declared.Found.the-variants.{End as NoBytes, Cut as TooFew, Whole}
-use Rattle.dayfile.specs.declared.Read.the-variants.{End, Good}
-use Rattle.dayfile.specs.declared.Wrote.the-variants.{Written, Refused}
-use Rattle.dayfile.specs.Bytes.{Bytes}
+use Rattle.dayfile.specs.declared.Read.the-variants.{End, Good, Bad}
+use Rattle.dayfile.specs.declared.Wrote.the-variants.{Written}
+use Rattle.dayfile.specs.Files.{Bytes, WordsFit, AllGood, none, also, Reads, done, more, fileOf}
 use Rattle.dayfile.specs.Records.{faultOf}
-use Rattle.dayfile.specs.Written.{bodyOf, writtenOf, fileOf, hasRoom, wroteOf, roomAfter, Writes}
-use Rattle.dayfile.specs.Reading.{foundFrom, foundAt, judged, readOf, readAt, Reads, done, more}
-use Rattle.dayfile.specs.Words.{WordsFit, AllGood, none, also}
+use Rattle.dayfile.specs.Written.{bodyOf, writtenOf, wroteOf, roomAfter}
+use Rattle.dayfile.specs.Reading.{sizeOf, foundFrom, foundAt, judged, readOf, readAt}
 use Rattle.dayfile.proofs.Apart.{apart}
 use Rattle.dayfile.proofs.Numbers.{bytes-drop}
 use Rattle.dayfile.proofs.Good.{good, suits-lt}
 use Rattle.dayfile.proofs.Lengths.{length-body, length-written}
+use Rattle.dayfile.proofs.Answers.{refused-not, wrote-all}
 use Rattle.dayfile.proofs.Bodies.{record-body, written-record}
 use Rattle.dayfile.proofs.Places.{Stands, stands, named-from, next-is, next-within, at-end, end-at}
 
 -- ---- reading what was written
 
 module _ (r : Record) (f : faultOf r ≡ 0) (w : WordsFit r) where
-  pub found-written : (before after : List ℕ)
+  found-written : (before after : List ℕ)
       → foundAt (before ++ (writtenOf r ++ after)) (length before) ≡ Whole r (length before + length (writtenOf r))
   unfolding foundAt writtenOf foundFrom
   found-written before after =
       let s = good r f in
       let n = length-body r (suits-lt (r .code) (r .named) (s .suit)) in
-      let fits = le-leb (4 + 8 * ones (r .named)) (length (bodyOf r ++ after)) (simp (length-append, n) (omega arith)) in
+      let fits = le-leb (sizeOf (r .named)) (2 + length (bodyOf r ++ after)) (simp (length-append, n) (omega arith)) in
       rw (drop-append-seam, record-body r s w after)
-      (pick-yes (leb (4 + 8 * ones (r .named)) (length (bodyOf r ++ after))) _ _ fits ∙ ap (Whole r) (omega (arith, n)))
+      (pick-yes (leb (sizeOf (r .named)) (2 + length (bodyOf r ++ after))) _ _ fits ∙ ap (Whole r) (omega (arith, n)))
 
   -- what was written reads back, at any place and whatever follows
   pub read-written : (before after : List ℕ)
@@ -76,9 +75,6 @@ reads-once {s} (more {next} {r} {rs} e p) (more {next = next'} {r = r'} {rs = rs
     let q : Reads s next rs' = rw en at p' in
     rw (er, reads-once p q)
 
-pub file-once : (rs rs' : List Record) → AllGood rs → AllGood rs' → fileOf rs ≡ fileOf rs' → rs ≡ rs'
-file-once rs rs' g g' e = reads-once (rw e at (file-reads rs g)) (file-reads rs' g')
-
 -- two good records with one written form are the same record
 pub written-once : (r r' : Record) → faultOf r ≡ 0 → WordsFit r → faultOf r' ≡ 0 → WordsFit r' → writtenOf r ≡ writtenOf r' → r ≡ r'
 written-once r r' f w f' w' e =
@@ -88,17 +84,20 @@ written-once r r' f w f' w' e =
 
 -- ---- what reads as a good record was written so
 
-judged-good : (f : ℕ) (x : Record) (k : ℕ) (r : Record) (n : ℕ) → judged f x k ≡ Good r n → (f ≡ 0) × (x ≡ r) × (k ≡ n)
+judged-good : (x : Record) (k : ℕ) (r : Record) (n : ℕ) → judged x k ≡ Good r n → (faultOf x ≡ 0) × (x ≡ r) × (k ≡ n)
 unfolding judged
-judged-good zero x k r n e = (refl, cc, cc)
-judged-good (suc f) x k r n e = apart (cc)
+judged-good x k r n e = by (faultOf x) e
+  where
+    by : (f : ℕ) → unlessRefused f (Good x k) (λ m. Bad m (x .serial) (x .code) (x .account) k) ≡ Good r n → (f ≡ 0) × (x ≡ r) × (k ≡ n)
+    by zero h = (refl, cc, cc)
+    by (suc f) h = apart (cc)
 
 good-found : (x : Found) (r : Record) (n : ℕ) → readOf x ≡ Good r n → (x ≡ Whole r n) × (faultOf r ≡ 0)
 unfolding readOf
 good-found NoBytes r n e = apart (cc)
 good-found TooFew r n e = apart (cc)
 good-found (Whole x k) r n e =
-    let j = judged-good (faultOf x) x k r n e in
+    let j = judged-good x k r n e in
     (rw (j .1, j .2), rw (j .1) at (j .0))
 
 -- a good record that was read stood there whole and has no fault
@@ -112,12 +111,12 @@ stands-written l at {r} y f w =
     let h : Bytes (w .code ∷ w .named ∷ w .rest) = rw (w .bytes) at y in
     let k : w .named < 64 = rw (named-from l at w) at (suits-lt (r .code) (r .named) (good r f .suit)) in
     w .bytes
-    ∙ sym (written-record (w .code) (w .named) (w .rest) (λ i. h (suc (suc i))) k (w .whole))
+    ∙ sym (written-record (w .code) (w .named) (w .rest) (λ i. h (suc (suc i))) k (omega (arith, w .whole)))
     ∙ ap (λ (x : Record). writtenOf x ++ drop (4 + 8 * ones (w .named)) (w .rest)) (sym (w .is))
 
 module _ (s : List ℕ) (at : ℕ) {r : Record} {next : ℕ} (read : readAt s at ≡ Good r next) where
   -- the place after a good record: the record's length past its own
-  pub read-next : next ≡ at + length (writtenOf r)
+  read-next : next ≡ at + length (writtenOf r)
   read-next = rw (length-written r (read-found s at read .1)) (next-is s at (read-found s at read .0))
 
   -- whatever bytes read as a good record were just that record's written form
@@ -135,12 +134,12 @@ end-found NoBytes e = refl
 end-found TooFew e = apart (cc)
 end-found (Whole r next) e = by (faultOf r) e
   where
-    by : (f : ℕ) → judged f r next ≡ End → Whole r next ≡ NoBytes
+    by : (f : ℕ) → unlessRefused f (Good r next) (λ m. Bad m (r .serial) (r .code) (r .account) next) ≡ End → Whole r next ≡ NoBytes
     by zero h = apart (cc)
     by (suc f) h = apart (cc)
 
 -- the end is read exactly where the piece has no byte at the place
-pub read-end-at : (s : List ℕ) (at : ℕ) → readAt s at ≡ End → length s ≤ at
+read-end-at : (s : List ℕ) (at : ℕ) → readAt s at ≡ End → length s ≤ at
 unfolding readAt
 read-end-at s at e = end-at s at (end-found (foundAt s at) e)
 
@@ -159,16 +158,9 @@ read-file y p = file-at y (omega arith) p
 
 -- ---- the writer's room
 
-wrote : (a b : Bool) (k f n : ℕ) → Written n ≡ pick a (pick b (Written k) (Refused 15)) (Refused f) → (a ≡ true) × (b ≡ true) × (n ≡ k)
-unfolding pick
-wrote true true k f n e = (refl, refl, cc)
-wrote true false k f n e = apart (cc)
-wrote false b k f n e = apart (cc)
-
 -- what a call of the writer wrote reads back from the room's start
-pub room-reads : (r : Record) (room after : List ℕ) (n : ℕ) → WordsFit r → Writes r room (Written n) after → readAt after 0 ≡ Good r n
-unfolding wroteOf roomAfter pick
-room-reads r room after n w d =
-    let e = wrote (eqb (faultOf r) 0) (hasRoom r room) (length (writtenOf r)) (faultOf r) n (d .answers) in
-    let k : after ≡ writtenOf r ++ drop (length (writtenOf r)) room = d .leaves ∙ rw (e .0, e .1) in
-    rw (k, e .2) (read-written r (eqb-true (faultOf r) 0 (e .0)) w [] (drop (length (writtenOf r)) room) ∙ ap (Good r) (omega arith))
+pub room-reads : (r : Record) (room : List ℕ) (n : ℕ) → WordsFit r → wroteOf r room ≡ Written n → readAt (roomAfter r room) 0 ≡ Good r n
+unfolding roomAfter
+room-reads r room n w d =
+    let e = wrote-all r room n (sym d) in
+    rw (e .0, e .1) (read-written r (refused-not r room (e .0)) w [] (drop (length (writtenOf r)) room) ∙ ap (Good r) (omega arith))

@@ -1,7 +1,6 @@
 -- "all numbers are high byte first"
-use Prim.Native.Nat.{ℕ, zero, suc, _+_, _*_, _/_, _%_, _^_, _<_}
+use Prim.Native.Nat.{ℕ, zero, suc, _+_, _*_, _/_, _%_, _^_}
 use mathlib.Core.List.{List, [], _∷_}
-use lib.ListN.{getD}
 
 -- the number that l's first k bytes say
 unfoldable pub number : ℕ → List ℕ → ℕ
@@ -13,7 +12,3 @@ number (suc k) (b ∷ l) = b * 256 ^ k + number k l
 unfoldable pub bytesOf : ℕ → ℕ → List ℕ
 bytesOf zero x = []
 bytesOf (suc k) x = x / 256 ^ k % 256 ∷ bytesOf k x
-
--- every element is a byte
-abbrev pub Bytes : List ℕ → Type 0
-Bytes l = (i : ℕ) → getD l i 0 < 256

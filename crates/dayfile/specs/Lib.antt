@@ -2,7 +2,7 @@ pub mod Bytes
 pub mod Records
 pub mod Written
 pub mod Reading
-pub mod Words
-pub mod Putting
 pub mod Reader
+pub mod Files
+pub mod Putting
 pub mod Taking

@@ -1,11 +1,10 @@
 -- Document 01, 'The day file': what stands at a place of a piece, and what the reader gives.
 use mathlib.Core.List.{List, [], _∷_}
-use mathlib.Core.Path.{_≡_}
 use Prim.Native.Nat.{ℕ, zero, suc, _+_, _*_}
 use lib.Count.{ones}
 use lib.Dec.{leb}
 use lib.ListN.{length, drop}
-use Rattle.sums.specs.Choice.{pick}
+use Rattle.sums.specs.Choice.{pick, unlessRefused}
 use Rattle.dayfile.specs.declared.Record.{Record}
 use Rattle.dayfile.specs.declared.Found.{Found}
 use Rattle.dayfile.specs.declared.Found.the-variants.{End as NoBytes, Cut as TooFew, Whole}
@@ -52,27 +51,32 @@ unfoldable pub foundFrom : List ℕ → ℕ → Found
 foundFrom [] at = NoBytes
 foundFrom (c ∷ []) at = TooFew
 foundFrom (c ∷ n ∷ l) at =
-    pick (leb (4 + 8 * ones n) (length l)) (Whole (recordOf c n l) (at + sizeOf n)) TooFew
+    pick (leb (sizeOf n) (2 + length l)) (Whole (recordOf c n l) (at + sizeOf n)) TooFew
 
 -- "A place past the piece's end counts as the end."
 unfoldable pub foundAt : List ℕ → ℕ → Found
 foundAt s at = foundFrom (drop at s) at
 
--- a whole record with its fault: "gives it, or the first of 4, 5, 6 that applies together with its serial, code and account"
-unfoldable pub judged : ℕ → Record → ℕ → Read
-judged zero r next = Good r next
-judged (suc n) r next = Bad (suc n) (r .serial) (r .code) (r .account) next
+-- a whole record: "gives it, or the first of 4, 5, 6 that applies together with its serial, code and account"
+unfoldable pub judged : Record → ℕ → Read
+judged r next = unlessRefused (faultOf r) (Good r next) (λ n. Bad n (r .serial) (r .code) (r .account) next)
 
+-- what the reader gives of what stands there
 unfoldable pub readOf : Found → Read
 readOf NoBytes = End
 readOf TooFew = Cut
-readOf (Whole r next) = judged (faultOf r) r next
+readOf (Whole r next) = judged r next
 
 -- what the reader gives at a place
 unfoldable pub readAt : List ℕ → ℕ → Read
 readAt s at = readOf (foundAt s at)
 
--- document 01's number of what was read; the end is no refusal
+-- document 01's number of what stands at a place, and of what was read; the end is no refusal
+abbrev pub numberFound : Found → ℕ
+numberFound NoBytes = 0
+numberFound TooFew = 2
+numberFound (Whole r next) = 0
+
 abbrev pub numberOf : Read → ℕ
 numberOf End = 0
 numberOf Cut = 2
@@ -86,8 +90,3 @@ placeAfter End at = at
 placeAfter Cut at = at
 placeAfter (Good r next) at = next
 placeAfter (Bad reason serial code account next) at = next
-
--- from the place at, the piece s reads as just these good records, up to its end
-pub data Reads (s : List ℕ) : ℕ → List Record → Type 0 where
-  done : {at : ℕ} → readAt s at ≡ End → Reads s at []
-  more : {at next : ℕ} {r : Record} {rs : List Record} → readAt s at ≡ Good r next → Reads s next rs → Reads s at (r ∷ rs)

@@ -21,14 +21,15 @@ abbrev pub suits : ℕ → ℕ → Bool
 suits code named =
     leb 1 code && leb code 3 && eqb named 0  -- 1 open TM, 2 open client, 3 open CP: 0
     || leb 4 code && leb code 7 && leb 1 named && leb named 15  -- 4 to 7: one or more of bits 0 to 3, no other
-    || leb 8 code && leb code 9 && eqb named 16  -- 8 pledge, 9 unpledge: bit 2 only
+    || leb 8 code && leb code 9 && eqb named 16  -- 8 pledge, 9 unpledge: bit 4 only
     || eqb code 10 && eqb named 32  -- 10 set margin: bit 5 only
     || eqb code 11 && eqb named 0  -- 11 retire: 0
 
 -- "Every amount is 1 to the ceiling, except that a margin may be 0"; "an unnamed amount that isn't 0 gives 6"
 abbrev pub goodAmount : ℕ → ℕ → ℕ → Bool
-goodAmount bit least x = eqb bit 0 && eqb x 0 || not (eqb bit 0) && leb least x && leb x ceiling
+goodAmount mark least x = eqb mark 0 && eqb x 0 || not (eqb mark 0) && leb least x && leb x ceiling
 
+-- each of the six amounts; "6: an amount is out of range" where one is not
 abbrev pub goodAmounts : Record → Bool
 goodAmounts r =
     goodAmount (bit 0 (r .named)) 1 (r .kinds .cash)

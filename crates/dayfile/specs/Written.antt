@@ -1,16 +1,17 @@
 -- Document 01, 'The day file': a record's bytes, and what the writer does.
-use mathlib.Core.Bool.{Bool}
+use mathlib.Core.Bool.{Bool, not}
 use mathlib.Core.List.{List, [], _∷_, _++_}
-use mathlib.Core.Path.{_≡_}
 use Prim.Native.Nat.{ℕ, zero, suc}
-use lib.Dec.{leb, eqb}
-use lib.ListN.{length, drop}
-use Rattle.sums.specs.Choice.{pick}
+use lib.Dec.{leb}
+use lib.ListN.{length}
+use Rattle.sums.specs.Choice.{unlessRefused}
+use Rattle.sums.specs.Table.{Line, _when_, first}
+use Rattle.sums.specs.Room.{over}
 use Rattle.dayfile.specs.declared.Record.{Record}
 use Rattle.dayfile.specs.declared.Wrote.{Wrote}
 use Rattle.dayfile.specs.declared.Wrote.the-variants.{Written, Refused}
 use Rattle.dayfile.specs.Bytes.{bytesOf}
-use Rattle.dayfile.specs.Records.{bit, faultOf}
+use Rattle.dayfile.specs.Records.{bit, faults}
 
 -- Of a good record, whose second mark byte has none of the bits 6 and 7. "eight bytes for each one in the second mark byte":
 -- an amount's bytes where its bit is 1, none where it is 0
@@ -34,35 +35,27 @@ bodyOf r =
 unfoldable pub writtenOf : Record → List ℕ
 writtenOf r = r .code ∷ r .named ∷ bodyOf r
 
--- "Records follow one another"
-unfoldable pub fileOf : List Record → List ℕ
-fileOf [] = []
-fileOf (r ∷ rs) = writtenOf r ++ fileOf rs
-
 -- "15: writer: the room is shorter than the record"
 abbrev pub hasRoom : Record → List ℕ → Bool
 hasRoom r room = leb (length (writtenOf r)) (length room)
 
 -- "The writer refuses what no good record could say: 4, 5, then 6 .., then 15"
+abbrev pub writerRefusals : Record → List ℕ → List Line
+writerRefusals r room = faults r ++ ((15 when not (hasRoom r room)) ∷ [])
+
+-- the first that applies, or 0
+unfoldable pub writerRefusal : Record → List ℕ → ℕ
+writerRefusal r room = first (writerRefusals r room)
+
+-- the writer's answer: how many bytes it wrote, or its refusal
 unfoldable pub wroteOf : Record → List ℕ → Wrote
-wroteOf r room =
-    pick (eqb (faultOf r) 0)
-    (pick (hasRoom r room) (Written (length (writtenOf r))) (Refused 15))
-    (Refused (faultOf r))
+wroteOf r room = unlessRefused (writerRefusal r room) (Written (length (writtenOf r))) Refused
 
 -- "it then writes nothing. When it writes, the room past the record stays unchanged."
 unfoldable pub roomAfter : Record → List ℕ → List ℕ
-roomAfter r room =
-    pick (eqb (faultOf r) 0)
-    (pick (hasRoom r room) (writtenOf r ++ drop (length (writtenOf r)) room) room)
-    room
-
--- what a call of the writer comes to: its answer, and what the room then holds
-pub record Writes (r : Record) (room : List ℕ) (answer : Wrote) (after : List ℕ) : Type 0 where
-  pub answers : answer ≡ wroteOf r room
-  pub leaves : after ≡ roomAfter r room
+roomAfter r room = unlessRefused (writerRefusal r room) (over (writtenOf r) room) (λ n. room)
 
 -- document 01's number of what the writer answered
-abbrev pub writerRefusal : Wrote → ℕ
-writerRefusal (Written n) = 0
-writerRefusal (Refused n) = n
+abbrev pub refusalWrote : Wrote → ℕ
+refusalWrote (Written n) = 0
+refusalWrote (Refused n) = n

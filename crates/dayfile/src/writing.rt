@@ -4,7 +4,7 @@ ghost use Prim.Native.Nat.{_+_, _≤_};
 ghost use lib.ListN.{length};
 ghost use lib.Seq.{sets};
 ghost use Rattle.dayfile.specs.Bytes.{bytesOf};
-ghost use Rattle.dayfile.specs.Written.{field, writtenOf, Writes};
+ghost use Rattle.dayfile.specs.Written.{field, writtenOf, wroteOf, roomAfter};
 ghost use Rattle.dayfile.specs.Putting.{Put};
 use crate::Record;
 use crate::Wrote;
@@ -67,7 +67,8 @@ fn put_record(record: Record, room: &mut [u8])
 
 // Writes a record at the start of a room, or refuses it and writes nothing.
 pub fn write(record: Record, room: &mut [u8]) -> Wrote
-    ensures { λ r. ⌜ Writes «record» (now (room .entry)) r (now (room .exit)) ⌝ }
+    ensures { λ r. ⌜ r ≡ wroteOf «record» (now (room .entry)) ⌝ }
+    ensures { λ _. ⌜ now (room .exit) ≡ roomAfter «record» (now (room .entry)) ⌝ }
 {
     let fault = fault_of(record);
     if fault != 0 {

@@ -4,21 +4,20 @@ use mathlib.Core.List.{List}
 use mathlib.Core.Logic.{_⊎_, inl, inr}
 use mathlib.Core.Path.{_≡_, refl, sym, ap, _∙_}
 use Prim.Native.Nat.{ℕ, _≤_, _<_}
-use native.Mathlib.Omega.{arith}
-use lib.Dec.{leb, eqb}
 use borrow.Author.Tests.{ne-eqb, le-leb, lt-leb}
-use Rattle.sums.specs.Choice.{pick}
+use Rattle.sums.specs.Choice.{pick, unlessRefused}
 use Rattle.sums.proofs.Choices.{pass, stop}
 use Rattle.sums.proofs.Tables.{first-here}
 use Rattle.rows.specs.declared.Book.{Book}
-use Rattle.book.specs.Sound.{soundB, Sound}
+use Rattle.book.specs.Sound.{soundB}
+use Rattle.book.specs.Facts.{Sound}
 use Rattle.dayfile.specs.declared.Record.{Record}
 use Rattle.dayfile.specs.declared.Found.{Found}
 use Rattle.dayfile.specs.Reading.{foundAt}
 use Rattle.rules.specs.declared.Change.{Change}
 use Rattle.rules.specs.declared.Change.the-variants.{Refuse}
 use Rattle.rules.specs.Refusals.{namedRow, refusalOf}
-use Rattle.rules.specs.Effects.{passes, decided, changeOf, movedOn}
+use Rattle.rules.specs.Effects.{effectOf, changeOf, movedOn}
 use Rattle.rules.proofs.Deciding.{never-one, refuse-number}
 use Rattle.desk.specs.declared.Outcome.the-variants.{Refused}
 use Rattle.desk.specs.declared.Answer.{Answer}
@@ -49,7 +48,7 @@ refused-step b r s n a after e ea eb = (λ j. record { answer = answer j; book =
 -- "1: the book isn't sound"
 pub unsound-step : (b : Book) (r : Record) → soundB b ≡ false → _≡_ {A = Done} (record { answer = nobody (Refused 1); book = b }) (stepOf b r)
 unfolding changeOf refusalOf pick
-unsound-step b r e = step-by b r (Refuse 1) (ap (λ n. decided n (passes (namedRow b r) r)) (first-here 1 (not (soundB b)) _ (ap not e)))
+unsound-step b r e = step-by b r (Refuse 1) (ap (λ n. unlessRefused n (effectOf (namedRow b r) r) Refuse) (first-here 1 (not (soundB b)) _ (ap not e)))
 
 module _ (b : Book) (s : List ℕ) (at : ℕ) where
   pub unsound-next : soundB b ≡ false → _≡_ {A = Next} (record { answer = nobody (Refused 1); book = b; place = at }) (nextOf b s at)

@@ -1,46 +1,36 @@
 -- What a record does to the book: nothing, the serial alone, or one row and the serial.
 use mathlib.Core.Bool.{Bool, true, false}
-use mathlib.Core.List.{List, [], _∷_}
 use mathlib.Core.Path.{_≡_, refl, sym, ap, _∙_}
-use Prim.Native.Nat.{ℕ, zero, suc, _+_, _≤_, _<_}
+use Prim.Native.Nat.{ℕ, zero, suc, _≤_, _<_}
 use native.Mathlib.Omega.{arith}
 use lib.Dec.{leb, eqb}
 use borrow.Author.Tests.{le-leb, lt-leb}
-use Rattle.sums.specs.Choice.{pick}
-use Rattle.sums.specs.Table.{Given}
+use Rattle.sums.specs.Choice.{pick, unlessRefused}
+use Rattle.sums.specs.Table.{Given, NoneHolds}
 use Rattle.sums.proofs.Choices.{pick-yes, pick-no}
-use Rattle.sums.proofs.Tables.{NoneHolds, given-first, first-given, none-gives-0, gives-0-none}
-use Rattle.rows.specs.declared.Row.{Row}
+use Rattle.sums.proofs.Tables.{given-first, first-given, none-gives-0, gives-0-none, first-upto}
 use Rattle.rows.specs.declared.Book.{Book}
-use Rattle.rows.specs.Rows.{rowAt, openedRow, withRow, withNew}
-use Rattle.book.specs.Sound.{Sound}
-use Rattle.book.proofs.OneRow.{row-other, below}
-use Rattle.book.proofs.SoundAfter.{in-table}
+use Rattle.rows.specs.Rows.{openedRow}
 use Rattle.dayfile.specs.declared.Record.{Record}
-use Rattle.rules.specs.declared.Change.{Change}
 use Rattle.rules.specs.declared.Change.the-variants.{Refuse, Put, Open}
 use Rattle.rules.specs.Refusals.{isOpening, namedRow, refusals, refusalOf}
-use Rattle.rules.specs.Effects.{amended, passes, decided, changeOf, movedOn, bookAfter}
-use Rattle.rules.proofs.Passing.{Passes, passes-all}
-use Rattle.rules.proofs.SoundChange.{change-sound}
-use Rattle.desk.specs.declared.Outcome.the-variants.{CarriedOut, Opened, Refused}
-use Rattle.desk.specs.declared.Answer.{Answer}
-use Rattle.desk.specs.declared.Done.{Done}
+use Rattle.rules.specs.Effects.{amended, effectOf, changeOf, movedOn}
+use Rattle.desk.specs.declared.Outcome.the-variants.{Refused}
 use Rattle.desk.specs.Answers.{refusalIn, nobody, ofRecord, answerOf}
 use Rattle.desk.specs.Steps.{doneBy, stepOf}
 use Rattle.desk.proofs.Doing.{step-by}
 
 module _ (b : Book) (r : Record) where
   -- the change, by the number that the table gives
-  change-at : (n : ℕ) → refusalOf b r ≡ n → changeOf b r ≡ decided n (passes (namedRow b r) r)
+  change-at : (n : ℕ) → refusalOf b r ≡ n → changeOf b r ≡ unlessRefused n (effectOf (namedRow b r) r) Refuse
   unfolding changeOf
-  change-at n e = ap (λ m. decided m (passes (namedRow b r) r)) e
+  change-at n e = ap (λ m. unlessRefused m (effectOf (namedRow b r) r) Refuse) e
 
   refused-as : (n : ℕ) → refusalOf b r ≡ suc n → stepOf b r ≡ doneBy b r (Refuse (suc n))
   refused-as n e = sym (step-by b r (Refuse (suc n)) (change-at (suc n) e))
 
   -- a record that no refusal meets does what its code says
-  pub passed-as : refusalOf b r ≡ 0 → stepOf b r ≡ doneBy b r (passes (namedRow b r) r)
+  pub passed-as : refusalOf b r ≡ 0 → stepOf b r ≡ doneBy b r (effectOf (namedRow b r) r)
   passed-as e = sym (step-by b r _ (change-at 0 e))
 
   -- the answer names the number that the table gives
@@ -93,3 +83,8 @@ module _ (b : Book) (r : Record) where
   pub exactly-carried : NoneHolds (refusals b r) → refusalOf b r ≡ 0
   unfolding refusalOf
   exactly-carried h = none-gives-0 (refusals b r) h
+
+  -- the table ends with 14
+  pub number-most : refusalOf b r ≤ 14
+  unfolding refusalOf
+  number-most = first-upto 14 (refusals b r) refl

@@ -9,20 +9,18 @@ use lib.ListN.{length}
 use borrow.Author.Tests.{leb-false}
 use Rattle.sums.specs.Choice.{pick}
 use Rattle.sums.proofs.Choices.{clash}
-use Rattle.rows.specs.declared.Row.{Row}
 use Rattle.rows.specs.declared.Book.{Book}
-use Rattle.rows.specs.Rows.{rowAt, openedRow, withRow, withNew}
+use Rattle.rows.specs.Rows.{rowAt, openedRow}
 use Rattle.book.proofs.OneRow.{row-other, below}
 use Rattle.dayfile.specs.declared.Record.{Record}
 use Rattle.rules.specs.declared.Change.{Change}
 use Rattle.rules.specs.declared.Change.the-variants.{Refuse, Put, Open}
 use Rattle.rules.specs.Refusals.{isOpening, namedRow, refusalOf}
-use Rattle.rules.specs.Effects.{amended, passes, changeOf, movedOn, bookAfter}
+use Rattle.rules.specs.Effects.{amended, changeOf, bookAfter}
 use Rattle.rules.proofs.Passing.{Passes, passes-all}
-use Rattle.desk.specs.declared.Outcome.{Outcome}
-use Rattle.desk.specs.declared.Outcome.the-variants.{CarriedOut, Opened, Refused}
+use Rattle.desk.specs.declared.Outcome.the-variants.{Opened, Refused}
 use Rattle.desk.specs.Answers.{givenIn, nobody, ofRecord, answerOf}
-use Rattle.desk.specs.Steps.{doneBy, stepOf}
+use Rattle.desk.specs.Steps.{stepOf}
 use Rattle.desk.proofs.Effect.{early-refusal, later-refusal, passed-as}
 
 module _ (b : Book) (r : Record) where
@@ -35,7 +33,7 @@ module _ (b : Book) (r : Record) where
       by (no q) = let e = later-refusal b r (omega arith) in (ap (λ x. x .rows) e, ap (λ x. x .count) e)
 
   -- where the record is an opening there is a number left
-  room-left : Passes b r → isOpening r ≡ true → b .count < length (b .rows)
+  pub room-left : Passes b r → isOpening r ≡ true → b .count < length (b .rows)
   room-left p e = let n : leb 256 (b .count) ≡ false = rw e at (p .number) in omega (arith, leb-false 256 (b .count) n, p .sound .table)
 
   after : Bool → Book

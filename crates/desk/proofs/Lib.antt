@@ -1,3 +1,4 @@
 pub mod Doing
 pub mod Effect
 pub mod Lasting
+pub mod Rows

@@ -9,7 +9,6 @@ use Rattle.dayfile.specs.declared.Found.{Found}
 use Rattle.dayfile.specs.declared.Found.the-variants.{End as NoBytes, Cut as TooFew, Whole}
 use Rattle.dayfile.specs.Reading.{foundAt}
 use Rattle.desk.specs.declared.Outcome.the-variants.{Refused, End}
-use Rattle.desk.specs.declared.Answer.{Answer}
 use Rattle.desk.specs.declared.Done.{Done}
 use Rattle.desk.specs.declared.Next.{Next}
 use Rattle.rules.specs.declared.Change.{Change}
@@ -20,6 +19,7 @@ use Rattle.desk.specs.Answers.{nobody, answerOf}
 abbrev pub doneBy : Book → Record → Change → Done
 doneBy b r c = record { answer = answerOf (b .count) r c; book = bookAfter b (r .account) c }
 
+-- "A record handed over as values is checked as one that was read"
 unfoldable pub stepOf : Book → Record → Done
 stepOf b r = doneBy b r (changeOf b r)
 

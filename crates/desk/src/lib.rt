@@ -1,6 +1,6 @@
 // The desk: a record is carried out or refused.
 ghost use mathlib.Core.Path.{_≡_};
-ghost use Rattle.book.specs.Sound.{Sound};
+ghost use Rattle.book.specs.Facts.{Sound};
 ghost use Rattle.desk.specs.Answers.{nobody, ofRecord};
 ghost use Rattle.desk.specs.Steps.{stepOf, nextOf};
 use dayfile::Found;

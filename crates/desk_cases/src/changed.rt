@@ -14,7 +14,7 @@ fn same_row(a: Row, b: Row) -> bool {
     let live = a.live & b.live | !a.live & !b.live;
     let received = same_kinds(a.received, b.received);
     let allocated = same_kinds(a.allocated, b.allocated);
-    (a.code == b.code)
+    (a.sort == b.sort)
         & (a.tm == b.tm)
         & live
         & received

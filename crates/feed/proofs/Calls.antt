@@ -1,8 +1,8 @@
 -- The telling loop: what holds at each turn, one call of `lines` more, and where it stops.
 use mathlib.Core.Bool.{Bool, true, false, not, _&&_}
-use mathlib.Core.List.{List, [], _++_, append-nil}
+use mathlib.Core.List.{List, [], append-nil}
 use mathlib.Core.Path.{_≡_, refl, sym, ap, _∙_}
-use Prim.Native.Nat.{ℕ, zero, suc, _+_, _-_, _≤_, _<_, min}
+use Prim.Native.Nat.{ℕ, _+_, _-_, _≤_, _<_}
 use native.Mathlib.Omega.{arith}
 use lib.Dec.{ltb}
 use lib.ListN.{length, take, drop, length-drop, length-append}
@@ -13,11 +13,12 @@ use Rattle.rows.specs.declared.Book.{Book}
 use Rattle.run.specs.declared.Closing.{Closing}
 use Rattle.run.specs.declared.Closing.the-variants.{End, Cut, Long, Unsound}
 use Rattle.run.specs.declared.Ran.{Ran}
-use Rattle.run.specs.Runs.{closed, ranOf}
+use Rattle.run.specs.Runs.{endedWith, ranOf}
 use Rattle.run.proofs.Stops.{Stopped, ran-stops, ran-enough}
 use Rattle.run.proofs.Pieces.{onFrom, on-twice, on-none, restOf, in-pieces}
 use Rattle.lines.specs.declared.Lined.{Lined}
-use Rattle.lines.specs.Texts.{over, limitOf, textOf, linedOf}
+use Rattle.sums.specs.Room.{over}
+use Rattle.lines.specs.Texts.{limitOf, textOf, linedOf}
 use Rattle.feed.specs.Inner.{isLong}
 
 -- a run of s from b₀ on has come to this place, with this book and these counts
@@ -34,7 +35,7 @@ nothing-told s most b₀ text h =
     record { size = h; inside = omega arith; upto = omega arith; fewer = omega arith; same = ap (ranOf b₀ s) e ∙ on-none _ }
 
 abbrev pub ranIn : Lined → Ran
-ranIn q = closed (q .closing) (q .book) (q .place) (q .read) (q .done)
+ranIn q = endedWith (q .closing) (q .book) (q .place) (q .read) (q .done)
 
 -- one call more
 pub record Call (s : List ℕ) (most : ℕ) (b₀ : Book) (text : List ℕ) (book : Book) (place read done : ℕ) (q : Lined) : Type 0 where
@@ -127,5 +128,5 @@ module _ {s : List ℕ} {most : ℕ} {b₀ : Book} {text : List ℕ} {book : Boo
 
     -- or it was not, or the stated number is reached: then nothing is left to carry out
     pub finished : not (t && ltb (read + q .read) most) ≡ true
-        → closed (q .closing) (q .book) (place + q .place) (read + q .read) (done + q .done) ≡ ranOf b₀ s most
+        → endedWith (q .closing) (q .book) (place + q .place) (read + q .read) (done + q .done) ≡ ranOf b₀ s most
     finished e = ap (onFrom place read done) (sym (enough t (sym w) (not-true _ e))) ∙ sym (g .before .same)

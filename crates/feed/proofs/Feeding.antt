@@ -1,5 +1,5 @@
 -- The reading loop: what holds at each turn, one piece more, and where it stops.
-use mathlib.Core.Bool.{Bool, true, false, _||_}
+use mathlib.Core.Bool.{Bool, false, _||_}
 use mathlib.Core.List.{List, [], _∷_, _++_, append-assoc, append-nil}
 use mathlib.Core.Logic.{_⊎_, inl, inr}
 use mathlib.Core.Path.{_≡_, refl, sym, ap, _∙_}
@@ -12,9 +12,10 @@ use borrow.Author.Tests.{ltb-false}
 use Rattle.sums.proofs.Choices.{clash, or-fails}
 use Rattle.rows.specs.declared.Book.{Book}
 use Rattle.rows.specs.Rows.{freshBook}
-use Rattle.book.specs.Sound.{Sound}
+use Rattle.book.specs.Facts.{Sound}
 use Rattle.book.proofs.FreshSound.{fresh-sound}
-use Rattle.dayfile.specs.Bytes.{Bytes}
+use Rattle.dayfile.specs.Files.{Bytes}
+use Rattle.dayfile.proofs.Numbers.{bytes-drop}
 use Rattle.run.specs.declared.Closing.{Closing}
 use Rattle.run.specs.declared.Closing.the-variants.{End, Cut, Long, Unsound}
 use Rattle.run.specs.declared.Ran.{Ran}
@@ -22,13 +23,13 @@ use Rattle.run.specs.Runs.{ranOf}
 use Rattle.run.proofs.SoundRun.{ran-keeps}
 use Rattle.run.proofs.Stops.{Stopped, ran-stops, ran-moves}
 use Rattle.run.proofs.Pieces.{onFrom, on-twice, on-none, restOf, in-pieces}
-use Rattle.feed.specs.declared.Day.{Day}
 use Rattle.feed.specs.Fed.{dayOf, wholeDay, Came}
 use Rattle.feed.specs.Inner.{stopsAt}
 
 -- input is what was read up to here; the kept bytes are what is left of it, after a book with these counts
 pub record Feeding (space : List ℕ) (book : Book) (kept read done : ℕ) : Type 0 where
   pub input : List ℕ
+  pub bytes : Bytes input
   pub place : ℕ
   pub size : length space ≡ 65606
   pub within : kept ≤ 65606
@@ -40,6 +41,7 @@ pub record Feeding (space : List ℕ) (book : Book) (kept read done : ℕ) : Typ
 pub nothing-read : (space : List ℕ) (book : Book) → length space ≡ 65606 → book ≡ freshBook → Feeding space book 0 0 0
 nothing-read space book h e = record {
   input = [];
+  bytes = λ i. omega arith;
   place = 0;
   size = h;
   within = omega arith;
@@ -63,6 +65,11 @@ bytes-take (suc n) [] y i = omega arith
 bytes-take (suc n) (x ∷ l) y zero = y 0
 bytes-take (suc n) (x ∷ l) y (suc i) = bytes-take n l (λ j. y (suc j)) i
 
+bytes-append : (l m : List ℕ) → Bytes l → Bytes m → Bytes (l ++ m)
+bytes-append [] m y z i = z i
+bytes-append (x ∷ l) m y z zero = y 0
+bytes-append (x ∷ l) m y z (suc i) = bytes-append l m (λ j. y (suc j)) z i
+
 going-on : (w : Closing) → stopsAt w ≡ false → (w ≡ End) ⊎ (w ≡ Cut)
 going-on End e = inl refl
 going-on Cut e = inr refl
@@ -83,6 +90,10 @@ module _ {space : List ℕ} {book : Book} {kept read done : ℕ} {filled : List 
     (g : Piece space book kept read done filled held r) where
   new : List ℕ
   new = take (held - kept) (drop kept filled)
+
+  all-bytes : Bytes (g .before .input ++ new)
+  unfolding new
+  all-bytes = bytes-append (g .before .input) _ (g .before .bytes) (bytes-take (held - kept) _ (bytes-drop kept filled (g .bytes)))
 
   piece-is : take held filled ≡ take kept space ++ new
   unfolding new
@@ -117,6 +128,7 @@ module _ {space : List ℕ} {book : Book} {kept read done : ℕ} {filled : List 
   unfolding wholeDay
   came = record {
     input = (g .before .input ++ new) ++ [];
+    bytes = bytes-append (g .before .input ++ new) [] all-bytes (λ i. omega arith);
     is =
         ap (λ q. dayOf (onFrom (g .before .place) read done q)) (g .is ∙ ap (λ l. ranOf book l (1_000_000 - read)) (sym (append-nil (take held filled))))
         ∙ sym (ap dayOf (longer []));
@@ -126,6 +138,7 @@ module _ {space : List ℕ} {book : Book} {kept read done : ℕ} {filled : List 
       → Feeding next (r .book) left (read + r .read) (done + r .done)
   fed next left n l t = record {
     input = g .before .input ++ new;
+    bytes = all-bytes;
     place = g .before .place + r .place;
     size = n;
     within = omega (arith, g);

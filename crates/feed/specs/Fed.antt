@@ -3,6 +3,7 @@ use mathlib.Core.List.{List}
 use mathlib.Core.Path.{_≡_}
 use Prim.Native.Nat.{ℕ}
 use Rattle.rows.specs.Rows.{freshBook}
+use Rattle.dayfile.specs.Files.{Bytes}
 use Rattle.run.specs.declared.Ran.{Ran}
 use Rattle.run.specs.Runs.{ranOf}
 use Rattle.feed.specs.declared.Day.{Day}
@@ -11,10 +12,12 @@ use Rattle.feed.specs.declared.Day.{Day}
 abbrev pub dayOf : Ran → Day
 dayOf r = record { book = r .book; closing = r .closing; read = r .read; done = r .done }
 
+-- the day of these bytes
 unfoldable pub wholeDay : List ℕ → Day
 wholeDay s = dayOf (ranOf freshBook s 1_000_000)
 
 -- No contract can say which bytes are read. This one says that there are bytes of which d is the day.
 pub record Came (d : Day) : Type 0 where
   pub input : List ℕ
+  pub bytes : Bytes input
   pub is : d ≡ wholeDay input

@@ -2,7 +2,7 @@
 ghost use mathlib.Core.Path.{_≡_};
 ghost use Prim.Native.Nat.{_+_, _-_, _≤_};
 ghost use lib.ListN.{length, take, drop};
-ghost use Rattle.dayfile.specs.Bytes.{Bytes};
+ghost use Rattle.dayfile.specs.Files.{Bytes};
 use libc::STDIN_FILENO;
 
 // 65,536 bytes and the longest record.

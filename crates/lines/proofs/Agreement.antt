@@ -1,12 +1,18 @@
--- The call that writes lines and `run::day` agree.
-use mathlib.Core.List.{List}
-use mathlib.Core.Path.{_≡_, refl}
+-- The call that writes lines and `run::day` agree; at an unsound book it leaves the room.
+use mathlib.Core.Bool.{false}
+use mathlib.Core.List.{List, []}
+use mathlib.Core.Path.{_≡_, refl, ap}
 use Prim.Native.Nat.{ℕ}
+use Rattle.sums.specs.Room.{over}
+use Rattle.sums.proofs.Choices.{pick-no}
 use Rattle.rows.specs.declared.Book.{Book}
+use Rattle.book.specs.Sound.{soundB}
 use Rattle.run.specs.declared.Ran.{Ran}
 use Rattle.run.specs.Runs.{ranOf}
+use Rattle.run.specs.Told.{answersOf}
 use Rattle.lines.specs.declared.Lined.{Lined}
-use Rattle.lines.specs.Texts.{limitOf, linedOf}
+use Rattle.lines.specs.Lines.{linesOf}
+use Rattle.lines.specs.Texts.{limitOf, textOf, linedOf}
 
 -- a result without its text
 abbrev pub ranIn : Lined → Ran
@@ -16,3 +22,8 @@ ranIn l = record { book = l .book; place = l .place; closing = l .closing; read 
 pub same-as-day : (b : Book) (piece : List ℕ) (most : ℕ) (room : List ℕ) → ranIn (linedOf b piece (limitOf most room)) ≡ ranOf b piece (limitOf most room)
 unfolding linedOf
 same-as-day b piece most room = refl
+
+-- an unsound book has no lines, and the room stays as it was
+pub unsound-leaves-room : (b : Book) (piece : List ℕ) (most : ℕ) (room : List ℕ) → soundB b ≡ false → over (textOf b piece most) room ≡ room
+unfolding textOf
+unsound-leaves-room b piece most room e = ap (λ x. over x room) (pick-no (soundB b) (linesOf (answersOf piece most b 0)) [] e)

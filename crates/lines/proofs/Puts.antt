@@ -1,12 +1,12 @@
 -- Texts put into a room, one after the other.
 use mathlib.Core.List.{List, [], _∷_, _++_}
-use mathlib.Core.Path.{_≡_, refl, sym, ap, _∙_}
+use mathlib.Core.Path.{_≡_, refl, ap, _∙_}
 use Prim.Native.Nat.{ℕ, suc, _+_, _≤_, _<_}
 use native.Mathlib.Numerals.{add-one}
 use native.Mathlib.Omega.{arith}
-use lib.ListN.{length, set, take, drop, getD, length-append, length-drop}
+use lib.ListN.{length, set, take, drop, getD, length-append}
 use lib.Seq.{sets-eq, set-comm, length-sets, take-suc, take-all}
-use Rattle.lines.specs.Texts.{over}
+use Rattle.sums.specs.Room.{over}
 use Rattle.lines.specs.Inner.{put, Puts}
 
 -- a text, and another one after it
@@ -49,8 +49,3 @@ pub puts-over : {room text room′ : List ℕ} {after : ℕ} → Puts room 0 tex
 puts-over {room} {text} f =
     let e : 0 + length text ≡ length text = omega arith in
     (f .next ∙ e, f .holds ∙ sets-eq text room 0 (omega (arith, f .next, f .within)) ∙ ap (λ (i : ℕ). text ++ drop i room) e)
-
--- what stands at a room's start is within the room: what a caller shows to take the text out of it
-pub over-fits : (text room : List ℕ) {room′ : List ℕ} → room′ ≡ over text room → length room′ ≡ length room → length text ≤ length room
-over-fits text room e same =
-    omega (arith, sym same ∙ ap length e ∙ length-append text (drop (length text) room), length-drop (length text) room)

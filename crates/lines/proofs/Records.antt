@@ -14,15 +14,15 @@ use Rattle.dayfile.specs.declared.Found.{Found}
 use Rattle.dayfile.specs.declared.Found.the-variants.{End as NoBytes, Cut as TooFew, Whole}
 use Rattle.dayfile.specs.Reading.{foundAt}
 use Rattle.desk.specs.declared.Answer.{Answer}
-use Rattle.desk.specs.Answers.{carriedIn}
 use Rattle.desk.specs.Steps.{stepOf}
 use Rattle.run.specs.declared.Closing.the-variants.{Unsound}
 use Rattle.run.specs.declared.Ran.{Ran}
-use Rattle.run.specs.Runs.{closed, stopped, onward, runOf, ranOf}
+use Rattle.run.specs.Runs.{endedWith, runOf, ranOf}
 use Rattle.run.specs.Told.{answering, answersOf, five, fives, roomFor, toldOf}
 use Rattle.run.proofs.SoundRun.{run-counts}
 use Rattle.lines.specs.Lines.{lineOf, linesOf}
-use Rattle.lines.specs.Texts.{over, textOf, withText, linedOf}
+use Rattle.sums.specs.Room.{over}
+use Rattle.lines.specs.Texts.{textOf, withText, linedOf}
 use Rattle.lines.specs.Inner.{Puts, lineAt, linesTo}
 use Rattle.lines.proofs.Puts.{puts-over}
 
@@ -69,7 +69,7 @@ module _ (b : Book) (s : List ℕ) (n : ℕ) where
   unfolding ranOf pick
   read-most = by (soundB b)
     where
-      by : (t : Bool) → pick t (runOf s n b 0 0 0) (closed Unsound b 0 0 0) .read ≤ n
+      by : (t : Bool) → pick t (runOf s n b 0 0 0) (endedWith Unsound b 0 0 0) .read ≤ n
       by true = omega (arith, run-counts s n b 0 0 0 .0, answers-most s n b 0)
       by false = omega arith
 
@@ -81,7 +81,7 @@ module _ (b : Book) (s : List ℕ) (n : ℕ) where
       numbers : List ℕ
       numbers = fives (answersOf s (roomFor n told) b 0)
 
-      by : (t : Bool) → linesTo (pick t (numbers ++ drop (length numbers) told) told) (pick t (runOf s n b 0 0 0) (closed Unsound b 0 0 0) .read)
+      by : (t : Bool) → linesTo (pick t (numbers ++ drop (length numbers) told) told) (pick t (runOf s n b 0 0 0) (endedWith Unsound b 0 0 0) .read)
           ≡ pick t (linesOf (answersOf s n b 0)) []
       by true =
           ap (λ m. linesTo (fives (answersOf s m b 0) ++ drop (length (fives (answersOf s m b 0))) told) (runOf s n b 0 0 0 .read)) (sym e)

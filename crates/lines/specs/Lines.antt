@@ -24,6 +24,7 @@ unfoldable pub digits : ℕ → ℕ → List ℕ
 digits zero n = []
 digits (suc most) n = pick (ltb n 10) (digit n ∷ []) (digits most (n / 10) ++ (digit (n % 10) ∷ []))
 
+-- a number in decimal
 unfoldable pub decimal : ℕ → List ℕ
 decimal n = digits (suc n) n
 
@@ -41,16 +42,17 @@ spaced (n ∷ m ∷ rest) = followed n space ++ spaced (m ∷ rest)
 unfoldable pub lineOf : Answer → List ℕ
 lineOf a = spaced (five a)
 
+-- the lines of all records, one after the other
 unfoldable pub linesOf : List Answer → List ℕ
 linesOf [] = []
 linesOf (a ∷ rest) = lineOf a ++ linesOf rest
 
 -- "and says which: `end`, `cut` or `long`"; "An unsound book gives 1 as the closing word"
 abbrev pub wordOf : Closing → List ℕ
-wordOf End = 101 ∷ 110 ∷ 100 ∷ []
-wordOf Cut = 99 ∷ 117 ∷ 116 ∷ []
-wordOf Long = 108 ∷ 111 ∷ 110 ∷ 103 ∷ []
-wordOf Unsound = 49 ∷ []
+wordOf End = 101 ∷ 110 ∷ 100 ∷ []  -- e n d
+wordOf Cut = 99 ∷ 117 ∷ 116 ∷ []  -- c u t
+wordOf Long = 108 ∷ 111 ∷ 110 ∷ 103 ∷ []  -- l o n g
+wordOf Unsound = 49 ∷ []  -- 1
 
 -- "`end`, `cut` or `long`, then records read .. and records carried out"
 unfoldable pub closingLineOf : Closing → ℕ → ℕ → List ℕ

@@ -1,7 +1,7 @@
 -- What the call that writes lines gives: the run's results, and the text in the lent room.
-use mathlib.Core.List.{List, [], _++_}
+use mathlib.Core.List.{List, []}
 use Prim.Native.Nat.{ℕ, _/_, min}
-use lib.ListN.{length, drop}
+use lib.ListN.{length}
 use Rattle.sums.specs.Choice.{pick}
 use Rattle.rows.specs.declared.Book.{Book}
 use Rattle.book.specs.Sound.{soundB}
@@ -10,10 +10,6 @@ use Rattle.run.specs.Runs.{ranOf}
 use Rattle.run.specs.Told.{answersOf}
 use Rattle.lines.specs.Lines.{linesOf}
 use Rattle.lines.specs.declared.Lined.{Lined}
-
--- a text at a room's start; the room past it stays as it was
-abbrev pub over : List ℕ → List ℕ → List ℕ
-over text room = text ++ drop (length text) room
 
 -- how many records a call carries out at most: the stated number, as many as the room surely holds with 32 bytes for each, and 2048
 abbrev pub limitOf : ℕ → List ℕ → ℕ
@@ -26,5 +22,6 @@ textOf b s most = pick (soundB b) (linesOf (answersOf s most b 0)) []
 abbrev pub withText : Ran → ℕ → Lined
 withText ran text = record { book = ran .book; place = ran .place; closing = ran .closing; read = ran .read; done = ran .done; text = text }
 
+-- what the call gives beside the room
 unfoldable pub linedOf : Book → List ℕ → ℕ → Lined
 linedOf b s most = withText (ranOf b s most) (length (textOf b s most))

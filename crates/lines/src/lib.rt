@@ -3,7 +3,8 @@ ghost use mathlib.Core.Path.{_≡_};
 ghost use Prim.Native.Nat.{min};
 ghost use lib.ListN.{length};
 ghost use Rattle.lines.specs.Lines.{closingLineOf};
-ghost use Rattle.lines.specs.Texts.{over, limitOf, textOf, linedOf};
+ghost use Rattle.sums.specs.Room.{over};
+ghost use Rattle.lines.specs.Texts.{limitOf, textOf, linedOf};
 use rows::Book;
 use run::Closing;
 

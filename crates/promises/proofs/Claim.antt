@@ -6,7 +6,6 @@ use lib.Count.{ones, onesIn}
 use Rattle.sums.specs.Sum.{sum, all}
 use Rattle.sums.specs.Choice.{pick}
 use Rattle.sums.specs.Table.{first}
-use Rattle.rows.specs.declared.Book.{Book}
 use Rattle.rows.specs.View.{needTM, needCM, need}
 use Rattle.rows.specs.Rows.{freshBook, hasLiveClient}
 use Rattle.book.proofs.FreshSound.{fresh-sound, fresh-test}
@@ -19,17 +18,17 @@ use Rattle.dayfile.specs.Reading.{got, past, recordOf, foundFrom, foundAt}
 use Rattle.rules.specs.Effects.{amended}
 use Rattle.rules.specs.Inner.{refusalBy, changeBy}
 use Rattle.desk.specs.declared.Outcome.the-variants.{Refused, End}
-use Rattle.desk.specs.declared.Done.{Done}
 use Rattle.desk.specs.declared.Next.{Next}
 use Rattle.desk.specs.Answers.{nobody}
 use Rattle.desk.specs.Steps.{stepOf, onFound, nextOf}
 use Rattle.desk.proofs.Doing.{sound-next}
-use Rattle.closeout.specs.Columns.{fromTM, asked, fromCM, uncovered, four}
+use Rattle.closeout.specs.Columns.{fromTM, asked, fromCM, uncovered, four, rowsTo}
+use Rattle.closeout.specs.Closing.{closedOf, roomOf}
 use Rattle.promises.specs.Sequences.{afterAll}
-use Rattle.promises.specs.Figures.{cases, expected}
-use Rattle.promises.proofs.Quick.{quickStep, quick-step, all-sound, quickAll, quick-all}
+use Rattle.promises.specs.Figures.{cases, casesByTheRules, expected}
+use Rattle.promises.proofs.Quick.{quickStep, quick-step, all-sound, quickAll, quick-all, quickClosed, quickRoom, quick-closed, quick-room}
 
--- the three ways to carry out, quickly
+-- the ways to carry out, quickly
 abbrev quickRead : Found → Next
 quickRead NoBytes = record { answer = nobody End; book = freshBook; place = 0 }
 quickRead TooFew = record { answer = nobody (Refused 2); book = freshBook; place = 0 }
@@ -49,9 +48,29 @@ read-same s = sym (sound-next freshBook s 0 (foundAt s 0) fresh-test refl) ∙ b
     by TooFew = refl
     by (Whole r next) = ap (λ d. record { answer = d .answer; book = d .book; place = next }) (quick-step freshBook r fresh-sound)
 
-quickly : cases (quickAll freshBook) (λ rs r. quickStep (quickAll freshBook rs) r) (λ s. quickRead (foundAt s 0)) ≡ expected
-unfolding cases expected quickAll changeBy amended refusalBy first pick sum all needTM needCM need hasLiveClient freshBook faultOf foundAt foundFrom recordOf number got past ones onesIn four fromTM asked fromCM uncovered
+closed-same : (rs : List Record) (losses room : List ℕ) → closedOf (afterAll freshBook rs) losses room ≡ quickClosed (quickAll freshBook rs) losses room
+closed-same rs losses room =
+    quick-closed (afterAll freshBook rs) losses room (all-sound freshBook rs fresh-sound) ∙ ap (λ b. quickClosed b losses room) (after-same rs)
+
+room-same : (rs : List Record) (losses room : List ℕ) → roomOf (afterAll freshBook rs) losses room ≡ quickRoom (quickAll freshBook rs) losses room
+room-same rs losses room =
+    quick-room (afterAll freshBook rs) losses room (all-sound freshBook rs fresh-sound) ∙ ap (λ b. quickRoom b losses room) (after-same rs)
+
+casesQuickly : List (List ℕ)
+casesQuickly =
+    cases (quickAll freshBook) (λ rs r. quickStep (quickAll freshBook rs) r) (λ s. quickRead (foundAt s 0))
+    (λ rs losses room. quickClosed (quickAll freshBook rs) losses room) (λ rs losses room. quickRoom (quickAll freshBook rs) losses room)
+
+same-cases : casesByTheRules ≡ casesQuickly
+unfolding casesByTheRules casesQuickly
+same-cases i =
+    cases (λ rs. after-same rs i) (λ rs r. more-same rs r i) (λ s. read-same s i) (λ rs losses room. closed-same rs losses room i)
+    (λ rs losses room. room-same rs losses room i)
+
+quickly : casesQuickly ≡ expected
+unfolding casesQuickly cases expected quickAll changeBy amended refusalBy first pick sum all needTM needCM need hasLiveClient freshBook faultOf foundAt foundFrom recordOf number got past ones onesIn rowsTo four fromTM asked fromCM uncovered
 quickly = refl
 
-pub figures : cases (afterAll freshBook) (λ rs r. stepOf (afterAll freshBook rs) r) (λ s. nextOf freshBook s 0) ≡ expected
-figures = (λ i. cases (λ rs. after-same rs i) (λ rs r. more-same rs r i) (λ s. read-same s i)) ∙ quickly
+-- document 01's figures, by the rules
+pub figures : casesByTheRules ≡ expected
+figures = same-cases ∙ quickly

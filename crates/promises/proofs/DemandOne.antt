@@ -1,94 +1,177 @@
 -- Demand 1. Every call ends and nothing makes it fail: that is what a proved function with no `requires` says, for every
--- value of its arguments' types. Below: what is bad is refused with a number, and what each refusal leaves.
-use mathlib.Core.Bool.{Bool, true, false}
-use mathlib.Core.List.{List, _++_}
+-- value of its arguments' types. Below: what is bad is refused with a number, in document 01's order, and what each refusal
+-- leaves.
+use mathlib.Core.Bool.{true, false}
+use mathlib.Core.List.{List}
 use mathlib.Core.Path.{_≡_, refl, sym, ap, _∙_}
-use Prim.Native.Nat.{ℕ, zero, suc, _≤_, _<_}
-use native.Mathlib.Omega.{arith}
-use native.Mathlib.Decide.{ℕ-discrete}
-use lib.Dec.{eqb}
-use lib.ListN.{length, drop}
-use borrow.Author.Tests.{ne-eqb}
-use Rattle.sums.specs.Choice.{pick}
-use Rattle.sums.proofs.Choices.{pick-no}
+use Prim.Native.Nat.{ℕ, zero, suc, _+_, _≤_, _<_}
+use lib.ListN.{length, getD}
+use Rattle.sums.specs.Choice.{unlessRefused}
+use Rattle.sums.specs.Table.{Line, first, Given}
+use Rattle.sums.proofs.Tables.{given-first, first-given}
 use Rattle.rows.specs.declared.Book.{Book}
 use Rattle.rows.specs.Rows.{view}
-use Rattle.book.specs.declared.Figures.{Figures}
 use Rattle.book.specs.Sound.{soundB}
-use Rattle.book.specs.Asked.{standingRefusal, noFigures, figuresOf, answered, standingOf}
+use Rattle.book.specs.Asked.{standingRefusals, standingRefusal, noFigures, figuresOf, standingOf}
+use Rattle.book.proofs.StandingRefusals.{standing-number}
 use Rattle.dayfile.specs.declared.Record.{Record}
-use Rattle.dayfile.specs.declared.Found.the-variants.{End as NoBytes, Cut as TooFew}
-use Rattle.dayfile.specs.declared.Wrote.the-variants.{Written, Refused as NotWritten}
-use Rattle.dayfile.specs.Records.{faultOf}
-use Rattle.dayfile.specs.Reading.{foundAt}
-use Rattle.dayfile.specs.Written.{hasRoom, writtenOf, wroteOf, roomAfter}
+use Rattle.dayfile.specs.declared.Found.the-variants.{End as NoBytes, Cut as TooFew, Whole}
+use Rattle.dayfile.specs.declared.Read.the-variants.{Good, Bad}
+use Rattle.dayfile.specs.Records.{faults, faultOf}
+use Rattle.dayfile.specs.declared.Wrote.the-variants.{Refused as NotWritten}
+use Rattle.dayfile.specs.Reading.{sizeOf, foundAt, judged, readOf, readAt, numberFound, numberOf}
+use Rattle.dayfile.specs.Written.{writerRefusals, writerRefusal, wroteOf, roomAfter, refusalWrote}
+use Rattle.dayfile.proofs.Answers.{wrote-refusal, refused-writer-leaves-room as writer-leaves}
+use Rattle.dayfile.proofs.Places.{cut-at, at-cut}
 use Rattle.rules.specs.Refusals.{refusalOf}
 use Rattle.rules.specs.Effects.{movedOn}
 use Rattle.desk.specs.declared.Outcome.the-variants.{Refused, End}
-use Rattle.desk.specs.declared.Next.{Next}
 use Rattle.desk.specs.Answers.{refusalIn, nobody}
 use Rattle.desk.specs.Steps.{stepOf, nextOf}
 use Rattle.desk.proofs.Doing.{unsound-next, sound-next}
-use Rattle.desk.proofs.Effect.{answer-number, early-refusal, later-refusal}
+use Rattle.desk.proofs.Effect.{answer-number, early-refusal, later-refusal, number-most}
 use Rattle.desk.proofs.Lasting.{refusal-keeps}
 use Rattle.run.specs.declared.Closing.the-variants.{Unsound}
-use Rattle.run.specs.declared.Ran.{Ran}
-use Rattle.run.specs.Runs.{closed, ranOf}
-use Rattle.run.proofs.Tellings.{ran-unsound}
-use Rattle.closeout.specs.Closing.{closedOf, roomOf}
-use Rattle.closeout.specs.Closing as losses
+use Rattle.run.specs.Runs.{endedWith, ranOf}
+use Rattle.run.specs.Told.{toldOf}
+use Rattle.run.proofs.Tellings.{ran-unsound, told-unsound}
+use Rattle.closeout.specs.Closing.{lossAt, noTotal, closeOutRefusals, closeOutRefusal, closedOf, roomOf}
+use Rattle.closeout.specs.Columns.{total}
 use Rattle.closeout.proofs.Carried.{refused-total, refused-untouched}
 
--- the answer to a record names the number of document 01's table
+-- The answer to a record names the number of document 01's table (which number, and when: `given-exactly-when` of DemandTwo).
 pub answer-names-the-number : (b : Book) (r : Record) → refusalIn (stepOf b r .answer .outcome) ≡ refusalOf b r
 answer-names-the-number = answer-number
 
--- a refused record changes no amount and no account
+-- That number is 0 to 14: 15 and 16 are the writer's and the close-out's.
+pub a-number-of-the-table : (b : Book) (r : Record) → refusalOf b r ≤ 14
+a-number-of-the-table = number-most
+
+-- A refused record changes no amount and no account.
 pub a-refusal-changes-no-amount : (b : Book) (r : Record) → 0 < refusalOf b r
     → (stepOf b r .book .rows ≡ b .rows) × (stepOf b r .book .count ≡ b .count)
 a-refusal-changes-no-amount = refusal-keeps
 
--- refusals 1 and 3 change nothing at all; 4 to 14 move the serial on by one and change nothing else
+-- Refusals 1 and 3 change nothing at all.
 pub refusals-up-to-3-change-nothing : (b : Book) (r : Record) → 0 < refusalOf b r → refusalOf b r ≤ 3 → stepOf b r .book ≡ b
 refusals-up-to-3-change-nothing = early-refusal
 
+-- Refusals 4 to 14 move the serial on by one and change nothing else.
 pub refusals-from-4-move-the-serial : (b : Book) (r : Record) → 3 < refusalOf b r → stepOf b r .book ≡ movedOn b
 refusals-from-4-move-the-serial = later-refusal
 
--- from a file: an unsound book (1), a cut record (2) and the end leave the book and the place, and name nobody
+-- From a place of a file:
 module _ (b : Book) (piece : List ℕ) (place : ℕ) where
+  -- An unsound book is answered with 1, even at the end; the answer names nobody, and book and place stay.
   pub unsound-leaves-all : soundB b ≡ false → nextOf b piece place ≡ record { answer = nobody (Refused 1); book = b; place = place }
   unsound-leaves-all e = sym (unsound-next b piece place e)
 
+  -- Too few bytes are answered with 2; the answer names nobody, and book and place stay.
   pub cut-leaves-all : soundB b ≡ true → foundAt piece place ≡ TooFew → nextOf b piece place ≡ record { answer = nobody (Refused 2); book = b; place = place }
   cut-leaves-all e f = sym (sound-next b piece place TooFew e f)
 
+  -- Where no bytes are left the answer is the end, which is no refusal; it names nobody, and book and place stay.
   pub end-leaves-all : soundB b ≡ true → foundAt piece place ≡ NoBytes → nextOf b piece place ≡ record { answer = nobody End; book = b; place = place }
   end-leaves-all e f = sym (sound-next b piece place NoBytes e f)
 
--- the records of a piece, at an unsound book
-pub unsound-day : (b : Book) (piece : List ℕ) (most : ℕ) → soundB b ≡ false → ranOf b piece most ≡ closed Unsound b 0 0 0
+  -- A whole record is answered as the same record handed over as values, and the place moves past it, whatever the answer: after
+  -- refusal 3 too.
+  pub a-whole-record-moves-the-place : (r : Record) (next : ℕ) → soundB b ≡ true → foundAt piece place ≡ Whole r next
+      → nextOf b piece place ≡ record { answer = stepOf b r .answer; book = stepOf b r .book; place = next }
+  a-whole-record-moves-the-place r next e f = sym (sound-next b piece place (Whole r next) e f)
+
+-- The records of a piece, at an unsound book: the closing word 1, place 0, counts of 0, the same book; ..
+pub unsound-day : (b : Book) (piece : List ℕ) (most : ℕ) → soundB b ≡ false → ranOf b piece most ≡ endedWith Unsound b 0 0 0
 unsound-day b piece most e = sym (ran-unsound b piece most e)
 
--- a writer that refuses leaves its room untouched
-pub refused-writer-leaves-room : (r : Record) (room : List ℕ) (n : ℕ) → wroteOf r room ≡ NotWritten n → roomAfter r room ≡ room
-unfolding wroteOf roomAfter pick
-refused-writer-leaves-room r room n e = by (eqb (faultOf r) 0) (hasRoom r room) e
-  where
-    by : (t u : Bool) → pick t (pick u (Written (length (writtenOf r))) (NotWritten 15)) (NotWritten (faultOf r)) ≡ NotWritten n
-        → pick t (pick u (writtenOf r ++ drop (length (writtenOf r)) room) room) room ≡ room
-    by true true q = absurd (let z : _≡_ {A = ℕ} 0 1 = cc in omega arith)
-    by true false q = refl
-    by false u q = refl
+-- .. and the room lent for the records' numbers stays as it was.
+pub unsound-day-leaves-room : (b : Book) (piece : List ℕ) (most : ℕ) (room : List ℕ) → soundB b ≡ false → toldOf b piece most room ≡ room
+unsound-day-leaves-room b piece most room e = sym (told-unsound b piece most room e)
 
--- a refused standing has all five figures 0
+module _ (piece : List ℕ) (place : ℕ) where
+  -- Bytes are too few (refusal 2) exactly when some are left, but not as many as the second mark byte asks for. Where one byte
+  -- is left there is no second mark byte: 0 stands for it, and six bytes are asked for.
+  pub too-few-exactly-when : (foundAt piece place ≡ TooFew → (place < length piece) × (length piece < place + sizeOf (getD piece (place + 1) 0)))
+      × ((place < length piece) × (length piece < place + sizeOf (getD piece (place + 1) 0)) → foundAt piece place ≡ TooFew)
+  too-few-exactly-when = (cut-at piece place, λ h. at-cut piece place (h .0) (h .1))
+
+  -- What is found at a place then names 2, ..
+  pub found-names-2 : foundAt piece place ≡ TooFew → numberFound (foundAt piece place) ≡ 2
+  found-names-2 e = ap numberFound e
+
+  -- .. and so does what the reader gives there; ..
+  pub reader-names-2 : foundAt piece place ≡ TooFew → numberOf (readAt piece place) ≡ 2
+  unfolding readAt readOf
+  reader-names-2 e = ap (λ f. numberOf (readOf f)) e
+
+  -- .. for a whole record it names the first of 4, 5, 6 that applies, or 0.
+  pub reader-names-the-number : (r : Record) (next : ℕ) → foundAt piece place ≡ Whole r next → numberOf (readAt piece place) ≡ faultOf r
+  unfolding readAt readOf judged
+  reader-names-the-number r next e = ap (λ f. numberOf (readOf f)) e ∙ by (faultOf r)
+    where
+      by : (n : ℕ) → numberOf (unlessRefused n (Good r next) (λ m. Bad m (r .serial) (r .code) (r .account) next)) ≡ n
+      by zero = refl
+      by (suc n) = refl
+
+-- The writer's answer names the first of 4, 5, 6 and 15 that applies, or 0.
+pub writer-names-the-number : (r : Record) (room : List ℕ) → refusalWrote (wroteOf r room) ≡ writerRefusal r room
+writer-names-the-number = wrote-refusal
+
+-- A writer that refuses leaves its room untouched.
+pub refused-writer-leaves-room : (r : Record) (room : List ℕ) (n : ℕ) → wroteOf r room ≡ NotWritten n → roomAfter r room ≡ room
+refused-writer-leaves-room = writer-leaves
+
+-- A standing names the first of 1 and 7 that applies, or 0.
+pub standing-names-the-number : (b : Book) (account : ℕ) → standingOf b account .refusal ≡ standingRefusal b account
+standing-names-the-number = standing-number
+
+-- A refused standing has all five figures 0.
 pub refused-standing-is-zero : (b : Book) (account n : ℕ) → standingRefusal b account ≡ suc n → standingOf b account ≡ noFigures (suc n)
 unfolding standingOf
-refused-standing-is-zero b account n e = ap (λ k. answered k (figuresOf (view b) account)) e
+refused-standing-is-zero b account n e = ap (λ k. unlessRefused k (figuresOf (view b) account) noFigures) e
 
--- a refused close-out gives a total of 0 and leaves its room untouched
-pub refused-close-out-totals-0 : (b : Book) (ls room : List ℕ) (n : ℕ) → losses.refusalOf b ls room ≡ suc n → closedOf b ls room .total ≡ 0
-refused-close-out-totals-0 = refused-total
+module _ (b : Book) (losses room : List ℕ) where
+  -- A close-out names the first of 1, 15 and 16 that applies, or 0.
+  pub close-out-names-the-number : closedOf b losses room .refusal ≡ closeOutRefusal b losses room
+  unfolding closedOf
+  close-out-names-the-number = by (closeOutRefusal b losses room)
+    where
+      by : (n : ℕ) → unlessRefused n (record { refusal = 0; total = total (view b) (lossAt losses) }) noTotal .refusal ≡ n
+      by zero = refl
+      by (suc n) = refl
 
-pub refused-close-out-leaves-room : (b : Book) (ls room : List ℕ) (n : ℕ) → losses.refusalOf b ls room ≡ suc n → roomOf b ls room ≡ room
-refused-close-out-leaves-room = refused-untouched
+  -- A refused close-out gives a total of 0.
+  pub refused-close-out-totals-0 : (n : ℕ) → closeOutRefusal b losses room ≡ suc n → closedOf b losses room .total ≡ 0
+  refused-close-out-totals-0 = refused-total b losses room
+
+  -- A refused close-out leaves its room untouched.
+  pub refused-close-out-leaves-room : (n : ℕ) → closeOutRefusal b losses room ≡ suc n → roomOf b losses room ≡ room
+  refused-close-out-leaves-room = refused-untouched b losses room
+
+-- "in its order": a number other than 0 is given exactly when its test holds and no earlier line's does. For a record:
+-- `given-exactly-when` of DemandTwo.
+abbrev InOrder : ℕ → ℕ → List Line → Type 0
+InOrder given k table = (given ≡ k → Given k table) × (Given k table → given ≡ k)
+
+in-order : (table : List Line) (k : ℕ) → 0 < k → InOrder (first table) k table
+in-order table k p = (first-given table k p, given-first)
+
+-- A standing's 1 and 7.
+pub standing-in-its-order : (b : Book) (account k : ℕ) → 0 < k → InOrder (standingRefusal b account) k (standingRefusals b account)
+unfolding standingRefusal
+standing-in-its-order b account = in-order (standingRefusals b account)
+
+-- The reader's 4, 5 and 6.
+pub reader-in-its-order : (r : Record) (k : ℕ) → 0 < k → InOrder (faultOf r) k (faults r)
+unfolding faultOf
+reader-in-its-order r = in-order (faults r)
+
+-- The writer's 4, 5, 6 and 15.
+pub writer-in-its-order : (r : Record) (room : List ℕ) (k : ℕ) → 0 < k → InOrder (writerRefusal r room) k (writerRefusals r room)
+unfolding writerRefusal
+writer-in-its-order r room = in-order (writerRefusals r room)
+
+-- The close-out's 1, 15 (losses, then room) and 16.
+pub close-out-in-its-order : (b : Book) (losses room : List ℕ) (k : ℕ) → 0 < k → InOrder (closeOutRefusal b losses room) k (closeOutRefusals b losses room)
+unfolding closeOutRefusal
+close-out-in-its-order b losses room = in-order (closeOutRefusals b losses room)

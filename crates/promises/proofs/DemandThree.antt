@@ -2,65 +2,99 @@
 -- fund's bound.
 use mathlib.Core.Bool.{true}
 use mathlib.Core.List.{List}
-use mathlib.Core.Path.{_≡_}
-use Prim.Native.Nat.{ℕ, _+_, _*_, _≤_, _<_, min}
-use lib.ListN.{getD}
-use Rattle.sums.specs.Sum.{sum}
+use mathlib.Core.Logic.{_⊎_, inl, inr}
+use mathlib.Core.Path.{_≡_, sym, ap, _∙_}
+use Prim.Native.Nat.{ℕ, _+_, _≤_, _<_, min}
+use native.Mathlib.Omega.{arith}
+use Rattle.sums.specs.Sum.{sum, only}
+use Rattle.sums.proofs.Sums.{sum-zero, only-zero}
 use Rattle.rows.specs.declared.Book.{Book}
-use Rattle.rows.specs.View.{ofClients}
+use Rattle.rows.specs.View.{isClientOf, ofClients}
 use Rattle.rows.specs.Rows.{rowAt, collateral, view, freshBook}
-use Rattle.book.specs.Sound.{soundB, Sound}
-use Rattle.book.proofs.FreshSound.{fresh-sound, fresh-test}
+use Rattle.book.specs.Sound.{soundB}
+use Rattle.book.specs.Facts.{Sound}
+use Rattle.book.proofs.BySort.{client-sort, client-tm}
+use Rattle.book.proofs.FreshSound.{fresh-sound}
 use Rattle.book.proofs.SoundTest.{sound→, sound←}
 use Rattle.dayfile.specs.declared.Record.{Record}
-use Rattle.desk.specs.Steps.{stepOf}
+use Rattle.desk.specs.Steps.{stepOf, nextOf}
 use Rattle.run.specs.Runs.{ranOf}
-use Rattle.run.proofs.SoundRun.{step-sound, ran-keeps}
-use Rattle.closeout.specs.Columns.{own, fromTM, fromCM, total, beyond}
-use Rattle.closeout.specs.Closing.{lossAt, refusalOf, closedOf, roomOf}
-use Rattle.closeout.proofs.Fund.{fund, fund-within}
+use Rattle.run.proofs.SoundRun.{step-sound, next-sound, ran-keeps}
+use Rattle.closeout.specs.Columns.{own, fromTM, fromCM}
+use Rattle.closeout.specs.Bound.{beyond, cellOf}
+use Rattle.closeout.specs.Closing.{lossAt, closeOutRefusal, closedOf}
+use Rattle.closeout.proofs.Fund.{fund-within}
 use Rattle.closeout.proofs.Limits.{TM-pays, CM-pays}
 use Rattle.closeout.proofs.Carried.{carried-sound, carried-total, carried-own, own-paid-alone, total-bound}
 use Rattle.promises.specs.Sequences.{afterAll}
 use Rattle.promises.proofs.Quick.{all-sound}
 
--- the test of refusal 1 holds exactly of a sound book
+-- The test of refusal 1 holds exactly of a sound book.
 pub sound-exactly : (b : Book) → (soundB b ≡ true → Sound b) × (Sound b → soundB b ≡ true)
 sound-exactly b = (sound→ b, sound← b)
 
--- every record, carried out or refused, leaves a sound book sound
-pub every-record : (b : Book) (r : Record) → Sound b → Sound (stepOf b r .book)
-every-record = step-sound
+-- Every record, carried out or refused, leaves a sound book sound.
+pub every-record : (b : Book) (r : Record) → soundB b ≡ true → soundB (stepOf b r .book) ≡ true
+every-record b r e = sound← (stepOf b r .book) (step-sound b r (sound→ b e))
 
--- every sequence of records from a fresh book leaves a sound book, handed over as values ..
-pub every-sequence : (rs : List Record) → Sound (afterAll freshBook rs)
-every-sequence rs = all-sound freshBook rs fresh-sound
+-- So does whatever bytes stand at a place of a piece: a record, too few bytes, or none.
+pub every-place : (b : Book) (piece : List ℕ) (place : ℕ) → soundB b ≡ true → soundB (nextOf b piece place .book) ≡ true
+every-place b piece place e = sound← (nextOf b piece place .book) (next-sound b piece place (sound→ b e))
 
--- .. or as any bytes at all
-pub any-bytes : (piece : List ℕ) (most : ℕ) → Sound (ranOf freshBook piece most .book)
-any-bytes piece most = ran-keeps freshBook piece most fresh-sound
+-- Every sequence of records from a fresh book leaves a sound book, handed over as values ..
+pub every-sequence : (rs : List Record) → soundB (afterAll freshBook rs) ≡ true
+every-sequence rs = sound← (afterAll freshBook rs) (all-sound freshBook rs fresh-sound)
 
-module _ (b : Book) (losses room : List ℕ) (carried : refusalOf b losses room ≡ 0) where
-  -- a client or CP pays exactly the lesser of own loss and own collateral (the first of its four amounts)
-  pub pays-the-lesser : (i : ℕ) → i < b .count → getD (roomOf b losses room) (4 * i) 0 ≡ min (lossAt losses i) (collateral (rowAt b i))
+-- .. or as any bytes at all.
+pub any-bytes : (piece : List ℕ) (most : ℕ) → soundB (ranOf freshBook piece most .book) ≡ true
+any-bytes piece most = sound← (ranOf freshBook piece most .book) (ran-keeps freshBook piece most fresh-sound)
+
+module _ (b : Book) (losses room : List ℕ) (carried : closeOutRefusal b losses room ≡ 0) where
+  -- Every account, so each client and CP, pays exactly the lesser of its own loss and its own collateral (the first of its four
+  -- amounts).
+  pub pays-the-lesser : (i : ℕ) → i < b .count → cellOf b losses room i 0 ≡ min (lossAt losses i) (collateral (rowAt b i))
   pays-the-lesser = carried-own b losses room carried
 
-  -- nobody's collateral pays more than there is
-  pub TM-pays-what-it-has : (t : ℕ) → own (view b) (lossAt losses) t + ofClients (view b) t (fromTM (view b) (lossAt losses)) ≤ collateral (rowAt b t)
-  TM-pays-what-it-has t = TM-pays (view b) (lossAt losses) t
+  -- Nobody else's loss is paid from the collateral of a client (sort 2) or a CP (sort 3): losses of others are paid from a TM's,
+  -- where they are its clients', and from the CM's. So a client or CP pays exactly that lesser and nothing else.
+  pub nobody-takes-from-a-client-or-CP : (i : ℕ) → (rowAt b i .sort ≡ 2) ⊎ (rowAt b i .sort ≡ 3)
+      → ofClients (view b) i (fromTM (view b) (lossAt losses)) ≡ 0
+  nobody-takes-from-a-client-or-CP i s =
+      sum-zero (b .count) (λ j. only (isClientOf (view b) i j) (fromTM (view b) (lossAt losses) j))
+      (λ j l. only-zero (isClientOf (view b) i j) (fromTM (view b) (lossAt losses) j) (λ q. absurd (no-client j l q s)))
+    where
+      no-client : (j : ℕ) → j < b .count → isClientOf (view b) i j ≡ true → (rowAt b i .sort ≡ 2) ⊎ (rowAt b i .sort ≡ 3) → ⊥
+      no-client j l q s =
+          let t = carried-sound b losses room carried .shaped .tms j l (client-sort (view b) i j q) .1 in
+          let k : rowAt b i .sort ≡ 1 = ap (λ n. rowAt b n .sort) (sym (client-tm (view b) i j q)) ∙ t in
+          none k s
+        where
+          none : rowAt b i .sort ≡ 1 → (rowAt b i .sort ≡ 2) ⊎ (rowAt b i .sort ≡ 3) → ⊥
+          none k (inl e) = omega arith
+          none k (inr e) = omega arith
 
-  -- if no loss passes its margin, the fund pays nothing
+  -- If no loss passes its margin, nothing is left uncovered, and the fund pays nothing.
   pub within-margins-the-fund-pays-nothing : ((i : ℕ) → i < b .count → lossAt losses i ≤ rowAt b i .margin) → closedOf b losses room .total ≡ 0
   within-margins-the-fund-pays-nothing h =
       let s = carried-sound b losses room carried in
       rw (carried-total b losses room carried) (fund-within (view b) (s .shaped) (lossAt losses) (s .covered) h)
 
--- however others stand: two close-outs that agree on one account's loss and collateral have it pay the same
-pub however-others-stand : (b c : Book) (losses others room space : List ℕ) → refusalOf b losses room ≡ 0 → refusalOf c others space ≡ 0 → (i : ℕ)
-    → i < b .count → i < c .count → lossAt losses i ≡ lossAt others i → collateral (rowAt b i) ≡ collateral (rowAt c i)
-    → getD (roomOf b losses room) (4 * i) 0 ≡ getD (roomOf c others space) (4 * i) 0
+-- However others stand: two close-outs that agree on one account's loss and collateral have it pay the same.
+pub however-others-stand : (b b′ : Book) (losses losses′ room room′ : List ℕ) → closeOutRefusal b losses room ≡ 0 → closeOutRefusal b′ losses′ room′ ≡ 0
+    → (i : ℕ) → i < b .count → i < b′ .count → lossAt losses i ≡ lossAt losses′ i → collateral (rowAt b i) ≡ collateral (rowAt b′ i)
+    → cellOf b losses room i 0 ≡ cellOf b′ losses′ room′ i 0
 however-others-stand = own-paid-alone
 
--- the fund pays at most the losses beyond margins
+-- Nobody's collateral pays more than there is, for any book and any losses: a TM's pays its own loss and its clients', ..
+pub TM-pays-what-it-has : (b : Book) (losses : List ℕ) (t : ℕ)
+    → own (view b) (lossAt losses) t + ofClients (view b) t (fromTM (view b) (lossAt losses)) ≤ collateral (rowAt b t)
+TM-pays-what-it-has b losses t = TM-pays (view b) (lossAt losses) t
+
+-- .. and the CM's pays its own loss and all others'.
+pub CM-pays-what-it-has : (b : Book) (losses : List ℕ)
+    → own (view b) (lossAt losses) 0 + sum (b .count) (fromCM (view b) (lossAt losses)) ≤ collateral (rowAt b 0)
+CM-pays-what-it-has b losses = CM-pays (view b) (lossAt losses)
+
+-- What is left uncovered, which the fund pays, is at most the losses beyond the margins.
 pub the-fund-pays-at-most : (b : Book) (losses room : List ℕ) → closedOf b losses room .total ≤ sum (b .count) (beyond (view b) (lossAt losses))
 the-fund-pays-at-most = total-bound

@@ -1,19 +1,21 @@
 -- Document 01, 'Figures to hold against it': P1 to P11, in paise, by records carried out from a fresh book.
 use mathlib.Core.List.{List, [], _∷_, _++_}
-use Prim.Native.Nat.{ℕ, zero, suc, _+_}
-use lib.ListN.{getD, replicate}
-use Rattle.rows.specs.declared.Kinds.{Kinds}
+use Prim.Native.Nat.{ℕ, _+_}
+use lib.ListN.{replicate, take, drop}
 use Rattle.rows.specs.declared.Book.{Book}
 use Rattle.rows.specs.View.{blocked, deemed}
-use Rattle.rows.specs.Rows.{noKinds, view}
+use Rattle.rows.specs.Rows.{noKinds, view, freshBook}
 use Rattle.dayfile.specs.declared.Record.{Record}
 use Rattle.dayfile.specs.Reading.{sizeOf}
 use Rattle.desk.specs.Answers.{refusalIn}
 use Rattle.desk.specs.declared.Done.{Done}
 use Rattle.desk.specs.declared.Next.{Next}
-use Rattle.closeout.specs.Columns.{four, total, beyond}
-use Rattle.closeout.specs.Closing.{lossAt}
+use Rattle.desk.specs.Steps.{stepOf, nextOf}
+use Rattle.closeout.specs.declared.Closed.{Closed}
+use Rattle.closeout.specs.Bound.{beyond}
+use Rattle.closeout.specs.Closing.{lossAt, closedOf, roomOf}
 use Rattle.sums.specs.Sum.{sum}
+use Rattle.promises.specs.Sequences.{afterAll}
 
 -- records: openings name the CM or the TM; receive, allocate and release of cash; a margin
 abbrev opening : ℕ → ℕ → ℕ → Record
@@ -73,47 +75,58 @@ each f = f 0 ∷ f 1 ∷ f 2 ∷ f 3 ∷ []
 abbrev full : ℕ → List ℕ
 full n = 4 ∷ 255 ∷ replicate n 0
 
--- by a way to carry out: the book after records from a fresh book, one record more after them, and what stands at the
--- start of some bytes at a fresh book
-module _ (after : List Record → Book) (more : List Record → Record → Done) (read : List ℕ → Next) where
-  abbrev blockedAfter : List Record → List ℕ
-  blockedAfter rs = each (blocked (view (after rs)))
+-- by a way to carry out: the book after records from a fresh book; one record more after them; what stands at the start of some
+-- bytes at a fresh book; and of a close-out after those records, with losses and a room, the answer and the room then
+module _
+    (after : List Record → Book) (more : List Record → Record → Done) (read : List ℕ → Next)
+    (closed : List Record → List ℕ → List ℕ → Closed) (filled : List Record → List ℕ → List ℕ → List ℕ)
+  where
+    abbrev blockedAfter : List Record → List ℕ
+    blockedAfter rs = each (blocked (view (after rs)))
 
-  abbrev deemedAfter : List Record → List ℕ
-  deemedAfter rs = each (deemed (view (after rs)))
+    abbrev deemedAfter : List Record → List ℕ
+    deemedAfter rs = each (deemed (view (after rs)))
 
-  -- the refusal, or 0, of one record more
-  abbrev refusalAfter : List Record → Record → List ℕ
-  refusalAfter rs r = refusalIn (more rs r .answer .outcome) ∷ []
+    -- the refusal, or 0, of one record more
+    abbrev refusalAfter : List Record → Record → List ℕ
+    refusalAfter rs r = refusalIn (more rs r .answer .outcome) ∷ []
 
-  -- a close-out's four amounts for A and for B, the total, and the losses beyond margins
-  abbrev closedAfter : List Record → List ℕ → List ℕ
-  closedAfter rs losses =
-      let v = view (after rs) in
-      four v (lossAt losses) 2 ++ (four v (lossAt losses) 3 ++ (total v (lossAt losses) ∷ sum (v .count) (beyond v (lossAt losses)) ∷ []))
+    -- a close-out of the four accounts into a room of 16 zeros: its refusal, or 0; out of the room the four amounts of A and of B,
+    -- accounts 2 and 3; the total; and the losses beyond margins
+    abbrev closedAfter : List Record → List ℕ → List ℕ
+    closedAfter rs losses =
+        closed rs losses (replicate 16 0) .refusal
+        ∷ (take 8 (drop 8 (filled rs losses (replicate 16 0)))
+        ++ (closed rs losses (replicate 16 0) .total ∷ sum (after rs .count) (beyond (view (after rs)) (lossAt losses)) ∷ []))
 
-  abbrev refusalRead : List ℕ → List ℕ
-  refusalRead s = refusalIn (read s .answer .outcome) ∷ []
+    abbrev refusalRead : List ℕ → List ℕ
+    refusalRead s = refusalIn (read s .answer .outcome) ∷ []
 
-  unfoldable pub cases : List (List ℕ)
-  cases =
-      blockedAfter atP1
-      ∷ blockedAfter atP2
-      ∷ blockedAfter atP3
-      ∷ blockedAfter atP4
-      ∷ deemedAfter atP4
-      ∷ refusalAfter atP4 (margin 15 3 150000)
-      ∷ blockedAfter atP5
-      ∷ refusalAfter atP4 (margin 15 3 150001)
-      ∷ closedAfter atP4 (0 ∷ 0 ∷ 60000 ∷ 90000 ∷ [])
-      ∷ closedAfter atP4 (0 ∷ 0 ∷ 120000 ∷ 120000 ∷ [])
-      ∷ refusalAfter atP1 (cash 12 7 3 20000)
-      ∷ refusalAfter atP1 (cash 12 7 3 20001)
-      ∷ refusalAfter atP1 (margin 12 2 0)
-      ∷ (sizeOf 255 ∷ [])
-      ∷ refusalRead (full 67)
-      ∷ refusalRead (full 68)
-      ∷ []
+    unfoldable pub cases : List (List ℕ)
+    cases =
+        blockedAfter atP1  -- P1
+        ∷ blockedAfter atP2  -- P2
+        ∷ blockedAfter atP3  -- P3
+        ∷ blockedAfter atP4  -- P4
+        ∷ deemedAfter atP4  -- P4
+        ∷ refusalAfter atP4 (margin 15 3 150000)  -- P5
+        ∷ blockedAfter atP5  -- P5
+        ∷ refusalAfter atP4 (margin 15 3 150001)  -- P6
+        ∷ closedAfter atP4 (0 ∷ 0 ∷ 60000 ∷ 90000 ∷ [])  -- P7
+        ∷ closedAfter atP4 (0 ∷ 0 ∷ 120000 ∷ 120000 ∷ [])  -- P8
+        ∷ refusalAfter atP1 (cash 12 7 3 20000)  -- P9
+        ∷ refusalAfter atP1 (cash 12 7 3 20001)  -- P9
+        ∷ refusalAfter atP1 (margin 12 2 0)  -- P10
+        ∷ (sizeOf 255 ∷ [])  -- P11
+        ∷ refusalRead (full 67)  -- P11
+        ∷ refusalRead (full 68)  -- P11
+        ∷ []
+
+-- the way of the rules
+unfoldable pub casesByTheRules : List (List ℕ)
+casesByTheRules =
+    cases (afterAll freshBook) (λ rs r. stepOf (afterAll freshBook rs) r) (λ s. nextOf freshBook s 0)
+    (λ rs losses room. closedOf (afterAll freshBook rs) losses room) (λ rs losses room. roomOf (afterAll freshBook rs) losses room)
 
 unfoldable pub expected : List (List ℕ)
 expected =
@@ -125,8 +138,8 @@ expected =
     ∷ (0 ∷ [])  -- P5: carried out
     ∷ (100000 ∷ 50000 ∷ 30000 ∷ 30000 ∷ [])  -- P5: CM blocked 1000
     ∷ (13 ∷ [])  -- P6: B's 1500.01 instead: 13
-    ∷ (30000 ∷ 30000 ∷ 0 ∷ 0 ∷ 30000 ∷ 20000 ∷ 40000 ∷ 0 ∷ 0 ∷ 0 ∷ [])  -- P7: A 300, 300, 0, 0; B 300, 200, 400, 0
-    ∷ (30000 ∷ 50000 ∷ 40000 ∷ 0 ∷ 30000 ∷ 0 ∷ 60000 ∷ 30000 ∷ 30000 ∷ 90000 ∷ [])  -- P8: A 300, 500, 400, 0; B 300, 0, 600, 300; bound 900
+    ∷ (0 ∷ 30000 ∷ 30000 ∷ 0 ∷ 0 ∷ 30000 ∷ 20000 ∷ 40000 ∷ 0 ∷ 0 ∷ 0 ∷ [])  -- P7: not refused; A 300, 300, 0, 0; B 300, 200, 400, 0
+    ∷ (0 ∷ 30000 ∷ 50000 ∷ 40000 ∷ 0 ∷ 30000 ∷ 0 ∷ 60000 ∷ 30000 ∷ 30000 ∷ 90000 ∷ [])  -- P8: A 300, 500, 400, 0; B 300, 0, 600, 300; total 300, bound 900
     ∷ (0 ∷ [])  -- P9: B may release 200
     ∷ (12 ∷ [])  -- P9: and not 200.01
     ∷ (0 ∷ [])  -- P10: margin 0 where it is 0 already: carried out

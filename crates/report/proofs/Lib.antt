@@ -1,1 +1,4 @@
-pub mod Fronts
+pub mod Puts
+pub mod Digits
+pub mod Listed
+pub mod Example

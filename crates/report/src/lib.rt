@@ -1,54 +1,70 @@
-// What the programs print behind the records' lines.
-mod line;
-
+// What the programs print behind the records' lines: each text is made in a room and then handed over at once.
+ghost use mathlib.Core.Path.{_≡_};
+ghost use Prim.Native.Nat.{min};
+ghost use lib.ListN.{length};
+ghost use Rattle.lines.specs.Lines.{closingLineOf};
+ghost use Rattle.sums.specs.Room.{over};
+ghost use Rattle.report.specs.Reports.{accounts as Reports·accounts, standingsText, closeOutText};
 use libc::STDOUT_FILENO;
-pub use line::Line;
 use rows::Book;
-use rows::Row;
 use run::Closing;
 
-// "and says which: `end`, `cut` or `long`, then records read .. and records carried out"
-pub fn closing(word: Closing, read: u64, done: u64) {
+mod loss;
+mod put;
+mod standing;
+
+fn lesser(a: usize, b: usize) -> usize
+    ensures { λ n. ⌜ n ≡ min a b ⌝ }
+{
+    if a < b { a } else { b }
+}
+
+// How many accounts are listed.
+fn accounts(count: usize) -> usize
+    ensures { λ n. ⌜ n ≡ Reports·accounts count ⌝ }
+{
+    lesser(count, 256)
+}
+
+// The lines of all accounts' standings: how long they are, and the lines in the room.
+pub fn standings_text(b: Book, room: &mut [u8; 65536]) -> usize
+    ensures { λ n. ⌜ n ≡ length (standingsText b) ⌝ }
+    ensures { λ _. ⌜ now (room .exit) ≡ over (standingsText b) (now (room .entry)) ⌝ }
+{
+    let n = accounts(b.count as usize);
+    standing::put_standings(room, b, n)
+}
+
+// The lines of a close-out: how long they are, and the lines in the room.
+pub fn close_out_text(
+    refusal: u8,
+    total: u64,
+    losses: &[u64],
+    amounts: &[u64],
+    room: &mut [u8; 65536],
+) -> usize
+    ensures { λ n. ⌜ n ≡ length (closeOutText refusal total (now (losses .entry)) (now (amounts .entry))) ⌝ }
+    ensures { λ _. ⌜ now (room .exit) ≡ over (closeOutText refusal total (now (losses .entry)) (now (amounts .entry))) (now (room .entry)) ⌝ }
+{
+    loss::put_close_out(room, refusal, total, losses, amounts)
+}
+
+// Prints the closing line, and gives its length: "`end`, `cut` or `long`, then records read .. and records carried out".
+pub fn closing(word: Closing, read: u64, done: u64) -> usize
+    ensures { λ n. ⌜ n ≡ length (closingLineOf word read done) ⌝ }
+{
     let mut room = [0u8; 64];
     let n = lines::closing_line(word, read, done, &mut room);
     io::write_all(STDOUT_FILENO, &room[..n]);
+    n
 }
 
-fn sort(line: Line, code: u8) -> Line {
-    match code {
-        0 => line.text(b" cm"),
-        1 => line.text(b" tm"),
-        2 => line.text(b" client"),
-        _ => line.text(b" cp"),
-    }
-}
-
-fn state(line: Line, live: bool) -> Line {
-    if live {
-        line.text(b" live ")
-    } else {
-        line.text(b" retired ")
-    }
-}
-
-// Number, sort, state and TM of an account, and its standing.
-fn account(b: Book, i: u16, r: Row) {
-    let f = book::standing(b, i);
-    let named = state(sort(Line::new().number(i as u64), r.code), r.live);
-    let placed = named.number(r.tm as u64).text(b" ");
-    let needed = placed.number(f.collateral).text(b" ").number(f.need);
-    let blocked = needed.text(b" ").number(f.blocked).text(b" ");
-    let whole = blocked.number(f.deemed).text(b" ").number(f.free);
-    whole.text(b"\n").write();
-}
-
-// A line for each number given.
-pub fn standings(b: Book) {
-    let mut i: usize = 0;
-    while i < 256 {
-        if i < b.count as usize {
-            account(b, i as u16, b.rows[i]);
-        }
-        i += 1;
-    }
+// Prints the lines of all accounts' standings, and gives their length.
+pub fn standings(b: Book) -> usize
+    ensures { λ n. ⌜ n ≡ length (standingsText b) ⌝ }
+{
+    let mut room = [0u8; 65536];
+    let n = standings_text(b, &mut room);
+    io::write_all(STDOUT_FILENO, &room[..n]);
+    n
 }

@@ -2,7 +2,7 @@
 use mathlib.Core.Path.{_≡_, refl, sym, ap, _∙_}
 use mathlib.Core.Bool.{Bool, true, false, _&&_, and-false}
 use mathlib.Core.List.{List}
-use Prim.Native.Nat.{ℕ, _+_, _-_, _*_, _≤_, _<_, min}
+use Prim.Native.Nat.{ℕ, _+_, _-_, _*_, _≤_, _<_}
 use native.Mathlib.Omega.{arith}
 use native.Mathlib.Decide.{decLt, ℕ-discrete}
 use lib.Dec.{eqb, ltb}
@@ -16,7 +16,7 @@ use Rattle.rows.specs.declared.Row.{Row}
 use Rattle.rows.specs.declared.Book.{Book}
 use Rattle.rows.specs.View.{View, isCM, isTM, isClientOf, ownDeemed, deemedOf, freeOf, deemedTM, needTM, needCM, need, members, free}
 use Rattle.rows.specs.Rows.{ceiling, collateral, rowAt, view}
-use Rattle.rows.specs.Ranges.{InRange}
+use Rattle.rows.specs.Facts.{InRange}
 use Rattle.rows.specs.Inner.{Ranged, Slot, clientDue, memberDue, clientsBelow, membersBelow, underTM, underCM}
 
 pub clients-none : (v : View) (t : ℕ) → clientsBelow v t 0 ≡ 0
@@ -38,15 +38,15 @@ unfolding membersBelow clientsBelow needTM
 members-step b n = sum-step n (members (view b) (deemedTM (view b)) (ownDeemed (view b)))
 
 pub due-most : (r : Row) → InRange r → clientDue r ≤ ceiling
-due-most r h = omega (arith, only-most (eqb (r .code) 2 && ltb (r .tm) 256) (deemedOf (r .margin) (collateral r)), h .margin)
+due-most r h = omega (arith, only-most (eqb (r .sort) 2 && ltb (r .tm) 256) (deemedOf (r .margin) (collateral r)), h .margin)
 
 -- of a row in range, no more than its margin twice and what its clients are deemed
 pub member-most : (r : Row) (d : ℕ) → InRange r → memberDue r d ≤ 2 * ceiling + d
 member-most r d h =
     omega (
       arith,
-      only-most (eqb (r .code) 1) (deemedOf (r .margin + d) (collateral r)),
-      only-most (eqb (r .code) 3) (deemedOf (r .margin) (collateral r)),
+      only-most (eqb (r .sort) 1) (deemedOf (r .margin + d) (collateral r)),
+      only-most (eqb (r .sort) 3) (deemedOf (r .margin) (collateral r)),
       h .margin,
     )
 
@@ -87,12 +87,12 @@ unfolding needTM clientsBelow
 need-tm-sum b t = refl
 
 -- "for a client or CP, its margin"
-pub need-own : (v : View) (i : ℕ) → 1 < v .code i → need v i ≡ v .margin i
+pub need-own : (v : View) (i : ℕ) → 1 < v .sort i → need v i ≡ v .margin i
 unfolding need
 need-own v i l =
-    pick-no (isCM v i) _ _ (ne-eqb (v .code i) 0 (λ e. omega arith)) ∙ pick-no (isTM v i) _ _ (ne-eqb (v .code i) 1 (λ e. omega arith))
+    pick-no (isCM v i) _ _ (ne-eqb (v .sort i) 0 (λ e. omega arith)) ∙ pick-no (isTM v i) _ _ (ne-eqb (v .sort i) 1 (λ e. omega arith))
 
-pub free-own : (v : View) (i : ℕ) → 1 < v .code i → free v i ≡ freeOf (v .margin i) (v .collateral i)
+pub free-own : (v : View) (i : ℕ) → 1 < v .sort i → free v i ≡ freeOf (v .margin i) (v .collateral i)
 free-own v i l = ap (λ (n : ℕ). freeOf n (v .collateral i)) (need-own v i l)
 
 -- one place of a list has d more
@@ -109,7 +109,7 @@ only-none false = refl
 
 -- at each place of the table, what a client of it is deemed is what the row adds there
 pub due-at : (r : Row) (s t : ℕ) → t < 256 → Slot r s
-    → only (eqb (r .code) 2 && eqb (r .tm) t) (deemedOf (r .margin) (collateral r)) ≡ only (eqb s t) (clientDue r)
+    → only (eqb (r .sort) 2 && eqb (r .tm) t) (deemedOf (r .margin) (collateral r)) ≡ only (eqb s t) (clientDue r)
 due-at r s t l slot = by (decLt (r .tm) 256)
   where
     x : ℕ
@@ -119,8 +119,8 @@ due-at r s t l slot = by (decLt (r .tm) 256)
     apart true = refl
     apart false = sym (only-none (eqb (r .tm) t))
 
-    by : Dec (r .tm < 256) → only (eqb (r .code) 2 && eqb (r .tm) t) x ≡ only (eqb s t) (clientDue r)
-    by (yes p) = rw (slot .named p, lt-ltb (r .tm) 256 p) (apart (eqb (r .code) 2))
+    by : Dec (r .tm < 256) → only (eqb (r .sort) 2 && eqb (r .tm) t) x ≡ only (eqb s t) (clientDue r)
+    by (yes p) = rw (slot .named p, lt-ltb (r .tm) 256 p) (apart (eqb (r .sort) 2))
     by (no p) =
         let far : 256 ≤ r .tm = omega arith in
         let other : eqb (r .tm) t ≡ false = ne-eqb (r .tm) t (λ q. omega arith) in

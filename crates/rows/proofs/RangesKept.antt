@@ -1,15 +1,14 @@
 -- What becomes of the ranges where one row of a book is put anew, and one place of a list.
-use mathlib.Core.Path.{_≡_, refl, sym, subst, _∙_}
-use mathlib.Core.List.{List}
-use Prim.Native.Nat.{ℕ, _+_, _≤_, _<_}
+use mathlib.Core.Path.{_≡_, _∙_}
+use Prim.Native.Nat.{ℕ, _≤_, _<_}
 use native.Mathlib.Omega.{arith}
-use native.Mathlib.Decide.{ℕ-discrete, decLt}
-use lib.ListN.{length, getD, set, length-set}
+use native.Mathlib.Decide.{ℕ-discrete}
+use lib.ListN.{length-set}
 use lib.Seq.{getD-set-same, getD-set-other}
 use Rattle.rows.specs.declared.Row.{Row}
 use Rattle.rows.specs.declared.Book.{Book}
 use Rattle.rows.specs.Rows.{ceiling, noRow, rowAt, withMargin, withRow}
-use Rattle.rows.specs.Ranges.{InRange}
+use Rattle.rows.specs.Facts.{InRange}
 use Rattle.rows.specs.Inner.{Ranged}
 
 pub row-ranged : (b : Book) (i : ℕ) (r : Row) → Ranged b → i < b .count → InRange r → Ranged (withRow b i r)
@@ -25,12 +24,3 @@ margin-ranged b i m h l c =
     let old = h .ranges i l in
     row-ranged b i (withMargin (rowAt b i) m) h l
     (record { received = old .received; allocated = old .allocated; pledged = old .pledged; margin = c })
-
--- one more place of a list filled by a rule
-pub set-below : (l : List ℕ) (i v : ℕ) (f : ℕ → ℕ) → i < length l → ((k : ℕ) → k < i → getD l k 0 ≡ f k) → v ≡ f i
-    → (k : ℕ) → k < i + 1 → getD (set l i v) k 0 ≡ f k
-set-below l i v f h old new k m = by (ℕ-discrete k i)
-  where
-    by : Dec (k ≡ i) → getD (set l i v) k 0 ≡ f k
-    by (yes e) = rw e (getD-set-same l i v 0 h ∙ new)
-    by (no e) = getD-set-other l i k v 0 e ∙ old k (omega arith)

@@ -10,7 +10,7 @@ use Rattle.rows.specs.declared.Row.{Row}
 use Rattle.rows.specs.declared.Book.{Book}
 use Rattle.rows.specs.View.{View, isClientOf, ownDeemed, deemedTM, deemedOf, members}
 use Rattle.rows.specs.Rows.{rowAt, collateral, view}
-use Rattle.rows.specs.Ranges.{InRange}
+use Rattle.rows.specs.Facts.{InRange}
 
 -- what the sums need of a book so that none of them passes a word: part of `Sound`
 pub record Ranged (b : Book) : Type 0 where
@@ -25,11 +25,11 @@ pub record Slot (r : Row) (s : ℕ) : Type 0 where
 
 -- what a row adds to the sum at that place
 abbrev pub clientDue : Row → ℕ
-clientDue r = only (eqb (r .code) 2 && ltb (r .tm) 256) (deemedOf (r .margin) (collateral r))
+clientDue r = only (eqb (r .sort) 2 && ltb (r .tm) 256) (deemedOf (r .margin) (collateral r))
 
 -- what a row adds to the CM's need, where its clients are deemed d
 abbrev pub memberDue : Row → ℕ → ℕ
-memberDue r d = only (eqb (r .code) 1) (deemedOf (r .margin + d) (collateral r)) + only (eqb (r .code) 3) (deemedOf (r .margin) (collateral r))
+memberDue r d = only (eqb (r .sort) 1) (deemedOf (r .margin + d) (collateral r)) + only (eqb (r .sort) 3) (deemedOf (r .margin) (collateral r))
 
 -- what t's clients with a number below n are deemed
 unfoldable pub clientsBelow : View → ℕ → ℕ → ℕ
@@ -43,11 +43,6 @@ membersBelow v n = sum n (members v (deemedTM v) (ownDeemed v))
 pub record Owed (b : Book) (owed : List ℕ) : Type 0 where
   pub size : length owed ≡ 256
   pub each : (t : ℕ) → t < 256 → getD owed t 0 ≡ clientsBelow (view b) t (b .count)
-
--- the list holds each row's collateral
-pub record Collaterals (b : Book) (list : List ℕ) : Type 0 where
-  pub size : length list ≡ 256
-  pub each : (i : ℕ) → i < 256 → getD list i 0 ≡ collateral (rowAt b i)
 
 -- the list holds what is deemed directly under each account: under the CM, what the TMs and CPs are
 pub record Unders (b : Book) (owed : List ℕ) : Type 0 where

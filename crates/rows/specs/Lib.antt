@@ -1,4 +1,5 @@
 pub mod View
 pub mod Rows
 pub mod Ranges
+pub mod Facts
 pub mod Inner

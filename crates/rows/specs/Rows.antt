@@ -1,10 +1,10 @@
 -- Document 01, 'Amounts and sizes': a book's rows, its view, and a fresh book.
-use mathlib.Core.Bool.{Bool, true, false, not, _&&_}
-use mathlib.Core.List.{List, _∷_}
+use mathlib.Core.Bool.{Bool, true, false, _&&_}
+use mathlib.Core.List.{_∷_}
 use Prim.Native.Nat.{ℕ, _+_, _-_}
-use lib.Dec.{eqb}
+use lib.Dec.{ltb}
 use lib.ListN.{getD, set, replicate}
-use Rattle.sums.specs.Sum.{all}
+use Rattle.sums.specs.Sum.{any}
 use Rattle.rows.specs.declared.Kinds.{Kinds}
 use Rattle.rows.specs.declared.Row.{Row}
 use Rattle.rows.specs.declared.Book.{Book}
@@ -14,16 +14,17 @@ use Rattle.rows.specs.View.{View, isClientOf}
 abbrev pub ceiling : ℕ
 ceiling = 10_000_000_000_000
 
+-- no amount of any kind
 abbrev pub noKinds : Kinds
 noKinds = record { cash = 0; deposits = 0; guarantees = 0; securities = 0 }
 
 -- all zero
 abbrev pub noRow : Row
-noRow = record { code = 0; live = false; tm = 0; received = noKinds; allocated = noKinds; pledged = 0; margin = 0 }
+noRow = record { sort = 0; live = false; tm = 0; received = noKinds; allocated = noKinds; pledged = 0; margin = 0 }
 
 -- "its row is live with all amounts 0": a row just opened
 abbrev pub openedRow : ℕ → ℕ → Row
-openedRow code tm = record { code = code; live = true; tm = tm; received = noKinds; allocated = noKinds; pledged = 0; margin = 0 }
+openedRow sort tm = record { sort = sort; live = true; tm = tm; received = noKinds; allocated = noKinds; pledged = 0; margin = 0 }
 
 -- "Receive adds to received; hand back takes from it": kind by kind
 abbrev pub plusKinds : Kinds → Kinds → Kinds
@@ -47,17 +48,18 @@ abbrev pub rowAt : Book → ℕ → Row
 rowAt b i = getD (b .rows) i noRow
 
 -- the kinds added up
-abbrev pub total : Kinds → ℕ
-total k = k .cash + k .deposits + k .guarantees + k .securities
+abbrev pub addedUp : Kinds → ℕ
+addedUp k = k .cash + k .deposits + k .guarantees + k .securities
 
 -- "Collateral is the sum of the four allocated amounts and pledged."
 abbrev pub collateral : Row → ℕ
-collateral r = total (r .allocated) + r .pledged
+collateral r = addedUp (r .allocated) + r .pledged
 
+-- a book as needs and the close-out see it
 abbrev pub view : Book → View
 view b = record {
   count = b .count;
-  code = λ i. rowAt b i .code;
+  sort = λ i. rowAt b i .sort;
   tm = λ i. rowAt b i .tm;
   collateral = λ i. collateral (rowAt b i);
   margin = λ i. rowAt b i .margin;
@@ -70,19 +72,19 @@ freshBook = record { count = 1; serial = 0; rows = openedRow 0 0 ∷ replicate 2
 
 -- A row with one of its words put anew.
 abbrev pub withLive : Row → Bool → Row
-withLive r x = record { code = r .code; live = x; tm = r .tm; received = r .received; allocated = r .allocated; pledged = r .pledged; margin = r .margin }
+withLive r x = record { sort = r .sort; live = x; tm = r .tm; received = r .received; allocated = r .allocated; pledged = r .pledged; margin = r .margin }
 
 abbrev pub withReceived : Row → Kinds → Row
-withReceived r x = record { code = r .code; live = r .live; tm = r .tm; received = x; allocated = r .allocated; pledged = r .pledged; margin = r .margin }
+withReceived r x = record { sort = r .sort; live = r .live; tm = r .tm; received = x; allocated = r .allocated; pledged = r .pledged; margin = r .margin }
 
 abbrev pub withAllocated : Row → Kinds → Row
-withAllocated r x = record { code = r .code; live = r .live; tm = r .tm; received = r .received; allocated = x; pledged = r .pledged; margin = r .margin }
+withAllocated r x = record { sort = r .sort; live = r .live; tm = r .tm; received = r .received; allocated = x; pledged = r .pledged; margin = r .margin }
 
 abbrev pub withPledged : Row → ℕ → Row
-withPledged r x = record { code = r .code; live = r .live; tm = r .tm; received = r .received; allocated = r .allocated; pledged = x; margin = r .margin }
+withPledged r x = record { sort = r .sort; live = r .live; tm = r .tm; received = r .received; allocated = r .allocated; pledged = x; margin = r .margin }
 
 abbrev pub withMargin : Row → ℕ → Row
-withMargin r x = record { code = r .code; live = r .live; tm = r .tm; received = r .received; allocated = r .allocated; pledged = r .pledged; margin = x }
+withMargin r x = record { sort = r .sort; live = r .live; tm = r .tm; received = r .received; allocated = r .allocated; pledged = r .pledged; margin = x }
 
 -- the book with row i put anew
 abbrev pub withRow : Book → ℕ → Row → Book
@@ -92,10 +94,14 @@ withRow b i r = record { count = b .count; serial = b .serial; rows = set (b .ro
 abbrev pub withNew : Book → Row → Book
 withNew b r = record { count = b .count + 1; serial = b .serial; rows = set (b .rows) (b .count) r }
 
+-- the account's number was given, and it is live
+abbrev pub isLive : Book → ℕ → Bool
+isLive b i = ltb i (b .count) && rowAt b i .live
+
 -- account i is a live client of account t
 abbrev pub isLiveClientOf : Book → ℕ → ℕ → Bool
 isLiveClientOf b t i = isClientOf (view b) t i && rowAt b i .live
 
--- "a TM with a live client": not every account is other than that
+-- "a TM with a live client"
 unfoldable pub hasLiveClient : Book → ℕ → Bool
-hasLiveClient b t = not (all (b .count) (λ i. not (isLiveClientOf b t i)))
+hasLiveClient b t = any (b .count) (isLiveClientOf b t)

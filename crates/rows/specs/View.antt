@@ -1,48 +1,46 @@
 -- Document 01, 'Standing and blocking': need, blocked, deemed and free, over a view of a book.
-use mathlib.Core.Path.{_≡_}
 use mathlib.Core.Bool.{Bool, _&&_}
-use mathlib.Core.Logic.{_⊎_}
-use Prim.Native.Nat.{ℕ, _+_, _-_, _≤_, _<_, min}
+use Prim.Native.Nat.{ℕ, _+_, _-_, min}
 use lib.Dec.{eqb}
 use Rattle.sums.specs.Sum.{sum, only}
 use Rattle.sums.specs.Choice.{pick}
 
--- What needs and the close-out see of a book: how many accounts, and each one's code, TM, collateral and margin.
+-- What needs and the close-out see of a book: how many accounts, and each one's sort, TM, collateral and margin.
 pub record View : Type 0 where
   pub count : ℕ
-  pub code : ℕ → ℕ
+  pub sort : ℕ → ℕ
   pub tm : ℕ → ℕ
   pub collateral : ℕ → ℕ
   pub margin : ℕ → ℕ
 
--- "Accounts are the CM's own, trading members' own (TM), clients under a TM, and custodial participants (CP)": by code.
+-- "Accounts are the CM's own, trading members' own (TM), clients under a TM, and custodial participants (CP)": by sort.
 abbrev pub isCM : View → ℕ → Bool
-isCM v i = eqb (v .code i) 0
+isCM v i = eqb (v .sort i) 0
 
 abbrev pub isTM : View → ℕ → Bool
-isTM v i = eqb (v .code i) 1
+isTM v i = eqb (v .sort i) 1
 
 abbrev pub isClient : View → ℕ → Bool
-isClient v i = eqb (v .code i) 2
+isClient v i = eqb (v .sort i) 2
 
 abbrev pub isCP : View → ℕ → Bool
-isCP v i = eqb (v .code i) 3
+isCP v i = eqb (v .sort i) 3
 
 -- account i is a client of account t
 abbrev pub isClientOf : View → ℕ → ℕ → Bool
 isClientOf v t i = isClient v i && eqb (v .tm i) t
 
--- "Blocked is the lesser of need and collateral."
+-- "Blocked is the lesser of need and collateral.": of a need n and collateral c
 abbrev pub blockedOf : ℕ → ℕ → ℕ
-blockedOf need collateral = min need collateral
+blockedOf n c = min n c
 
 -- "Deemed is need less blocked."
 abbrev pub deemedOf : ℕ → ℕ → ℕ
-deemedOf need collateral = need - blockedOf need collateral
+deemedOf n c = n - blockedOf n c
 
 -- "Free is collateral less blocked."
 abbrev pub freeOf : ℕ → ℕ → ℕ
-freeOf need collateral = collateral - blockedOf need collateral
+freeOf n c = c - blockedOf n c
 
 -- "Need: for a client or CP, its margin;": what a client or CP is deemed
 abbrev pub ownDeemed : View → ℕ → ℕ
@@ -56,6 +54,7 @@ ofClients v t f = sum (v .count) (λ i. only (isClientOf v t i) (f i))
 unfoldable pub needTM : View → ℕ → ℕ
 needTM v t = v .margin t + ofClients v t (ownDeemed v)
 
+-- what a TM is deemed
 abbrev pub deemedTM : View → ℕ → ℕ
 deemedTM v t = deemedOf (needTM v t) (v .collateral t)
 
@@ -67,9 +66,11 @@ members v f g i = only (isTM v i) (f i) + only (isCP v i) (g i)
 unfoldable pub needCM : View → ℕ
 needCM v = v .margin 0 + sum (v .count) (members v (deemedTM v) (ownDeemed v))
 
+-- an account's need, by its sort: the CM, a TM, and otherwise a client or CP
 unfoldable pub need : View → ℕ → ℕ
 need v i = pick (isCM v i) (needCM v) (pick (isTM v i) (needTM v i) (v .margin i))
 
+-- what of account i is blocked, deemed and free
 abbrev pub blocked : View → ℕ → ℕ
 blocked v i = blockedOf (need v i) (v .collateral i)
 
@@ -78,14 +79,3 @@ deemed v i = deemedOf (need v i) (v .collateral i)
 
 abbrev pub free : View → ℕ → ℕ
 free v i = freeOf (need v i) (v .collateral i)
-
--- "account 0 is the CM"; "Every other account is a TM, a CP, or a client whose TM is a lower-numbered TM row."
-pub record Shaped (v : View) : Type 0 where
-  pub some : 0 < v .count
-  pub top : v .code 0 ≡ 0
-  pub sorts : (i : ℕ) → 0 < i → i < v .count → (v .code i ≡ 1) ⊎ ((v .code i ≡ 2) ⊎ (v .code i ≡ 3))
-  pub tms : (i : ℕ) → i < v .count → v .code i ≡ 2 → (v .tm i < i) × (v .code (v .tm i) ≡ 1)
-
--- "The CM's need, defined below, is at most the CM's collateral."
-abbrev pub Covered : View → Type 0
-Covered v = needCM v ≤ v .collateral 0

@@ -1,18 +1,17 @@
 // What the crates above ask of a book that they know to be sound: internal, since each has a `requires`.
 ghost use mathlib.Core.Path.{_≡_};
-ghost use Prim.Native.Nat.{ℕ, _≤_, _<_};
+ghost use Prim.Native.Nat.{_≤_, _<_};
 ghost use lib.Dec.{leb};
 ghost use Rattle.rows.specs.View.{freeOf, free, needCM};
 ghost use Rattle.rows.specs.Rows.{ceiling, rowAt, collateral, view, withMargin, withRow, hasLiveClient};
-ghost use Rattle.rows.specs.Ranges.{InRange};
-ghost use Rattle.rows.specs.Inner.{Ranged, Collaterals};
+ghost use Rattle.rows.specs.Facts.{InRange};
+ghost use Rattle.rows.specs.Inner.{Ranged};
 use super::Book;
 use super::Row;
 use super::needs::blocked_of;
 use super::needs::collateral_of;
 use super::needs::need_cm;
 use super::needs::need_of;
-use super::needs::zeros;
 
 // A client's or CP's free collateral, whose need is its margin: by its row alone, so that the table stays where it is.
 pub fn own_free(r: Row) -> u64
@@ -28,7 +27,7 @@ pub fn free_of(b: Book, account: usize) -> u64
     ensures { λ r. ⌜ r ≡ free (view b) account ⌝ }
 {
     let r = b.rows[account];
-    if r.code > 1 {
+    if r.sort > 1 {
         return own_free(r);
     }
     let c = collateral_of(r);
@@ -51,25 +50,12 @@ pub fn has_live_client(b: Book, account: usize) -> bool
     ensures { λ r. ⌜ r ≡ hasLiveClient b account ⌝ }
 {
     let n = b.count as usize;
-    let mut none = true;
+    let mut some = false;
     let mut i: usize = 0;
     while i < n {
         let r = b.rows[i];
-        none = none & !((r.code == 2) & ((r.tm as usize) == account) & r.live);
+        some = some | ((r.sort == 2) & ((r.tm as usize) == account) & r.live);
         i += 1;
     }
-    !none
-}
-
-pub fn collaterals(b: Book) -> [u64; 256]
-    requires { ⌜ ((i : ℕ) → InRange (rowAt b i)) ⌝ }
-    ensures { λ r. ⌜ Collaterals b r ⌝ }
-{
-    let mut list = zeros();
-    let mut i: usize = 0;
-    while i < 256 {
-        list[i] = collateral_of(b.rows[i]);
-        i += 1;
-    }
-    list
+    some
 }

@@ -3,7 +3,7 @@ ghost use mathlib.Core.Path.{_≡_};
 ghost use Prim.Native.Nat.{_+_, _-_, _≤_};
 ghost use Rattle.rows.specs.View.{freeOf};
 ghost use Rattle.rows.specs.Rows.{collateral};
-ghost use Rattle.rows.specs.Ranges.{InRange};
+ghost use Rattle.rows.specs.Facts.{InRange};
 ghost use Rattle.rows.specs.Inner.{underTM, underCM};
 use super::Row;
 use super::needs::blocked_of;

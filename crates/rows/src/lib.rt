@@ -14,10 +14,10 @@ pub struct Kinds {
     pub securities: u64,
 }
 
-// An account. `code` is the code of the record that opened it (1 TM, 2 client, 3 CP) and 0 for the CM; `tm` is a
+// An account. `sort` is the code of the record that opened it (1 TM, 2 client, 3 CP) and 0 for the CM; `tm` is a
 // client's TM and 0 for any other row.
 pub struct Row {
-    pub code: u8,
+    pub sort: u8,
     pub live: bool,
     pub tm: u16,
     pub received: Kinds,

@@ -1,11 +1,11 @@
 // Needs, in two rising passes over the table: what each TM's clients are deemed, then what the TMs and CPs are.
 ghost use mathlib.Core.Path.{_≡_};
-ghost use Prim.Native.Nat.{ℕ, _≤_, _<_};
+ghost use Prim.Native.Nat.{_≤_, _<_};
 ghost use lib.ListN.{replicate};
 ghost use Rattle.sums.specs.Sum.{only};
 ghost use Rattle.rows.specs.View.{blockedOf, deemedOf, needCM, need};
 ghost use Rattle.rows.specs.Rows.{collateral, view};
-ghost use Rattle.rows.specs.Ranges.{InRange};
+ghost use Rattle.rows.specs.Facts.{InRange};
 ghost use Rattle.rows.specs.Inner.{Ranged, Slot, Owed, Unders, clientDue, memberDue, membersBelow};
 use super::Book;
 use super::Row;
@@ -45,7 +45,7 @@ pub(crate) fn client_due(r: Row) -> u64
     ensures { λ x. ⌜ x ≡ clientDue r ⌝ }
 {
     only_if(
-        (r.code == 2) & (r.tm < 256),
+        (r.sort == 2) & (r.tm < 256),
         deemed(r.margin, collateral_of(r)),
     )
 }
@@ -55,7 +55,7 @@ pub(crate) fn member_due(r: Row, d: u64) -> u64
     ensures { λ x. ⌜ x ≡ memberDue r d ⌝ }
 {
     let c = collateral_of(r);
-    only_if(r.code == 1, deemed(r.margin + d, c)) + only_if(r.code == 3, deemed(r.margin, c))
+    only_if(r.sort == 1, deemed(r.margin + d, c)) + only_if(r.sort == 3, deemed(r.margin, c))
 }
 
 // The place of the TM that the row names; any place serves where the book has no such row.
@@ -128,10 +128,10 @@ pub fn need_of(b: Book, i: usize) -> u64
     ensures { λ x. ⌜ x ≡ need (view b) i ⌝ }
 {
     let r = b.rows[i];
-    if r.code == 0 {
+    if r.sort == 0 {
         return need_cm(b);
     }
-    if r.code == 1 {
+    if r.sort == 1 {
         let owed = client_sums(b);
         return r.margin + owed[i];
     }

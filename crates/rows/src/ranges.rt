@@ -1,6 +1,6 @@
 // Whether a row's amounts are zero, and whether they are in range.
 ghost use mathlib.Core.Path.{_≡_};
-ghost use Rattle.rows.specs.Ranges.{kindsZero, kindsWithin, kindsCapped, noAmounts, inRange};
+ghost use Rattle.rows.specs.Ranges.{kindsWithin, kindsCapped, noAmounts, inRange};
 use super::CEILING;
 use super::Kinds;
 use super::Row;

@@ -13,7 +13,7 @@ pub fn no_row() -> Row
     ensures { λ n. ⌜ n ≡ noRow ⌝ }
 {
     Row {
-        code: 0,
+        sort: 0,
         live: false,
         tm: 0,
         received: Kinds {
@@ -33,11 +33,11 @@ pub fn no_row() -> Row
     }
 }
 
-pub fn opened_row(code: u8, tm: u16) -> Row
-    ensures { λ n. ⌜ n ≡ openedRow code tm ⌝ }
+pub fn opened_row(sort: u8, tm: u16) -> Row
+    ensures { λ n. ⌜ n ≡ openedRow sort tm ⌝ }
 {
     Row {
-        code: code,
+        sort: sort,
         live: true,
         tm: tm,
         received: Kinds {

@@ -1,7 +1,7 @@
 -- What a record that passes does to the row named, code by code.
 use mathlib.Core.Bool.{false}
-use mathlib.Core.Path.{_≡_, refl}
-use Prim.Native.Nat.{ℕ, _+_, _-_}
+use mathlib.Core.Path.{_≡_}
+use Prim.Native.Nat.{_+_, _-_}
 use borrow.Author.Tests.{ne-eqb}
 use Rattle.sums.specs.Choice.{pick}
 use Rattle.rows.specs.declared.Row.{Row}

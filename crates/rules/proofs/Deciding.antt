@@ -1,28 +1,26 @@
 -- What a change that a record makes says of the record and the book.
-use mathlib.Core.Bool.{Bool, true, false, not, _&&_}
+use mathlib.Core.Bool.{Bool, true, false, not}
 use mathlib.Core.List.{List}
 use mathlib.Core.Logic.{_⊎_, inl, inr}
 use mathlib.Core.Path.{_≡_, refl, sym, ap, _∙_}
 use Prim.Native.Nat.{ℕ, zero, suc, _≤_, _<_}
 use native.Mathlib.Omega.{arith}
-use native.Mathlib.Decide.{decLt}
-use lib.Dec.{leb}
-use lib.ListN.{length, getD, List·getD-eq-default}
+use lib.ListN.{List·getD-eq-default}
 use borrow.Author.Tests.{leb-false}
-use Rattle.sums.specs.Choice.{pick}
+use Rattle.sums.specs.Choice.{pick, unlessRefused}
 use Rattle.sums.specs.Table.{Line, first}
 use Rattle.sums.proofs.Choices.{pick-no}
 use Rattle.sums.proofs.Tables.{From, first-from, first-later}
 use Rattle.rows.specs.declared.Row.{Row}
 use Rattle.rows.specs.declared.Book.{Book}
-use Rattle.rows.specs.Rows.{noRow, rowAt, openedRow}
-use Rattle.book.specs.Sound.{Sound}
+use Rattle.rows.specs.Rows.{noRow, openedRow}
+use Rattle.book.specs.Facts.{Sound}
 use Rattle.book.proofs.SoundTest.{sound←}
 use Rattle.dayfile.specs.declared.Record.{Record}
 use Rattle.rules.specs.declared.Change.{Change}
 use Rattle.rules.specs.declared.Change.the-variants.{Refuse, Put, Open}
 use Rattle.rules.specs.Refusals.{isOpening, namedRow, refusalOf}
-use Rattle.rules.specs.Effects.{amended, passes, decided, changeOf}
+use Rattle.rules.specs.Effects.{amended, effectOf, changeOf}
 use Rattle.rules.specs.Inner.{refusalsBy}
 use Rattle.rules.proofs.WhatIsSeen.{toSee}
 use Rattle.rules.proofs.Passing.{Passes, passes-all}
@@ -37,7 +35,7 @@ no-refusal : (b : Book) (r : Record) → isRefusal (changeOf b r) ≡ 0 → refu
 unfolding changeOf
 no-refusal b r = by (refusalOf b r)
   where
-    by : (n : ℕ) → isRefusal (decided n (passes (namedRow b r) r)) ≡ 0 → n ≡ 0
+    by : (n : ℕ) → isRefusal (unlessRefused n (effectOf (namedRow b r) r) Refuse) ≡ 0 → n ≡ 0
     by zero h = refl
     by (suc n) h = absurd (omega arith)
 
@@ -57,9 +55,9 @@ module _ (b : Book) (r : Record) (x : Row) where
   put-below e = let p = put-passes e in omega (arith, p .account, p .sound .most)
 
   -- what is made where no refusal applies
-  pub passes-as : Passes b r → refusalOf b r ≡ 0 → changeOf b r ≡ passes (namedRow b r) r
+  pub passes-as : Passes b r → refusalOf b r ≡ 0 → changeOf b r ≡ effectOf (namedRow b r) r
   unfolding changeOf
-  passes-as p e = ap (λ n. decided n (passes (namedRow b r) r)) e
+  passes-as p e = ap (λ n. unlessRefused n (effectOf (namedRow b r) r) Refuse) e
 
   -- an account is opened where there is a number left
   pub open-below : changeOf b r ≡ Open x → b .count < 256
@@ -75,7 +73,7 @@ module _ (b : Book) (r : Record) (x : Row) where
           apart : Open x ≡ Put (amended (namedRow b r) r) → ⊥
           apart h = let z : _≡_ {A = ℕ} 0 1 = cc in omega arith
 
-          other : isOpening r ≡ false → passes (namedRow b r) r ≡ Put (amended (namedRow b r) r)
+          other : isOpening r ≡ false → effectOf (namedRow b r) r ≡ Put (amended (namedRow b r) r)
           other h = pick-no (isOpening r) _ _ h
 
 -- the row that is put, or opened
@@ -95,10 +93,6 @@ module _ (b : Book) (r : Record) (x : Row) where
       by : (t : Bool) → Open x ≡ pick t (Open (openedRow (r .code) (r .account))) (Put (amended (namedRow b r) r)) → x ≡ openedRow (r .code) (r .account)
       by true h = cc
       by false h = let z : _≡_ {A = ℕ} 0 1 = cc in absurd (omega arith)
-
--- the row named, read where the table has it
-pub named-in : (b : Book) (r : Record) → r .account < 256 → getD (b .rows) (r .account) noRow ≡ namedRow b r
-named-in b r l = refl
 
 pub named-beyond : (b : Book) (r : Record) → Sound b → 256 ≤ r .account → noRow ≡ namedRow b r
 named-beyond b r s l = sym (List·getD-eq-default (b .rows) noRow (omega (arith, s .table)))
@@ -141,7 +135,7 @@ pub refuse-number : (b : Book) (r : Record) (n : ℕ) → changeOf b r ≡ Refus
 unfolding changeOf pick
 refuse-number b r n = by (refusalOf b r)
   where
-    by : (m : ℕ) → decided m (passes (namedRow b r) r) ≡ Refuse n → m ≡ n
+    by : (m : ℕ) → unlessRefused m (effectOf (namedRow b r) r) Refuse ≡ Refuse n → m ≡ n
     by zero h = absurd (passes-not (isOpening r) h)
       where
         passes-not : (t : Bool) → pick t (Open (openedRow (r .code) (r .account))) (Put (amended (namedRow b r) r)) ≡ Refuse n → ⊥

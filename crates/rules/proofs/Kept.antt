@@ -14,20 +14,22 @@ use Rattle.rows.specs.declared.Row.{Row}
 use Rattle.rows.specs.declared.Book.{Book}
 use Rattle.rows.specs.View.{freeOf, blockedOf, needCM}
 use Rattle.rows.specs.Rows.{ceiling, rowAt, collateral, view, withMargin, withNew, hasLiveClient}
-use Rattle.rows.specs.Ranges.{InRange}
+use Rattle.rows.specs.Facts.{InRange}
 use Rattle.rows.specs.Inner.{Slot, underTM, underCM}
-use Rattle.book.specs.Sound.{Sound}
+use Rattle.book.specs.Facts.{Sound}
 use Rattle.book.proofs.OneRow.{row-same, row-other, below, new, row-opened}
 use Rattle.book.proofs.Opens.{Opened}
 use Rattle.book.proofs.LiveClients.{no-TM-none-live}
 use Rattle.book.proofs.SoundAfter.{in-table}
-use Rattle.book.proofs.KeptSums.{KeptUnder, Sort, cm, tm, client, cp, sort, cm-after, kept-put, kept-open}
+use Rattle.book.proofs.KeptSums.{KeptUnder, Sort, cm, tm, client, cp, sort-of}
+use Rattle.book.proofs.KeptPut.{cm-after, kept-put}
+use Rattle.book.proofs.KeptOpen.{kept-open}
 use Rattle.dayfile.specs.declared.Record.{Record}
 use Rattle.rules.specs.declared.Seen.{Seen}
 use Rattle.rules.specs.declared.Change.the-variants.{Put, Open}
-use Rattle.rules.specs.Refusals.{namedRow, uncovered, newMargin}
-use Rattle.rules.specs.Effects.{amended, passes, changeOf, bookAfter}
-use Rattle.rules.specs.Inner.{SeenOf, seenBy, topMargin}
+use Rattle.rules.specs.Refusals.{namedRow, needOver, newMargin}
+use Rattle.rules.specs.Effects.{amended, changeOf, bookAfter}
+use Rattle.rules.specs.Inner.{SeenOf, seenWith, topMargin}
 use Rattle.rules.proofs.Looking.{same-collateral}
 use Rattle.rules.proofs.Deciding.{put-passes, open-below, made-put, made-open}
 use Rattle.rules.proofs.SoundChange.{change-sound}
@@ -40,22 +42,22 @@ left-zero n = omega arith
 
 -- what is seen, part by part
 pub seen-made : (row : Row) (under : ℕ) (its : Row) (owed : ℕ) (top : Row) (all : ℕ) (t : Bool) (r : Record) (m : ℕ) (new : Row) (x y z c f : ℕ)
-    → m ≡ blockedOf (r .margin) ceiling → new ≡ withMargin row m → x ≡ only (eqb (row .code) 0) m → y ≡ only (not (eqb (row .code) 0)) (top .margin)
+    → m ≡ blockedOf (r .margin) ceiling → new ≡ withMargin row m → x ≡ only (eqb (row .sort) 0) m → y ≡ only (not (eqb (row .sort) 0)) (top .margin)
     → z ≡ underCM row new under its owed all → c ≡ collateral top → f ≡ freeOf (row .margin + under) (collateral row)
-    → _≡_ {A = Seen} (record { free = f; uncovered = ltb c (x + y + z); tied = t }) (seenBy row under its owed top all t r)
+    → _≡_ {A = Seen} (record { free = f; over = ltb c (x + y + z); tied = t }) (seenWith row under its owed top all t r)
 seen-made row under its owed top all t r m new x y z c f em en ex ey ez ec ef = rw (ef, ec, ez, ey, ex, en, em)
 
 -- only a TM has clients to look for
-pub tied-none : (b : Book) (r : Record) → Sound b → (eqb (r .code) 11 && eqb (namedRow b r .code) 1) ≡ false → r .code ≡ 11 → false ≡ hasLiveClient b (r .account)
+pub tied-none : (b : Book) (r : Record) → Sound b → (eqb (r .code) 11 && eqb (namedRow b r .sort) 1) ≡ false → r .code ≡ 11 → false ≡ hasLiveClient b (r .account)
 tied-none b r s f e =
-    sym (no-TM-none-live b (r .account) s (λ q. clash (and-join (eq-eqb (r .code) 11 e) (eq-eqb (namedRow b r .code) 1 q)) f))
+    sym (no-TM-none-live b (r .account) s (λ q. clash (and-join (eq-eqb (r .code) 11 e) (eq-eqb (namedRow b r .sort) 1 q)) f))
 
 module _ (b : Book) (s : Sound b) (owed : List ℕ) (h : KeptUnder b owed) (r : Record) (p : ℕ) (sl : Slot (namedRow b r) p) where
   abbrev row : Row
   row = namedRow b r
 
   top-margin : r .account < b .count → topMargin row (rowAt b 0) (r .margin) ≡ rowAt (newMargin b r) 0 .margin
-  top-margin l = by (sort b (s .shaped) (r .account) l)
+  top-margin l = by (sort-of b (s .shaped) (r .account) l)
     where
       there : r .account ≡ 0 → rowAt (newMargin b r) 0 .margin ≡ r .margin
       there e = ap (λ j. rowAt (newMargin b r) j .margin) (sym e) ∙ ap (λ x. x .margin) (row-same b (r .account) (withMargin row (r .margin)) (in-table b s (r .account) l))
@@ -63,11 +65,11 @@ module _ (b : Book) (s : Sound b) (owed : List ℕ) (h : KeptUnder b owed) (r : 
       other : 0 < r .account → rowAt (newMargin b r) 0 .margin ≡ rowAt b 0 .margin
       other q = ap (λ x. x .margin) (row-other b (r .account) 0 (withMargin row (r .margin)) (λ e. omega arith))
 
-      set-here : row .code ≡ 0 → topMargin row (rowAt b 0) (r .margin) ≡ r .margin
-      set-here c = ap (λ z. only z (r .margin) + only (not z) (rowAt b 0 .margin)) (eq-eqb (row .code) 0 c) ∙ right-zero (r .margin)
+      set-here : row .sort ≡ 0 → topMargin row (rowAt b 0) (r .margin) ≡ r .margin
+      set-here c = ap (λ z. only z (r .margin) + only (not z) (rowAt b 0 .margin)) (eq-eqb (row .sort) 0 c) ∙ right-zero (r .margin)
 
-      left-there : (row .code ≡ 0 → ⊥) → topMargin row (rowAt b 0) (r .margin) ≡ rowAt b 0 .margin
-      left-there ne = ap (λ z. only z (r .margin) + only (not z) (rowAt b 0 .margin)) (ne-eqb (row .code) 0 ne) ∙ left-zero (rowAt b 0 .margin)
+      left-there : (row .sort ≡ 0 → ⊥) → topMargin row (rowAt b 0) (r .margin) ≡ rowAt b 0 .margin
+      left-there ne = ap (λ z. only z (r .margin) + only (not z) (rowAt b 0 .margin)) (ne-eqb (row .sort) 0 ne) ∙ left-zero (rowAt b 0 .margin)
 
       by : Sort b (r .account) → topMargin row (rowAt b 0) (r .margin) ≡ rowAt (newMargin b r) 0 .margin
       by (cm e c) = set-here c ∙ sym (there e)
@@ -80,7 +82,7 @@ module _ (b : Book) (s : Sound b) (owed : List ℕ) (h : KeptUnder b owed) (r : 
 
   covers : r .account < b .count → r .margin ≤ ceiling
       → ltb (collateral (rowAt b 0)) (topMargin row (rowAt b 0) (blockedOf (r .margin) ceiling) + y (blockedOf (r .margin) ceiling))
-      ≡ uncovered (view (newMargin b r))
+      ≡ needOver (view (newMargin b r))
   covers l m =
       let e : blockedOf (r .margin) ceiling ≡ r .margin = omega arith in
       ap (λ z. ltb (collateral (rowAt b 0)) (topMargin row (rowAt b 0) z + y z)) e
@@ -89,7 +91,7 @@ module _ (b : Book) (s : Sound b) (owed : List ℕ) (h : KeptUnder b owed) (r : 
       ∙ ap (λ z. ltb z (needCM (view (newMargin b r)))) (sym (same-collateral b r s l))
 
   pub sees-kept : (t : Bool) → (r .code ≡ 11 → t ≡ hasLiveClient b (r .account))
-      → SeenOf b r (seenBy row (getD owed (r .account) 0) (rowAt b p) (getD owed p 0) (rowAt b 0) (getD owed 0 0) t r)
+      → SeenOf b r (seenWith row (getD owed (r .account) 0) (rowAt b p) (getD owed p 0) (rowAt b 0) (getD owed 0 0) t r)
   sees-kept t k = record {
     free-kinds = λ e l. sym (ap (λ n. freeOf n (collateral row)) (h .each (r .account) l));
     free-pledge = λ e l. sym (ap (λ n. freeOf n (collateral row)) (h .each (r .account) l));
@@ -97,20 +99,20 @@ module _ (b : Book) (s : Sound b) (owed : List ℕ) (h : KeptUnder b owed) (r : 
     clients = λ e l. k e;
   }
 
--- a record that passes leaves the row's code and TM as they were
+-- a record that passes leaves the row's sort and TM as they were
 picks : (P : Row → Type 0) (t : Bool) (x y : Row) → P x → P y → P (pick t x y)
 unfolding pick
 picks P true x y a b = a
 picks P false x y a b = b
 
-amended-same : (row : Row) (r : Record) → (amended row r .code ≡ row .code) × (amended row r .tm ≡ row .tm)
+pub amended-same : (row : Row) (r : Record) → (amended row r .sort ≡ row .sort) × (amended row r .tm ≡ row .tm)
 unfolding amended
 amended-same row r =
     on 4 _ _ (refl, refl) (on 5 _ _ (refl, refl) (on 6 _ _ (refl, refl) (on 7 _ _ (refl, refl) (on 8 _ _ (refl, refl) (on 9 _ _ (refl, refl) (on 10 _ _ (refl, refl) (refl, refl)))))))
   where
-    on : (n : ℕ) (x y : Row) → (x .code ≡ row .code) × (x .tm ≡ row .tm) → (y .code ≡ row .code) × (y .tm ≡ row .tm)
-        → (pick (eqb (r .code) n) x y .code ≡ row .code) × (pick (eqb (r .code) n) x y .tm ≡ row .tm)
-    on n x y a b = picks (λ z. (z .code ≡ row .code) × (z .tm ≡ row .tm)) (eqb (r .code) n) x y a b
+    on : (n : ℕ) (x y : Row) → (x .sort ≡ row .sort) × (x .tm ≡ row .tm) → (y .sort ≡ row .sort) × (y .tm ≡ row .tm)
+        → (pick (eqb (r .code) n) x y .sort ≡ row .sort) × (pick (eqb (r .code) n) x y .tm ≡ row .tm)
+    on n x y a b = picks (λ z. (z .sort ≡ row .sort) × (z .tm ≡ row .tm)) (eqb (r .code) n) x y a b
 
 -- a row put anew
 module _ (b : Book) (r : Record) (x : Row) (s : Sound b) (e : changeOf b r ≡ Put x) where
@@ -128,7 +130,7 @@ module _ (b : Book) (r : Record) (x : Row) (s : Sound b) (e : changeOf b r ≡ P
       let l = put-passes b r x e .account in
       let a = amended-same (namedRow b r) r in
       let q = made-put b r x e in
-      let k = kept-put b s owed h (r .account) l x (ap (λ z. z .code) q ∙ a .0) (ap (λ z. z .tm) q ∙ a .1) p sl in
+      let k = kept-put b s owed h (r .account) l x (ap (λ z. z .sort) q ∙ a .0) (ap (λ z. z .tm) q ∙ a .1) p sl in
       record { size = k .size; each = k .each; beyond = k .beyond }
 
 -- an account opened
@@ -139,11 +141,11 @@ module _ (b : Book) (r : Record) (x : Row) (s : Sound b) (e : changeOf b r ≡ O
   room : b .count < length (b .rows)
   room = omega (arith, open-below b r x e, s .table)
 
-  its-tm : x .code ≡ 2 → (x .tm < b .count) × (rowAt b (x .tm) .code ≡ 1)
+  its-tm : x .sort ≡ 2 → (x .tm < b .count) × (rowAt b (x .tm) .sort ≡ 1)
   its-tm q =
-      let t : (x .tm < b .count) × (rowAt (withNew b x) (x .tm) .code ≡ 1) =
-      rw (new b x room) at (after .shaped .tms (b .count) (omega arith) (ap (λ z. z .code) (new b x room) ∙ q)) in
-      (t .0, ap (λ z. z .code) (sym (below b x room (x .tm) (t .0))) ∙ t .1)
+      let t : (x .tm < b .count) × (rowAt (withNew b x) (x .tm) .sort ≡ 1) =
+      rw (new b x room) at (after .shaped .tms (b .count) (omega arith) (ap (λ z. z .sort) (new b x room) ∙ q)) in
+      (t .0, ap (λ z. z .sort) (sym (below b x room (x .tm) (t .0))) ∙ t .1)
 
   opened : Opened (view b) (view (withNew b x))
   opened =

@@ -5,19 +5,18 @@ use mathlib.Core.Path.{_≡_, refl, sym, ap, _∙_}
 use Prim.Native.Nat.{ℕ, _≤_, _<_}
 use native.Mathlib.Omega.{arith}
 use lib.Dec.{leb, ltb, eqb}
-use lib.ListN.{length}
 use borrow.Author.Tests.{eqb-true, eqb-false, le-ltb, lt-ltb, leb-true, leb-false}
 use Rattle.sums.proofs.Choices.{or-split, or-fails}
 use Rattle.rows.specs.declared.Book.{Book}
-use Rattle.rows.specs.View.{View, free, needCM}
-use Rattle.rows.specs.Rows.{ceiling, rowAt, collateral, view, withRow, withMargin, hasLiveClient}
-use Rattle.book.specs.Sound.{Sound}
+use Rattle.rows.specs.View.{free, needCM}
+use Rattle.rows.specs.Rows.{ceiling, rowAt, collateral, view, withMargin, hasLiveClient}
+use Rattle.book.specs.Facts.{Sound}
 use Rattle.book.proofs.OneRow.{at-all}
 use Rattle.book.proofs.SoundAfter.{in-table}
 use Rattle.dayfile.specs.declared.Record.{Record}
 use Rattle.rules.specs.declared.Seen.{Seen}
-use Rattle.rules.specs.Refusals.{namedRow, uncovered, newMargin}
-use Rattle.rules.specs.Inner.{SeenOf, nothing, asks}
+use Rattle.rules.specs.Refusals.{namedRow, newMargin}
+use Rattle.rules.specs.Inner.{SeenOf, asks}
 
 module _ (b : Book) (r : Record) where
   -- the account's number was never given
@@ -30,7 +29,7 @@ module _ (b : Book) (r : Record) where
   }
 
   pub sees-free : (x : ℕ) → (eqb (r .code) 7 || eqb (r .code) 9) ≡ true → x ≡ free (view b) (r .account)
-      → SeenOf b r (record { free = x; uncovered = false; tied = false })
+      → SeenOf b r (record { free = x; over = false; tied = false })
   sees-free x t h = record {
     free-kinds = λ e l. h;
     free-pledge = λ e l. h;
@@ -68,7 +67,7 @@ module _ (b : Book) (r : Record) where
       by false e = sym (lt-ltb y x (leb-false x y e))
 
   pub sees-cover : Sound b → r .account < b .count → (t : Bool) → r .code ≡ 10 → t ≡ leb (needCM (view (newMargin b r))) (collateral (rowAt b 0))
-      → SeenOf b r (record { free = 0; uncovered = not t; tied = false })
+      → SeenOf b r (record { free = 0; over = not t; tied = false })
   sees-cover s l t e h = record {
     free-kinds = λ q k. absurd (omega arith);
     free-pledge = λ q k. absurd (omega arith);
@@ -77,7 +76,7 @@ module _ (b : Book) (r : Record) where
   }
 
   pub sees-clients : (t : Bool) → (eqb (r .code) 7 || eqb (r .code) 9) ≡ false → (r .code ≡ 10 → ⊥) → t ≡ hasLiveClient b (r .account)
-      → SeenOf b r (record { free = 0; uncovered = false; tied = t })
+      → SeenOf b r (record { free = 0; over = false; tied = t })
   sees-clients t f ne h = record {
     free-kinds = λ e l. absurd (eqb-false (r .code) 7 (or-fails (eqb (r .code) 7) (eqb (r .code) 9) f .0) e);
     free-pledge = λ e l. absurd (eqb-false (r .code) 9 (or-fails (eqb (r .code) 7) (eqb (r .code) 9) f .1) e);

@@ -1,27 +1,25 @@
 -- What holds of a record that no refusal meets.
-use mathlib.Core.Bool.{Bool, true, false, not, _&&_}
-use mathlib.Core.List.{List, [], _∷_, _++_}
-use mathlib.Core.Path.{_≡_, refl, sym, ap, _∙_}
-use Prim.Native.Nat.{ℕ, _≤_, _<_}
+use mathlib.Core.Bool.{true, false, not}
+use mathlib.Core.List.{_++_}
+use mathlib.Core.Path.{_≡_, sym, _∙_}
+use Prim.Native.Nat.{_<_}
 use native.Mathlib.Omega.{arith}
 use lib.Dec.{ltb, eqb}
 use borrow.Author.Tests.{ltb-true, eqb-true, not-false}
-use Rattle.sums.specs.Table.{Line, _when_, first}
+use Rattle.sums.specs.Table.{first}
 use Rattle.sums.proofs.Choices.{and-split}
 use Rattle.sums.proofs.Tables.{first-fails, first-none, first-clear}
-use Rattle.rows.specs.declared.Row.{Row}
 use Rattle.rows.specs.declared.Book.{Book}
 use Rattle.rows.specs.View.{free}
-use Rattle.rows.specs.Rows.{view, hasLiveClient}
-use Rattle.book.specs.Sound.{soundB, Sound}
-use Rattle.book.specs.Asked.{isLive}
+use Rattle.rows.specs.Rows.{view, hasLiveClient, isLive}
+use Rattle.book.specs.Sound.{soundB}
+use Rattle.book.specs.Facts.{Sound}
 use Rattle.book.proofs.SoundTest.{sound→}
 use Rattle.dayfile.specs.declared.Record.{Record}
 use Rattle.dayfile.specs.Records.{faults, faultOf}
-use Rattle.rules.specs.Refusals.{namedRow, wrongSort, noNumberLeft, pastCeiling, tooMuch, beyondFree, losesCover, notRetirable, uncovered, newMargin, refusalOf}
-use Rattle.rules.specs.Inner.{AmountsIn, from7}
-use Rattle.dayfile.proofs.Good.{Good, good}
-use Rattle.rules.proofs.Faults.{three-numbered}
+use Rattle.rules.specs.Refusals.{namedRow, wrongSort, noNumberLeft, pastCeiling, tooMuch, beyondFree, losesCover, notRetirable, needOver, newMargin, refusalOf}
+use Rattle.rules.specs.Inner.{from7}
+use Rattle.dayfile.proofs.Good.{Good, good, three-numbered}
 use Rattle.rules.proofs.WhatIsSeen.{toSee}
 
 pub record Passes (b : Book) (r : Record) : Type 0 where
@@ -35,7 +33,7 @@ pub record Passes (b : Book) (r : Record) : Type 0 where
   pub capped : pastCeiling (namedRow b r) r ≡ false
   pub enough : tooMuch (namedRow b r) r ≡ false
   pub isFree : beyondFree (free (view b) (r .account)) r ≡ false
-  pub covered : losesCover (uncovered (view (newMargin b r))) r ≡ false
+  pub covered : losesCover (needOver (view (newMargin b r))) r ≡ false
   pub retirable : notRetirable (namedRow b r) (hasLiveClient b (r .account)) r ≡ false
 
 pub passes-all : (b : Book) (r : Record) → refusalOf b r ≡ 0 → Passes b r
@@ -50,7 +48,7 @@ passes-all b r e =
     let f₁₀ = first-fails 10 (pastCeiling (namedRow b r) r) _ (omega arith) (f₉ .1) in
     let f₁₁ = first-fails 11 (tooMuch (namedRow b r) r) _ (omega arith) (f₁₀ .1) in
     let f₁₂ = first-fails 12 (beyondFree (free (view b) (r .account)) r) _ (omega arith) (f₁₁ .1) in
-    let f₁₃ = first-fails 13 (losesCover (uncovered (view (newMargin b r))) r) _ (omega arith) (f₁₂ .1) in
+    let f₁₃ = first-fails 13 (losesCover (needOver (view (newMargin b r))) r) _ (omega arith) (f₁₂ .1) in
     let f₁₄ = first-fails 14 (notRetirable (namedRow b r) (hasLiveClient b (r .account)) r) _ (omega arith) (f₁₃ .1) in
     let there = and-split (ltb (r .account) (b .count)) (namedRow b r .live) (not-false _ (f₇ .0)) in
     record {

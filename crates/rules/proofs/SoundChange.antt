@@ -1,28 +1,29 @@
 -- Every record, carried out or refused, leaves a sound book sound.
-use mathlib.Core.Bool.{Bool, true, false, not, _&&_, _||_}
+use mathlib.Core.Bool.{Bool, true, false, not, _||_}
 use mathlib.Core.Logic.{_⊎_, inl, inr}
-use mathlib.Core.Path.{_≡_, refl, sym, ap, _∙_}
-use Prim.Native.Nat.{ℕ, zero, suc, _+_, _≤_, _<_}
+use mathlib.Core.Path.{_≡_, refl}
+use Prim.Native.Nat.{ℕ, zero, suc, _+_}
 use native.Mathlib.Omega.{arith}
 use native.Mathlib.Decide.{ℕ-discrete}
 use lib.Dec.{leb, ltb, eqb}
-use borrow.Author.Tests.{ltb-false, leb-false, eqb-true, eqb-false, not-true, not-false}
-use Rattle.sums.specs.Choice.{pick}
+use borrow.Author.Tests.{ltb-false, leb-false, eqb-true, eqb-false, not-false}
+use Rattle.sums.specs.Choice.{pick, unlessRefused}
 use Rattle.sums.proofs.Choices.{or-fails, pick-yes, pick-no}
 use Rattle.rows.specs.declared.Row.{Row}
 use Rattle.rows.specs.declared.Book.{Book}
-use Rattle.rows.specs.View.{free, Covered}
-use Rattle.rows.specs.Rows.{ceiling, rowAt, total, view, openedRow, withRow, withNew, plusKinds, lessKinds, hasLiveClient}
-use Rattle.rows.specs.Ranges.{KindsWithin, kindsCapped, kindsWithin, noAmounts}
-use Rattle.book.specs.Sound.{Sound}
+use Rattle.rows.specs.View.{free}
+use Rattle.rows.specs.Facts.{KindsWithin}
+use Rattle.rows.specs.Rows.{ceiling, addedUp, view, openedRow, withRow, withNew, plusKinds, lessKinds, hasLiveClient}
+use Rattle.rows.specs.Ranges.{kindsCapped, kindsWithin, noAmounts}
+use Rattle.book.specs.Facts.{Sound}
 use Rattle.book.proofs.RowFacts.{within→, capped→}
 use Rattle.book.proofs.SoundAfter.{serial-sound, receive-sound, hand-back-sound, allocate-sound, release-sound, pledge-sound, unpledge-sound, margin-sound, retire-sound, open-sound}
 use Rattle.book.proofs.LiveClients.{no-live-client}
 use Rattle.dayfile.specs.declared.Record.{Record}
 use Rattle.rules.specs.declared.Change.{Change}
 use Rattle.rules.specs.declared.Change.the-variants.{Refuse, Put, Open}
-use Rattle.rules.specs.Refusals.{isOpening, namedRow, wrongSort, noNumberLeft, pastCeiling, tooMuch, beyondFree, losesCover, notRetirable, uncovered, newMargin, refusalOf}
-use Rattle.rules.specs.Effects.{amended, passes, decided, changeOf, nextSerial, movedOn, bookAfter}
+use Rattle.rules.specs.Refusals.{isOpening, namedRow, needOver, newMargin, refusalOf}
+use Rattle.rules.specs.Effects.{amended, effectOf, changeOf, nextSerial, movedOn, bookAfter}
 use Rattle.rules.proofs.Faults.{amounts-in}
 use Rattle.rules.proofs.Codes.{Code, openTM, openClient, openCP, receive, handBack, allocate, release, pledge, unpledge, margin, retire, which}
 use Rattle.rules.proofs.Passing.{Passes, passes-all}
@@ -43,14 +44,14 @@ module _ (b : Book) (r : Record) (p : Passes b r) where
   put x e s = rw e s
 
   -- the account named is the CM, whose number is 0
-  cm-named : row .code ≡ 0 → r .account ≡ 0
+  cm-named : row .sort ≡ 0 → r .account ≡ 0
   cm-named e = by (ℕ-discrete (r .account) 0)
     where
       by : Dec (r .account ≡ 0) → r .account ≡ 0
       by (yes q) = q
       by (no q) = absurd (⊎-none (p .sound .shaped .sorts (r .account) (omega arith) (p .account)))
         where
-          ⊎-none : (row .code ≡ 1) ⊎ ((row .code ≡ 2) ⊎ (row .code ≡ 3)) → ⊥
+          ⊎-none : (row .sort ≡ 1) ⊎ ((row .sort ≡ 2) ⊎ (row .sort ≡ 3)) → ⊥
           ⊎-none (inl q) = omega arith
           ⊎-none (inr (inl q)) = omega arith
           ⊎-none (inr (inr q)) = omega arith
@@ -83,7 +84,7 @@ module _ (b : Book) (r : Record) (p : Passes b r) where
   releases : r .code ≡ 7 → Sound (withRow b (r .account) (amended row r))
   releases e =
       let h : (not (kindsWithin (r .kinds) (row .allocated)) || false) ≡ false = rw e at (p .enough) in
-      let f : (ltb (free (view b) (r .account)) (total (r .kinds)) || false) ≡ false = rw e at (p .isFree) in
+      let f : (ltb (free (view b) (r .account)) (addedUp (r .kinds)) || false) ≡ false = rw e at (p .isFree) in
       put _ (by-release row r e)
       (release-sound b (p .sound) (r .account) (p .account) (p .live) (r .kinds) (within→ _ _ (not-false _ (or-fails _ _ h .0)))
       (ltb-false _ _ (or-fails _ _ f .0)))
@@ -102,7 +103,7 @@ module _ (b : Book) (r : Record) (p : Passes b r) where
 
   sets-margin : r .code ≡ 10 → Sound (withRow b (r .account) (amended row r))
   sets-margin e =
-      let h : uncovered (view (newMargin b r)) ≡ false = rw e at (p .covered) in
+      let h : needOver (view (newMargin b r)) ≡ false = rw e at (p .covered) in
       put _ (by-margin row r e)
       (margin-sound b (p .sound) (r .account) (p .account) (p .live) (r .margin) (amounts-in r (p .good) .margin) (ltb-false _ _ h))
 
@@ -115,39 +116,39 @@ module _ (b : Book) (r : Record) (p : Passes b r) where
       (no-live-client b (r .account) (or-fails (not (noAmounts row)) (hasLiveClient b (r .account)) h .1)))
 
   -- an opening: the code's sort, a number left, and a TM or the CM named
-  opens : (r .code ≡ 1) ⊎ ((r .code ≡ 2) ⊎ (r .code ≡ 3)) → leb 256 (b .count) ≡ false → (r .code ≡ 2 → row .code ≡ 1)
-      → ((r .code ≡ 2 → ⊥) → row .code ≡ 0) → Sound (withNew b (openedRow (r .code) (r .account)))
+  opens : (r .code ≡ 1) ⊎ ((r .code ≡ 2) ⊎ (r .code ≡ 3)) → leb 256 (b .count) ≡ false → (r .code ≡ 2 → row .sort ≡ 1)
+      → ((r .code ≡ 2 → ⊥) → row .sort ≡ 0) → Sound (withNew b (openedRow (r .code) (r .account)))
   opens c n tm cm =
       open-sound b (p .sound) (r .code) (r .account) (leb-false _ _ n) c (λ e. (p .account, tm e, p .live)) (λ ne. cm-named (cm ne))
 
   opens-TM : r .code ≡ 1 → Sound (withNew b (openedRow (r .code) (r .account)))
   opens-TM e =
       let n : leb 256 (b .count) ≡ false = rw e at (p .number) in
-      let h : (not (eqb (row .code) 0) || false || false) ≡ false = rw e at (p .sort) in
+      let h : (not (eqb (row .sort) 0) || false || false) ≡ false = rw e at (p .sort) in
       opens (inl e) n (λ q. absurd (omega arith)) (λ q. eqb-true _ _ (not-false _ (or-fails _ _ (or-fails _ _ h .0) .0)))
 
   opens-CP : r .code ≡ 3 → Sound (withNew b (openedRow (r .code) (r .account)))
   opens-CP e =
       let n : leb 256 (b .count) ≡ false = rw e at (p .number) in
-      let h : (not (eqb (row .code) 0) || false || false) ≡ false = rw e at (p .sort) in
+      let h : (not (eqb (row .sort) 0) || false || false) ≡ false = rw e at (p .sort) in
       opens (inr (inr e)) n (λ q. absurd (omega arith)) (λ q. eqb-true _ _ (not-false _ (or-fails _ _ (or-fails _ _ h .0) .0)))
 
   opens-client : r .code ≡ 2 → Sound (withNew b (openedRow (r .code) (r .account)))
   opens-client e =
       let n : leb 256 (b .count) ≡ false = rw e at (p .number) in
-      let h : (not (eqb (row .code) 1) || false) ≡ false = rw e at (p .sort) in
+      let h : (not (eqb (row .sort) 1) || false) ≡ false = rw e at (p .sort) in
       opens (inr (inl e)) n (λ q. eqb-true _ _ (not-false _ (or-fails _ _ h .0))) (λ q. absurd (q e))
 
-  putting : isOpening r ≡ false → Sound (withRow b (r .account) (amended row r)) → Sound (rowsAfter b r (passes row r))
+  putting : isOpening r ≡ false → Sound (withRow b (r .account) (amended row r)) → Sound (rowsAfter b r (effectOf row r))
   putting e s = rw (pick-no (isOpening r) (Open (openedRow (r .code) (r .account))) (Put (amended row r)) e) s
 
-  opening : isOpening r ≡ true → Sound (withNew b (openedRow (r .code) (r .account))) → Sound (rowsAfter b r (passes row r))
+  opening : isOpening r ≡ true → Sound (withNew b (openedRow (r .code) (r .account))) → Sound (rowsAfter b r (effectOf row r))
   opening e s = rw (pick-yes (isOpening r) (Open (openedRow (r .code) (r .account))) (Put (amended row r)) e) s
 
-  pub passing-sound : Sound (rowsAfter b r (passes row r))
+  pub passing-sound : Sound (rowsAfter b r (effectOf row r))
   passing-sound = by (which (r .code) (p .good .known))
     where
-      by : Code (r .code) → Sound (rowsAfter b r (passes row r))
+      by : Code (r .code) → Sound (rowsAfter b r (effectOf row r))
       by (openTM e) = opening (rw e) (opens-TM e)
       by (openClient e) = opening (rw e) (opens-client e)
       by (openCP e) = opening (rw e) (opens-CP e)
@@ -175,6 +176,6 @@ pub change-sound : (b : Book) (r : Record) → Sound b → Sound (bookAfter b (r
 unfolding changeOf
 change-sound b r s = moved-sound b r (changeOf b r) s (by (refusalOf b r) refl)
   where
-    by : (n : ℕ) → refusalOf b r ≡ n → Sound (rowsAfter b r (decided n (passes (namedRow b r) r)))
+    by : (n : ℕ) → refusalOf b r ≡ n → Sound (rowsAfter b r (unlessRefused n (effectOf (namedRow b r) r) Refuse))
     by zero e = passing-sound b r (passes-all b r e)
     by (suc n) e = s

@@ -1,35 +1,34 @@
 -- The table on the row named, with what was seen of the other rows, is document 01's table.
-use mathlib.Core.Bool.{Bool, true, false, not, _&&_, _||_}
-use mathlib.Core.List.{List, [], _∷_, _++_}
-use mathlib.Core.Path.{_≡_, refl, sym, ap, _∙_}
-use Prim.Native.Nat.{ℕ, _≤_, _<_}
-use native.Mathlib.Omega.{arith}
+use mathlib.Core.Bool.{Bool, false, not, _||_}
+use mathlib.Core.Path.{_≡_, sym, ap, _∙_}
+use Prim.Native.Nat.{ℕ, _<_}
 use lib.Dec.{ltb, eqb}
 use borrow.Author.Tests.{ltb-true, eqb-true, not-false}
-use Rattle.sums.specs.Table.{Line, _when_, first}
+use Rattle.sums.specs.Choice.{unlessRefused}
+use Rattle.sums.specs.Table.{first}
 use Rattle.sums.proofs.Choices.{and-split, and-same}
 use Rattle.sums.proofs.Tables.{first-later, first-on, first-beyond}
 use Rattle.rows.specs.declared.Row.{Row}
 use Rattle.rows.specs.declared.Book.{Book}
 use Rattle.rows.specs.View.{free}
-use Rattle.rows.specs.Rows.{ceiling, rowAt, total, view, hasLiveClient}
+use Rattle.rows.specs.Rows.{addedUp, view, hasLiveClient, isLive}
 use Rattle.rows.specs.Ranges.{noAmounts}
-use Rattle.book.specs.Sound.{soundB, Sound}
-use Rattle.book.specs.Asked.{isLive}
+use Rattle.book.specs.Facts.{Sound}
 use Rattle.book.proofs.SoundTest.{sound←}
 use Rattle.dayfile.specs.declared.Record.{Record}
 use Rattle.dayfile.specs.Records.{faults, faultOf}
 use Rattle.rules.specs.declared.Change.{Change}
+use Rattle.rules.specs.declared.Change.the-variants.{Refuse}
 use Rattle.rules.specs.declared.Seen.{Seen}
-use Rattle.rules.specs.Refusals.{namedRow, wrongSort, noNumberLeft, pastCeiling, tooMuch, beyondFree, losesCover, notRetirable, uncovered, newMargin, refusalOf}
-use Rattle.rules.specs.Effects.{passes, decided, changeOf}
+use Rattle.rules.specs.Refusals.{namedRow, beyondFree, needOver, newMargin, refusalOf}
+use Rattle.rules.specs.Effects.{effectOf, changeOf}
 use Rattle.rules.specs.Inner.{AmountsIn, SeenOf, from7, from12, refusalBy, changeBy}
-use Rattle.dayfile.proofs.Good.{good}
-use Rattle.rules.proofs.Faults.{amounts-in, three-numbered}
+use Rattle.dayfile.proofs.Good.{good, three-numbered}
+use Rattle.rules.proofs.Faults.{amounts-in}
 
 -- 12 looks at free only for a release and an unpledge
 free-same : (r : Record) (x y : ℕ) → (r .code ≡ 7 → x ≡ y) → (r .code ≡ 9 → x ≡ y) → beyondFree x r ≡ beyondFree y r
-free-same r x y h k = joins (and-same (eqb (r .code) 7) (λ e. ap (λ z. ltb z (total (r .kinds))) (h (eqb-true (r .code) 7 e))))
+free-same r x y h k = joins (and-same (eqb (r .code) 7) (λ e. ap (λ z. ltb z (addedUp (r .kinds))) (h (eqb-true (r .code) 7 e))))
     (and-same (eqb (r .code) 9) (λ e. ap (λ z. ltb z (r .pledged)) (k (eqb-true (r .code) 9 e))))
   where
     joins : {a b c d : Bool} → a ≡ b → c ≡ d → (a || c) ≡ (b || d)
@@ -37,7 +36,7 @@ free-same r x y h k = joins (and-same (eqb (r .code) 7) (λ e. ap (λ z. ltb z (
 
 -- what there is to see
 abbrev pub toSee : Book → Record → Seen
-toSee b r = record { free = free (view b) (r .account); uncovered = uncovered (view (newMargin b r)); tied = hasLiveClient b (r .account) }
+toSee b r = record { free = free (view b) (r .account); over = needOver (view (newMargin b r)); tied = hasLiveClient b (r .account) }
 
 module _ (b : Book) (s : Sound b) (r : Record) (seen : Seen) (w : SeenOf b r seen) where
   -- lines 12 to 14, where the account is live and the amounts are in range
@@ -64,7 +63,7 @@ module _ (b : Book) (s : Sound b) (r : Record) (seen : Seen) (w : SeenOf b r see
 
   pub change-seen : changeBy (namedRow b r) (b .count) (b .serial) seen r ≡ changeOf b r
   unfolding changeBy changeOf
-  change-seen = ap (λ n. decided n (passes (namedRow b r) r)) refusal-seen
+  change-seen = ap (λ n. unlessRefused n (effectOf (namedRow b r) r) Refuse) refusal-seen
 
 -- the verdict of the code is the change of the rules
 pub verdict-is : (b : Book) → Sound b → (r : Record) (row : Row) (seen : Seen) (c : Change)

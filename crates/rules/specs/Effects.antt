@@ -1,8 +1,8 @@
 -- Document 01: what a record does to the book.
-use mathlib.Core.Bool.{Bool, false}
-use Prim.Native.Nat.{ℕ, zero, suc, _+_, _-_, _%_}
+use mathlib.Core.Bool.{false}
+use Prim.Native.Nat.{ℕ, _+_, _-_, _%_}
 use lib.Dec.{leb, eqb}
-use Rattle.sums.specs.Choice.{pick}
+use Rattle.sums.specs.Choice.{pick, unlessRefused}
 use Rattle.rows.specs.declared.Row.{Row}
 use Rattle.rows.specs.declared.Book.{Book}
 use Rattle.rows.specs.Rows.{openedRow, withLive, withReceived, withAllocated, withPledged, withMargin, withRow, withNew, plusKinds, lessKinds}
@@ -25,15 +25,12 @@ amended row r =
     (withLive row false)))))))  -- 11
 
 -- what a record does that no refusal meets: an opened row's TM is the account named (0 for a TM and a CP)
-abbrev pub passes : Row → Record → Change
-passes row r = pick (isOpening r) (Open (openedRow (r .code) (r .account))) (Put (amended row r))
+abbrev pub effectOf : Row → Record → Change
+effectOf row r = pick (isOpening r) (Open (openedRow (r .code) (r .account))) (Put (amended row r))
 
-abbrev pub decided : ℕ → Change → Change
-decided zero c = c
-decided (suc n) c = Refuse (suc n)
-
+-- what a record does: its refusal, or its effect
 unfoldable pub changeOf : Book → Record → Change
-changeOf b r = decided (refusalOf b r) (passes (namedRow b r) r)
+changeOf b r = unlessRefused (refusalOf b r) (effectOf (namedRow b r) r) Refuse
 
 -- "the serial after 65,535 is 0"
 abbrev pub nextSerial : ℕ → ℕ

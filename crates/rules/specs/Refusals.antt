@@ -7,10 +7,9 @@ use Rattle.sums.specs.Table.{Line, _when_, first}
 use Rattle.rows.specs.declared.Row.{Row}
 use Rattle.rows.specs.declared.Book.{Book}
 use Rattle.rows.specs.View.{View, needCM, free}
-use Rattle.rows.specs.Rows.{ceiling, rowAt, total, view, withRow, withMargin, plusKinds, lessKinds, hasLiveClient}
+use Rattle.rows.specs.Rows.{ceiling, rowAt, addedUp, view, withRow, withMargin, plusKinds, lessKinds, hasLiveClient, isLive}
 use Rattle.rows.specs.Ranges.{kindsCapped, kindsWithin, noAmounts}
 use Rattle.book.specs.Sound.{soundB}
-use Rattle.book.specs.Asked.{isLive}
 use Rattle.dayfile.specs.declared.Record.{Record}
 use Rattle.dayfile.specs.Records.{faults}
 
@@ -26,8 +25,8 @@ namedRow b r = rowAt b (r .account)
 -- client its TM; an account that is not live was refused with 7 before.
 abbrev pub wrongSort : Row → Record → Bool
 wrongSort row r =
-    (eqb (r .code) 1 || eqb (r .code) 3) && not (eqb (row .code) 0)
-    || eqb (r .code) 2 && not (eqb (row .code) 1)
+    (eqb (r .code) 1 || eqb (r .code) 3) && not (eqb (row .sort) 0)
+    || eqb (r .code) 2 && not (eqb (row .sort) 1)
     || eqb (r .code) 11 && eqb (r .account) 0
 
 -- "9: opening with 256 numbers given"
@@ -50,11 +49,11 @@ tooMuch row r =
 
 -- "12: release (its kinds added up) or unpledge of more than the account's free"
 abbrev pub beyondFree : ℕ → Record → Bool
-beyondFree free r = eqb (r .code) 7 && ltb free (total (r .kinds)) || eqb (r .code) 9 && ltb free (r .pledged)
+beyondFree left r = eqb (r .code) 7 && ltb left (addedUp (r .kinds)) || eqb (r .code) 9 && ltb left (r .pledged)
 
 -- the CM's need passes its collateral
-abbrev pub uncovered : View → Bool
-uncovered v = ltb (v .collateral 0) (needCM v)
+abbrev pub needOver : View → Bool
+needOver v = ltb (v .collateral 0) (needCM v)
 
 -- the book with the new margin of the account named
 abbrev pub newMargin : Book → Record → Book
@@ -62,11 +61,11 @@ newMargin b r = withRow b (r .account) (withMargin (namedRow b r) (r .margin))
 
 -- "13: after the new margin the CM's need would pass its collateral"
 abbrev pub losesCover : Bool → Record → Bool
-losesCover uncovered r = eqb (r .code) 10 && uncovered
+losesCover over r = eqb (r .code) 10 && over
 
 -- "14: retiring an account with any amount not zero, or a TM with a live client": in a sound book only a TM has clients
 abbrev pub notRetirable : Row → Bool → Record → Bool
-notRetirable row hasLiveClient r = eqb (r .code) 11 && (not (noAmounts row) || hasLiveClient)
+notRetirable row tied r = eqb (r .code) 11 && (not (noAmounts row) || tied)
 
 -- the table for a record; 4, 5, 6 are its faults. 2 is about bytes (`nextOf` of the crate desk), 15 and 16 are the writer's
 -- and the close-out's.
@@ -81,7 +80,7 @@ refusals b r =
     ∷ (10 when pastCeiling (namedRow b r) r)
     ∷ (11 when tooMuch (namedRow b r) r)
     ∷ (12 when beyondFree (free (view b) (r .account)) r)
-    ∷ (13 when losesCover (uncovered (view (newMargin b r))) r)
+    ∷ (13 when losesCover (needOver (view (newMargin b r))) r)
     ∷ (14 when notRetirable (namedRow b r) (hasLiveClient b (r .account)) r)
     ∷ []))
 

@@ -8,8 +8,8 @@ use dayfile::Record;
 use rows::Row;
 use rows::kept::less;
 ghost use mathlib.Core.Path.{_≡_};
-ghost use Rattle.rows.specs.Ranges.{InRange};
-ghost use Rattle.rules.specs.Effects.{amended, passes};
+ghost use Rattle.rows.specs.Facts.{InRange};
+ghost use Rattle.rules.specs.Effects.{amended, effectOf};
 ghost use Rattle.rules.specs.Inner.{AmountsIn, changeBy};
 
 fn amend(row: Row, r: Record) -> Row
@@ -31,7 +31,7 @@ fn amend(row: Row, r: Record) -> Row
 
 fn passing(row: Row, r: Record) -> Change
     requires { ⌜ InRange row × AmountsIn r ⌝ }
-    ensures { λ x. ⌜ x ≡ passes row r ⌝ }
+    ensures { λ x. ⌜ x ≡ effectOf row r ⌝ }
 {
     let opening = (1 <= r.code) & (r.code <= 3);
     if opening {

@@ -2,11 +2,10 @@
 use rows::Kinds;
 use rows::kept::less;
 ghost use mathlib.Core.Path.{_≡_};
-ghost use mathlib.Core.Bool.{_&&_};
-ghost use Prim.Native.Nat.{_+_, _<_, _≤_};
-ghost use lib.Dec.{leb};
-ghost use Rattle.rows.specs.Rows.{total, plusKinds, lessKinds, ceiling};
-ghost use Rattle.rows.specs.Ranges.{kindsCapped, kindsWithin, KindsWithin, ceilings};
+ghost use Prim.Native.Nat.{_+_};
+ghost use Rattle.rows.specs.Rows.{addedUp, plusKinds, lessKinds};
+ghost use Rattle.rows.specs.Facts.{KindsWithin};
+ghost use Rattle.rows.specs.Ranges.{ceilings};
 
 pub(crate) fn plus_kinds(a: Kinds, b: Kinds) -> Kinds
     requires { ⌜ KindsWithin a ceilings × KindsWithin b ceilings ⌝ }
@@ -31,9 +30,9 @@ pub(crate) fn less_kinds(a: Kinds, b: Kinds) -> Kinds
     }
 }
 
-pub(crate) fn kinds_total(k: Kinds) -> u64
+pub(crate) fn added_up(k: Kinds) -> u64
     requires { ⌜ KindsWithin k ceilings ⌝ }
-    ensures { λ r. ⌜ r ≡ total k ⌝ }
+    ensures { λ r. ⌜ r ≡ addedUp k ⌝ }
 {
     k.cash + k.deposits + k.guarantees + k.securities
 }

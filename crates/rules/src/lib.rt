@@ -16,6 +16,6 @@ pub enum Change {
 // What a record's verdict needs of the other rows.
 pub struct Seen {
     pub free: u64,
-    pub uncovered: bool,
+    pub over: bool,
     pub tied: bool,
 }

@@ -1,6 +1,6 @@
 // The tests of the refusal table, on the row named and what was seen of the others.
 use crate::Seen;
-use crate::kinds::kinds_total;
+use crate::kinds::added_up;
 use crate::kinds::less_kinds;
 use crate::kinds::plus_kinds;
 use dayfile::Record;
@@ -10,18 +10,16 @@ use rows::ranges::kinds_capped;
 use rows::ranges::kinds_within;
 use rows::ranges::no_amounts;
 ghost use mathlib.Core.Path.{_≡_};
-ghost use mathlib.Core.Bool.{_&&_};
-ghost use Prim.Native.Nat.{_+_, _-_, _<_, _≤_};
-ghost use Rattle.rows.specs.Rows.{ceiling};
-ghost use Rattle.rows.specs.Ranges.{kindsCapped, noAmounts, InRange};
-ghost use Rattle.rules.specs.Refusals.{wrongSort, noNumberLeft, pastCeiling, tooMuch, beyondFree, losesCover, notRetirable};
+ghost use Prim.Native.Nat.{_+_, _-_, _<_};
+ghost use Rattle.rows.specs.Facts.{InRange};
+ghost use Rattle.rules.specs.Refusals.{wrongSort, noNumberLeft, pastCeiling, tooMuch, beyondFree, notRetirable};
 ghost use Rattle.rules.specs.Inner.{AmountsIn, refusalBy};
 
 fn wrong_sort(row: Row, r: Record) -> bool
     ensures { λ x. ⌜ x ≡ wrongSort row r ⌝ }
 {
-    ((r.code == 1) | (r.code == 3)) & !(row.code == 0)
-        | (r.code == 2) & !(row.code == 1)
+    ((r.code == 1) | (r.code == 3)) & !(row.sort == 0)
+        | (r.code == 2) & !(row.sort == 1)
         | (r.code == 11) & (r.account == 0)
 }
 
@@ -55,7 +53,7 @@ fn beyond_free(free: u64, r: Record) -> bool
     requires { ⌜ AmountsIn r ⌝ }
     ensures { λ x. ⌜ x ≡ beyondFree free r ⌝ }
 {
-    let asked = kinds_total(r.kinds);
+    let asked = added_up(r.kinds);
     (r.code == 7) & (free < asked) | (r.code == 9) & (free < r.pledged)
 }
 
@@ -97,7 +95,7 @@ pub(crate) fn refusal(row: Row, count: u16, serial: u16, seen: Seen, r: Record) 
     if beyond_free(seen.free, r) {
         return 12;
     }
-    if (r.code == 10) & seen.uncovered {
+    if (r.code == 10) & seen.over {
         return 13;
     }
     if not_retirable(row, seen.tied, r) {

@@ -5,9 +5,9 @@ use rows::Book;
 use rows::Row;
 ghost use mathlib.Core.Path.{_≡_};
 ghost use Prim.Native.Nat.{_≤_};
-ghost use Rattle.rows.specs.Ranges.{InRange};
-ghost use Rattle.book.specs.Sound.{Sound};
-ghost use Rattle.rules.specs.Inner.{SeenOf, nothing, seenBy};
+ghost use Rattle.rows.specs.Facts.{InRange};
+ghost use Rattle.book.specs.Facts.{Sound};
+ghost use Rattle.rules.specs.Inner.{SeenOf, nothing, seenWith};
 
 // Nothing seen: for a record that asks nothing of the other rows.
 pub fn nothing_seen() -> Seen
@@ -15,7 +15,7 @@ pub fn nothing_seen() -> Seen
 {
     Seen {
         free: 0,
-        uncovered: false,
+        over: false,
         tied: false,
     }
 }
@@ -32,7 +32,7 @@ pub fn look(b: Book, r: Record) -> Seen
     if (r.code == 7) | (r.code == 9) {
         return Seen {
             free: rows::asking::free_of(b, i),
-            uncovered: false,
+            over: false,
             tied: false,
         };
     }
@@ -42,13 +42,13 @@ pub fn look(b: Book, r: Record) -> Seen
         }
         return Seen {
             free: 0,
-            uncovered: !rows::asking::covered_with(b, i, r.margin),
+            over: !rows::asking::covered_with(b, i, r.margin),
             tied: false,
         };
     }
     Seen {
         free: 0,
-        uncovered: false,
+        over: false,
         tied: rows::asking::has_live_client(b, i),
     }
 }
@@ -66,18 +66,18 @@ pub fn see(
 ) -> Seen
     requires { ⌜ InRange row × InRange tm × InRange top ⌝ }
     requires { ⌜ (under ≤ 2_560_000_000_000_000) × (owed ≤ 2_560_000_000_000_000) × (all ≤ 2_560_000_000_000_000) ⌝ }
-    ensures { λ x. ⌜ x ≡ seenBy row under tm owed top all tied r ⌝ }
+    ensures { λ x. ⌜ x ≡ seenWith row under tm owed top all tied r ⌝ }
 {
     let margin = rows::needs::blocked_of(r.margin, rows::CEILING);
     let new = rows::words::with_margin(row, margin);
-    let top_set = rows::needs::only_if(row.code == 0, margin);
-    let top_left = rows::needs::only_if(!(row.code == 0), top.margin);
+    let top_set = rows::needs::only_if(row.sort == 0, margin);
+    let top_left = rows::needs::only_if(!(row.sort == 0), top.margin);
     let after = rows::kept::under_cm(row, new, under, tm, owed, all);
     let need = top_set + top_left + after;
     let cover = rows::needs::collateral_of(top);
     Seen {
         free: rows::kept::free_with(row, under),
-        uncovered: cover < need,
+        over: cover < need,
         tied: tied,
     }
 }

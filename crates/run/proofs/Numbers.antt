@@ -2,16 +2,16 @@
 use mathlib.Core.Bool.{Bool, true, false}
 use mathlib.Core.List.{List, [], _∷_}
 use mathlib.Core.Path.{_≡_, refl, sym, ap, _∙_}
-use Prim.Native.Nat.{ℕ, suc, _+_, _*_, _≤_}
+use Prim.Native.Nat.{ℕ, suc, _+_}
 use native.Mathlib.Omega.{arith}
 use lib.Dec.{eqb}
-use lib.ListN.{length, set}
+use lib.ListN.{set}
 use lib.Seq.{sets}
 use borrow.Author.Tests.{ne-eqb}
 use Rattle.sums.specs.Choice.{pick}
 use Rattle.sums.proofs.Choices.{pick-no}
 use Rattle.rows.specs.declared.Book.{Book}
-use Rattle.book.specs.Sound.{Sound}
+use Rattle.book.specs.Facts.{Sound}
 use Rattle.dayfile.specs.declared.Record.{Record}
 use Rattle.rules.specs.declared.Change.{Change}
 use Rattle.rules.specs.declared.Change.the-variants.{Refuse, Put, Open}
@@ -21,21 +21,21 @@ use Rattle.desk.specs.declared.Outcome.the-variants.{Refused}
 use Rattle.desk.specs.Answers.{nobody, ofRecord, answerOf, carriedIn}
 use Rattle.desk.specs.Steps.{stepOf}
 use Rattle.run.specs.Told.{five}
-use Rattle.run.specs.Inner.{refusalBy, givenBy, carriedBy}
+use Rattle.run.specs.Inner.{refusalShown, givenShown, carriedShown}
 
 -- the numbers of a record at a sound book, by its change
 abbrev pub numbersBy : Record → ℕ → Change → List ℕ
-numbersBy r count c = r .serial ∷ r .code ∷ r .account ∷ refusalBy c ∷ givenBy count c ∷ []
+numbersBy r count c = r .serial ∷ r .code ∷ r .account ∷ refusalShown c ∷ givenShown count c ∷ []
 
-pub carried-by : (count : ℕ) (r : Record) (c : Change) → carriedIn (answerOf count r c .outcome) ≡ carriedBy c
+pub carried-shown : (count : ℕ) (r : Record) (c : Change) → carriedIn (answerOf count r c .outcome) ≡ carriedShown c
 unfolding pick
-carried-by count r (Refuse n) = by (eqb n 1)
+carried-shown count r (Refuse n) = by (eqb n 1)
   where
     by : (t : Bool) → carriedIn (pick t (nobody (Refused n)) (ofRecord r (Refused n)) .outcome) ≡ 0
     by true = refl
     by false = refl
-carried-by count r (Put x) = refl
-carried-by count r (Open x) = refl
+carried-shown count r (Put x) = refl
+carried-shown count r (Open x) = refl
 
 pub numbers-by : (b : Book) (r : Record) (c : Change) → Sound b → c ≡ changeOf b r → five (stepOf b r .answer) ≡ numbersBy r (b .count) c
 unfolding five stepOf

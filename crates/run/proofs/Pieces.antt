@@ -1,16 +1,15 @@
 -- A day file carried out in pieces is the day file carried out at once.
 use mathlib.Core.Bool.{Bool, true, false}
-use mathlib.Core.List.{List, [], _++_}
+use mathlib.Core.List.{List, _++_}
 use mathlib.Core.Path.{_≡_, refl, sym, ap, _∙_}
-use Prim.Native.Nat.{ℕ, zero, suc, _+_, _-_, _≤_, _<_}
+use Prim.Native.Nat.{ℕ, zero, suc, _+_, _-_, _≤_}
 use native.Mathlib.Nat.{add-assoc, add-zero, zero-add}
 use native.Mathlib.Omega.{arith}
-use lib.ListN.{length, drop}
+use lib.ListN.{drop}
 use lib.Seq.{drop-append-le}
-use Rattle.sums.specs.Choice.{pick}
-use Rattle.sums.proofs.Choices.{pass, stop}
 use Rattle.rows.specs.declared.Book.{Book}
-use Rattle.book.specs.Sound.{soundB, Sound}
+use Rattle.book.specs.Sound.{soundB}
+use Rattle.book.specs.Facts.{Sound}
 use Rattle.book.proofs.SoundTest.{sound→, sound←}
 use Rattle.dayfile.specs.declared.Found.{Found}
 use Rattle.dayfile.specs.declared.Found.the-variants.{End as NoBytes, Cut as TooFew, Whole}
@@ -20,14 +19,14 @@ use Rattle.desk.specs.Answers.{carriedIn}
 use Rattle.desk.specs.Steps.{stepOf}
 use Rattle.run.specs.declared.Closing.the-variants.{Unsound}
 use Rattle.run.specs.declared.Ran.{Ran}
-use Rattle.run.specs.Runs.{closed, stopped, onward, runOf, ranOf}
+use Rattle.run.specs.Runs.{endedWith, stopped, onward, runOf, ranOf}
 use Rattle.run.proofs.SoundRun.{run-sound}
-use Rattle.run.proofs.Stops.{Stopped, run-stops}
+use Rattle.run.proofs.Stops.{run-stops}
 use Rattle.run.proofs.Tellings.{ran-sound, ran-unsound}
 
 -- what a run came to, after place bytes and with these counts before it
 abbrev pub onFrom : ℕ → ℕ → ℕ → Ran → Ran
-onFrom place read done r = closed (r .closing) (r .book) (place + r .place) (read + r .read) (done + r .done)
+onFrom place read done r = endedWith (r .closing) (r .book) (place + r .place) (read + r .read) (done + r .done)
 
 pub on-twice : (p k d p′ k′ d′ : ℕ) (r : Ran) → onFrom p k d (onFrom p′ k′ d′ r) ≡ onFrom (p + p′) (k + k′) (d + d′) r
 on-twice p k d p′ k′ d′ r =
@@ -125,6 +124,6 @@ module _ (b : Book) (s x : List ℕ) (m n : ℕ) (h : m ≤ n) where
       by true e = sym (ran-sound b (s ++ x) n e) ∙ pieces-sound (sound→ b e) ∙ ap (λ r. restOf r s x n) (ran-sound b s m e)
       by false e =
           sym (ran-unsound b (s ++ x) n e)
-          ∙ on-none (closed Unsound b 0 0 0)
+          ∙ on-none (endedWith Unsound b 0 0 0)
           ∙ ap (onFrom 0 0 0) (ran-unsound b (s ++ x) (n - 0) e)
           ∙ ap (λ r. restOf r s x n) (ran-unsound b s m e)

@@ -1,36 +1,32 @@
 -- A run leaves a sound book, counts the records that it answered, and is one `carry_out_next` after the other.
-use mathlib.Core.Bool.{Bool, true, false}
-use mathlib.Core.List.{List, [], _∷_}
+use mathlib.Core.Bool.{true}
+use mathlib.Core.List.{List}
 use mathlib.Core.Path.{_≡_, refl, sym, ap, _∙_}
 use Prim.Native.Nat.{ℕ, zero, suc, _+_}
+use native.Mathlib.Nat.{zero-add}
 use native.Mathlib.Omega.{arith}
 use lib.ListN.{length}
-use Rattle.sums.specs.Choice.{pick}
-use Rattle.sums.proofs.Choices.{pick-yes, pick-no}
+use Rattle.sums.proofs.Choices.{pick-yes}
 use Rattle.rows.specs.declared.Book.{Book}
-use Rattle.book.specs.Sound.{soundB, Sound}
-use Rattle.book.proofs.SoundTest.{sound→, sound←}
+use Rattle.book.specs.Sound.{soundB}
+use Rattle.book.specs.Facts.{Sound}
+use Rattle.book.proofs.SoundTest.{sound←}
 use Rattle.dayfile.specs.declared.Record.{Record}
 use Rattle.dayfile.specs.declared.Found.{Found}
 use Rattle.dayfile.specs.declared.Found.the-variants.{End as NoBytes, Cut as TooFew, Whole}
 use Rattle.dayfile.specs.Reading.{foundAt}
 use Rattle.rules.proofs.SoundChange.{change-sound}
-use Rattle.desk.specs.declared.Answer.{Answer}
 use Rattle.desk.specs.Answers.{carriedIn}
-use Rattle.desk.specs.Steps.{stepOf, nextOf}
+use Rattle.desk.specs.Steps.{stepOf, onFound, nextOf}
 use Rattle.desk.proofs.Doing.{sound-next}
 use Rattle.run.specs.declared.Closing.the-variants.{Unsound}
-use Rattle.run.specs.Runs.{closed, stopped, onward, runOf, ranOf}
-use Rattle.run.specs.Told.{answering, answersOf}
+use Rattle.run.specs.Runs.{endedWith, stopped, onward, runOf, ranOf}
+use Rattle.run.specs.Told.{answering, answersOf, carriedOf}
+use Rattle.run.proofs.Tellings.{ran-sound}
 
 pub step-sound : (b : Book) (r : Record) → Sound b → Sound (stepOf b r .book)
 unfolding stepOf
 step-sound b r s = change-sound b r s
-
--- "those of them with refusal 0"
-unfoldable pub carriedOf : List Answer → ℕ
-carriedOf [] = 0
-carriedOf (a ∷ rest) = carriedIn (a .outcome) + carriedOf rest
 
 module _ (s : List ℕ) where
   stopped-book : (f : Found) (b : Book) (place read done : ℕ) → stopped f b place read done .book ≡ b
@@ -87,4 +83,21 @@ module _ (s : List ℕ) where
 pub ran-keeps : (b : Book) (s : List ℕ) (most : ℕ) → Sound b → Sound (ranOf b s most .book)
 unfolding ranOf
 ran-keeps b s most h =
-    rw (pick-yes (soundB b) (runOf s most b 0 0 0) (closed Unsound b 0 0 0) (sound← b h)) (run-sound s most b 0 0 0 h)
+    rw (pick-yes (soundB b) (runOf s most b 0 0 0) (endedWith Unsound b 0 0 0) (sound← b h)) (run-sound s most b 0 0 0 h)
+
+-- "records read, and those of them with refusal 0": the public call's two counts
+pub ran-counts : (b : Book) (s : List ℕ) (most : ℕ) → soundB b ≡ true
+    → (ranOf b s most .read ≡ length (answersOf s most b 0)) × (ranOf b s most .done ≡ carriedOf (answersOf s most b 0))
+ran-counts b s most e =
+    let h = run-counts s most b 0 0 0 in
+    let r = ran-sound b s most e in
+    (sym (ap (λ x. x .read) r) ∙ h .0 ∙ zero-add _, sym (ap (λ x. x .done) r) ∙ h .1 ∙ zero-add _)
+
+-- what stands at a place, whatever it is, leaves a sound book sound
+pub next-sound : (b : Book) (s : List ℕ) (at : ℕ) → Sound b → Sound (nextOf b s at .book)
+next-sound b s at h = rw (← sound-next b s at (foundAt s at) (sound← b h) refl) (keeps (foundAt s at))
+  where
+    keeps : (f : Found) → Sound (onFound b at f .book)
+    keeps NoBytes = h
+    keeps TooFew = h
+    keeps (Whole r next) = step-sound b r h

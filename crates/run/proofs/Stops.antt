@@ -7,16 +7,13 @@ use Prim.Native.Nat.{ℕ, zero, suc, _+_, _≤_, _<_}
 use native.Mathlib.Omega.{arith}
 use lib.ListN.{length}
 use Rattle.rows.specs.declared.Book.{Book}
-use Rattle.book.specs.Sound.{soundB, Sound}
-use Rattle.book.proofs.SoundTest.{sound←}
-use Rattle.dayfile.specs.declared.Record.{Record}
+use Rattle.book.specs.Sound.{soundB}
 use Rattle.dayfile.specs.declared.Found.{Found}
 use Rattle.dayfile.specs.declared.Found.the-variants.{End as NoBytes, Cut as TooFew, Whole}
-use Rattle.dayfile.specs.Bytes.{Bytes}
+use Rattle.dayfile.specs.Files.{Bytes}
 use Rattle.dayfile.specs.Reading.{foundAt}
 use Rattle.dayfile.proofs.Places.{next-within, end-at}
 use Rattle.dayfile.proofs.Growing.{cut-near}
-use Rattle.rules.proofs.SoundChange.{change-sound}
 use Rattle.desk.specs.declared.Outcome.{Outcome}
 use Rattle.desk.specs.declared.Outcome.the-variants.{CarriedOut, Opened, Refused, End as NoRecord}
 use Rattle.desk.specs.Answers.{carriedIn}
@@ -24,7 +21,7 @@ use Rattle.desk.specs.Steps.{stepOf}
 use Rattle.run.specs.declared.Closing.{Closing}
 use Rattle.run.specs.declared.Closing.the-variants.{End, Cut, Long, Unsound}
 use Rattle.run.specs.declared.Ran.{Ran}
-use Rattle.run.specs.Runs.{closed, stopped, onward, runOf, ranOf}
+use Rattle.run.specs.Runs.{endedWith, stopped, onward, runOf, ranOf}
 use Rattle.run.proofs.Tellings.{ran-sound, ran-unsound}
 
 -- two closing words that differ
@@ -45,7 +42,7 @@ pub record Stopped (s : List ℕ) (most at read done : ℕ) (r : Ran) : Type 0 w
 -- it stopped where it began
 here : (s : List ℕ) (most : ℕ) (word : Closing) (b : Book) (at read done : ℕ)
     → (word ≡ End → foundAt s at ≡ NoBytes) → (word ≡ Cut → foundAt s at ≡ TooFew) → (word ≡ Long → most ≡ 0)
-    → Stopped s most at read done (closed word b at read done)
+    → Stopped s most at read done (endedWith word b at read done)
 here s most word b at read done e c l = record {
   from = omega arith;
   upto = omega arith;

@@ -1,13 +1,12 @@
 -- What the record loop tells is the records' numbers, one after the other.
 use mathlib.Core.Bool.{true, false}
-use mathlib.Core.List.{List, [], _∷_, _++_, append-assoc}
+use mathlib.Core.List.{List, [], _++_, append-assoc}
 use mathlib.Core.Path.{_≡_, refl, sym, ap, _∙_}
-use Prim.Native.Nat.{ℕ, zero, suc, _+_, _-_, _*_, _/_, _≤_, _<_, min}
+use Prim.Native.Nat.{ℕ, zero, suc, _+_, _-_, _*_, _≤_}
 use native.Mathlib.Omega.{arith}
 use lib.ListN.{length, take, drop, length-take, length-append, take-append-drop}
 use lib.Seq.{sets, sets-eq, length-sets, take-at, drop-append-add, drop-drop}
-use Rattle.sums.specs.Choice.{pick}
-use Rattle.sums.proofs.Choices.{pick-yes, pick-no, pass, stop}
+use Rattle.sums.proofs.Choices.{pass, stop}
 use Rattle.book.specs.Sound.{soundB}
 use Rattle.rows.specs.declared.Book.{Book}
 use Rattle.dayfile.specs.declared.Found.{Found}
@@ -16,7 +15,7 @@ use Rattle.dayfile.specs.Reading.{foundAt}
 use Rattle.desk.specs.declared.Answer.{Answer}
 use Rattle.desk.specs.Steps.{stepOf}
 use Rattle.run.specs.declared.Closing.the-variants.{Unsound}
-use Rattle.run.specs.Runs.{closed, runOf, ranOf}
+use Rattle.run.specs.Runs.{endedWith, runOf, ranOf}
 use Rattle.run.specs.Told.{answering, answersOf, five, fives, roomFor, toldOf}
 use Rattle.run.specs.Inner.{putFive, telling, tellOf}
 
@@ -100,7 +99,7 @@ told-from-start s n b room h =
 
 -- the two public calls
 module _ (b : Book) (s : List ℕ) (most : ℕ) where
-  pub ran-unsound : soundB b ≡ false → closed Unsound b 0 0 0 ≡ ranOf b s most
+  pub ran-unsound : soundB b ≡ false → endedWith Unsound b 0 0 0 ≡ ranOf b s most
   unfolding ranOf
   ran-unsound e = stop _ e refl
 

@@ -1,6 +1,6 @@
 -- The record loop: what holds at each turn, one record more, and where it stops.
 use mathlib.Core.Bool.{Bool, true, false}
-use mathlib.Core.List.{List, [], _∷_}
+use mathlib.Core.List.{List}
 use mathlib.Core.Path.{_≡_, refl, sym, ap, _∙_}
 use Prim.Native.Nat.{ℕ, zero, suc, _+_, _-_, _*_, _≤_, _<_}
 use native.Mathlib.Omega.{arith}
@@ -8,7 +8,7 @@ use lib.ListN.{length}
 use lib.Seq.{length-sets}
 use Rattle.sums.specs.Choice.{pick}
 use Rattle.rows.specs.declared.Book.{Book}
-use Rattle.book.specs.Sound.{Sound}
+use Rattle.book.specs.Facts.{Sound}
 use Rattle.dayfile.specs.declared.Record.{Record}
 use Rattle.dayfile.specs.declared.Found.the-variants.{End as NoBytes, Cut as TooFew, Whole}
 use Rattle.dayfile.specs.Reading.{foundAt}
@@ -20,10 +20,10 @@ use Rattle.desk.specs.Answers.{carriedIn, answerOf}
 use Rattle.desk.specs.Steps.{stepOf}
 use Rattle.run.specs.declared.Closing.{Closing}
 use Rattle.run.specs.declared.Closing.the-variants.{End, Cut, Long}
-use Rattle.run.specs.Runs.{closed, stopped, runOf}
+use Rattle.run.specs.Runs.{endedWith, stopped, runOf}
 use Rattle.run.specs.Told.{five}
-use Rattle.run.specs.Inner.{putFive, tellOf, carriedBy}
-use Rattle.run.proofs.Numbers.{numbersBy, carried-by, numbers-by}
+use Rattle.run.specs.Inner.{putFive, tellOf, carriedShown}
+use Rattle.run.proofs.Numbers.{numbersBy, carried-shown, numbers-by}
 
 -- s is the piece; with ₀ what was there where the loop began
 module _ (s : List ℕ) (most : ℕ) (tell : Bool) (room₀ : List ℕ) (b₀ : Book) (place₀ read₀ done₀ : ℕ) where
@@ -36,7 +36,7 @@ module _ (s : List ℕ) (most : ℕ) (tell : Bool) (room₀ : List ℕ) (b₀ : 
     pub runs : runOf s (most - read) b place read done ≡ runOf s most b₀ place₀ read₀ done₀
     pub tells : pick tell (tellOf s (most - read) b place read room) room ≡ pick tell (tellOf s most b₀ place₀ read₀ room₀) room₀
 
-pub carried-most : (c : Change) → carriedBy c ≤ 1
+pub carried-most : (c : Change) → carriedShown c ≤ 1
 carried-most (Refuse n) = omega arith
 carried-most (Put x) = omega arith
 carried-most (Open x) = omega arith
@@ -46,9 +46,9 @@ step-book : (b : Book) (r : Record) (c : Change) → c ≡ changeOf b r → step
 unfolding stepOf
 step-book b r c e = ap (bookAfter b (r .account)) (sym e)
 
-step-carried : (b : Book) (r : Record) (c : Change) → c ≡ changeOf b r → carriedIn (stepOf b r .answer .outcome) ≡ carriedBy c
+step-carried : (b : Book) (r : Record) (c : Change) → c ≡ changeOf b r → carriedIn (stepOf b r .answer .outcome) ≡ carriedShown c
 unfolding stepOf
-step-carried b r c e = ap (λ d. carriedIn (answerOf (b .count) r d .outcome)) (sym e) ∙ carried-by (b .count) r c
+step-carried b r c e = ap (λ d. carriedIn (answerOf (b .count) r d .outcome)) (sym e) ∙ carried-shown (b .count) r c
 
 module _ (s : List ℕ) (most : ℕ) (b : Book) (place read : ℕ) (r : Record) (next : ℕ) (l : read < most) (f : foundAt s place ≡ Whole r next) where
   fuel : most - read ≡ suc (most - (read + 1))
@@ -69,7 +69,7 @@ module _ (s : List ℕ) (most : ℕ) (tell : Bool) (room₀ : List ℕ) (b₀ : 
   -- one record more, whose change is c
   pub turn : (r : Record) (next : ℕ) (c : Change) (room′ : List ℕ) (b′ : Book) → read < most → foundAt s place ≡ Whole r next → c ≡ changeOf b r
       → room′ ≡ pick tell (putFive room read (numbersBy r (b .count) c)) room → b′ ≡ bookAfter b (r .account) c
-      → Loop s most tell room₀ b₀ place₀ read₀ done₀ room′ b′ next (read + 1) (done + carriedBy c)
+      → Loop s most tell room₀ b₀ place₀ read₀ done₀ room′ b′ next (read + 1) (done + carriedShown c)
   unfolding pick
   turn r next c room′ b′ l f e er eb = record {
     within = omega arith;
@@ -100,13 +100,13 @@ module _ (s : List ℕ) (most : ℕ) (tell : Bool) (room₀ : List ℕ) (b₀ : 
 
   abbrev Finished : Closing → Type 0
   Finished word =
-      (closed word b place read done ≡ runOf s most b₀ place₀ read₀ done₀)
+      (endedWith word b place read done ≡ runOf s most b₀ place₀ read₀ done₀)
       × (room ≡ pick tell (tellOf s most b₀ place₀ read₀ room₀) room₀)
 
-  finish : (word : Closing) → runOf s (most - read) b place read done ≡ closed word b place read done → tellOf s (most - read) b place read room ≡ room → Finished word
+  finish : (word : Closing) → runOf s (most - read) b place read done ≡ endedWith word b place read done → tellOf s (most - read) b place read room ≡ room → Finished word
   finish word p q = (sym p ∙ g .runs, sym (nothing-told tell q) ∙ g .tells)
 
-  at-end : (n : ℕ) → foundAt s place ≡ NoBytes → (runOf s n b place read done ≡ closed End b place read done) × (tellOf s n b place read room ≡ room)
+  at-end : (n : ℕ) → foundAt s place ≡ NoBytes → (runOf s n b place read done ≡ endedWith End b place read done) × (tellOf s n b place read room ≡ room)
   unfolding runOf tellOf
   at-end zero f = (rw f, refl)
   at-end (suc n) f = (rw f, rw f)
@@ -114,7 +114,7 @@ module _ (s : List ℕ) (most : ℕ) (tell : Bool) (room₀ : List ℕ) (b₀ : 
   pub ends : foundAt s place ≡ NoBytes → Finished End
   ends f = finish End (at-end (most - read) f .0) (at-end (most - read) f .1)
 
-  at-cut : (n : ℕ) → n ≡ suc (most - (read + 1)) → foundAt s place ≡ TooFew → (runOf s n b place read done ≡ closed Cut b place read done) × (tellOf s n b place read room ≡ room)
+  at-cut : (n : ℕ) → n ≡ suc (most - (read + 1)) → foundAt s place ≡ TooFew → (runOf s n b place read done ≡ endedWith Cut b place read done) × (tellOf s n b place read room ≡ room)
   unfolding runOf tellOf
   at-cut n e f = rw e (rw f, rw f)
 

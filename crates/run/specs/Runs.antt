@@ -15,20 +15,20 @@ use Rattle.run.specs.declared.Ran.{Ran}
 
 -- "the book after them, the place reached (after the last record read), the closing word .. and two counts: records read,
 -- and those of them with refusal 0"
-abbrev pub closed : Closing → Book → ℕ → ℕ → ℕ → Ran
-closed word b place read done = record { book = b; place = place; closing = word; read = read; done = done }
+abbrev pub endedWith : Closing → Book → ℕ → ℕ → ℕ → Ran
+endedWith word b place read done = record { book = b; place = place; closing = word; read = read; done = done }
 
 -- the stated number is read: "A millionth record followed by nothing is `end`, by anything `long`."
 abbrev pub stopped : Found → Book → ℕ → ℕ → ℕ → Ran
-stopped NoBytes = closed End
-stopped TooFew = closed Long
-stopped (Whole r next) = closed Long
+stopped NoBytes = endedWith End
+stopped TooFew = endedWith Long
+stopped (Whole r next) = endedWith Long
 
--- one record is carried out, and k goes on; "It stops at the end, at a cut"; "a cut record isn't counted"
+-- one record is carried out, and it goes on; "It stops at the end, at a cut"; "a cut record isn't counted"
 abbrev pub onward : (Book → ℕ → ℕ → ℕ → Ran) → Found → Book → ℕ → ℕ → ℕ → Ran
-onward k NoBytes b place read done = closed End b place read done
-onward k TooFew b place read done = closed Cut b place read done
-onward k (Whole r next) b place read done = k (stepOf b r .book) next (read + 1) (done + carriedIn (stepOf b r .answer .outcome))
+onward go NoBytes b place read done = endedWith End b place read done
+onward go TooFew b place read done = endedWith Cut b place read done
+onward go (Whole r next) b place read done = go (stepOf b r .book) next (read + 1) (done + carriedIn (stepOf b r .answer .outcome))
 
 -- from a place on, up to most records more
 unfoldable pub runOf : List ℕ → ℕ → Book → ℕ → ℕ → ℕ → Ran
@@ -38,4 +38,4 @@ runOf s (suc most) b place read done = onward (runOf s most) (foundAt s place) b
 -- "One library call carries out the records of a lent piece from its start, up to a stated number"; "An unsound book gives 1
 -- as the closing word, place 0, counts of 0 and the same book."
 unfoldable pub ranOf : Book → List ℕ → ℕ → Ran
-ranOf b s most = pick (soundB b) (runOf s most b 0 0 0) (closed Unsound b 0 0 0)
+ranOf b s most = pick (soundB b) (runOf s most b 0 0 0) (endedWith Unsound b 0 0 0)

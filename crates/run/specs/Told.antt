@@ -1,31 +1,39 @@
 -- "a line per record ..: serial, code, account named, refusal or 0, number given or 0": the numbers of those lines.
 use mathlib.Core.List.{List, [], _∷_, _++_}
-use Prim.Native.Nat.{ℕ, zero, suc, _/_, min}
-use lib.ListN.{length, drop}
+use Prim.Native.Nat.{ℕ, zero, suc, _+_, _/_, min}
+use lib.ListN.{length}
 use Rattle.sums.specs.Choice.{pick}
+use Rattle.sums.specs.Room.{over}
 use Rattle.rows.specs.declared.Book.{Book}
 use Rattle.book.specs.Sound.{soundB}
 use Rattle.dayfile.specs.declared.Found.{Found}
 use Rattle.dayfile.specs.declared.Found.the-variants.{End as NoBytes, Cut as TooFew, Whole}
 use Rattle.dayfile.specs.Reading.{foundAt}
 use Rattle.desk.specs.declared.Answer.{Answer}
-use Rattle.desk.specs.Answers.{refusalIn, givenIn}
+use Rattle.desk.specs.Answers.{refusalIn, givenIn, carriedIn}
 use Rattle.desk.specs.Steps.{stepOf}
 
--- the answers to the records from a place on, up to most of them
+-- the answer to what stands at a place, and those of go after it
 abbrev pub answering : (Book → ℕ → List Answer) → Found → Book → List Answer
-answering k NoBytes b = []
-answering k TooFew b = []
-answering k (Whole r next) b = stepOf b r .answer ∷ k (stepOf b r .book) next
+answering go NoBytes b = []
+answering go TooFew b = []
+answering go (Whole r next) b = stepOf b r .answer ∷ go (stepOf b r .book) next
 
+-- the answers to the records from a place on, up to most of them
 unfoldable pub answersOf : List ℕ → ℕ → Book → ℕ → List Answer
 answersOf s zero b place = []
 answersOf s (suc most) b place = answering (answersOf s most) (foundAt s place) b
+
+-- "those of them with refusal 0"
+unfoldable pub carriedOf : List Answer → ℕ
+carriedOf [] = 0
+carriedOf (a ∷ rest) = carriedIn (a .outcome) + carriedOf rest
 
 -- the five numbers of an answer
 unfoldable pub five : Answer → List ℕ
 five a = a .serial ∷ a .code ∷ a .account ∷ refusalIn (a .outcome) ∷ givenIn (a .outcome) ∷ []
 
+-- the numbers of all lines, one after the other
 unfoldable pub fives : List Answer → List ℕ
 fives [] = []
 fives (a ∷ rest) = five a ++ fives rest
@@ -37,5 +45,4 @@ roomFor most room = min most (length room / 5)
 -- the room after the records' numbers are put into it, from its start; an unsound book leaves it as it was
 unfoldable pub toldOf : Book → List ℕ → ℕ → List ℕ → List ℕ
 toldOf b s most room =
-    let told = fives (answersOf s (roomFor most room) b 0) in
-    pick (soundB b) (told ++ drop (length told) room) room
+    pick (soundB b) (over (fives (answersOf s (roomFor most room) b 0)) room) room

@@ -2,13 +2,13 @@
 ghost use mathlib.Core.Bool.{true};
 ghost use mathlib.Core.List.{[], _∷_};
 ghost use mathlib.Core.Path.{_≡_};
-ghost use Prim.Native.Nat.{_+_, _*_, _≤_, min, _/_};
+ghost use Prim.Native.Nat.{_+_, _*_, _≤_, _/_};
 ghost use lib.ListN.{length};
 ghost use Rattle.sums.specs.Choice.{pick};
-ghost use Rattle.book.specs.Sound.{Sound};
-ghost use Rattle.run.specs.Runs.{closed, runOf, ranOf};
+ghost use Rattle.book.specs.Facts.{Sound};
+ghost use Rattle.run.specs.Runs.{endedWith, runOf, ranOf};
 ghost use Rattle.run.specs.Told.{toldOf, roomFor};
-ghost use Rattle.run.specs.Inner.{putFive, tellOf, refusalBy, givenBy, carriedBy};
+ghost use Rattle.run.specs.Inner.{putFive, tellOf, refusalShown, givenShown, carriedShown};
 use dayfile::Found;
 use rows::Book;
 use rules::Change;
@@ -29,8 +29,8 @@ pub struct Ran {
     pub done: u64,
 }
 
-fn refusal_by(c: Change) -> u16
-    ensures { λ n. ⌜ n ≡ refusalBy c ⌝ }
+fn refusal_shown(c: Change) -> u16
+    ensures { λ n. ⌜ n ≡ refusalShown c ⌝ }
 {
     match c {
         Change::Refuse(n) => n as u16,
@@ -39,8 +39,8 @@ fn refusal_by(c: Change) -> u16
     }
 }
 
-fn given_by(count: u16, c: Change) -> u16
-    ensures { λ n. ⌜ n ≡ givenBy count c ⌝ }
+fn given_shown(count: u16, c: Change) -> u16
+    ensures { λ n. ⌜ n ≡ givenShown count c ⌝ }
 {
     match c {
         Change::Refuse(_) => 0,
@@ -49,8 +49,8 @@ fn given_by(count: u16, c: Change) -> u16
     }
 }
 
-fn carried_by(c: Change) -> u64
-    ensures { λ n. ⌜ n ≡ carriedBy c ⌝ }
+fn carried_shown(c: Change) -> u64
+    ensures { λ n. ⌜ n ≡ carriedShown c ⌝ }
 {
     match c {
         Change::Refuse(_) => 0,
@@ -114,7 +114,7 @@ fn run(b: Book, piece: &[u8], most: u64, room: &mut [u16], tell: bool) -> Ran
                 let top = book.rows[0];
                 let all = owed[0];
                 let mut tied = false;
-                if (r.code == 11) & (row.code == 1) {
+                if (r.code == 11) & (row.sort == 1) {
                     tied = rows::asking::has_live_client(book, i);
                 }
                 let seen = rules::seeing::see(row, under, tm, tm_owed, top, all, tied, r);
@@ -126,14 +126,14 @@ fn run(b: Book, piece: &[u8], most: u64, room: &mut [u16], tell: bool) -> Ran
                         r.serial,
                         r.code,
                         r.account,
-                        refusal_by(change),
-                        given_by(count, change),
+                        refusal_shown(change),
+                        given_shown(count, change),
                     );
                 }
                 let after = std::num::wrapping_add_u16(serial, 1);
                 place = next;
                 read += 1;
-                done += carried_by(change);
+                done += carried_shown(change);
                 match change {
                     Change::Refuse(n) => {
                         if 3 < n {
@@ -168,7 +168,7 @@ fn run(b: Book, piece: &[u8], most: u64, room: &mut [u16], tell: bool) -> Ran
 }
 
 fn unsound(b: Book) -> Ran
-    ensures { λ r. ⌜ r ≡ closed Closing.Unsound b 0 0 0 ⌝ }
+    ensures { λ r. ⌜ r ≡ endedWith Closing.Unsound b 0 0 0 ⌝ }
 {
     Ran {
         book: b,

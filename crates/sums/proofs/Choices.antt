@@ -1,9 +1,9 @@
--- Laws of a choice by a test, and of tests joined.
-use mathlib.Core.Bool.{Bool, true, false, _&&_, _||_, not, false≢true}
+-- Laws of a choice by a test or by a refusal, and of tests joined.
+use mathlib.Core.Bool.{Bool, true, false, _&&_, _||_, false≢true}
 use mathlib.Core.Logic.{_⊎_, inl, inr}
 use mathlib.Core.Path.{_≡_, refl, sym, _∙_}
-use Prim.Native.Nat.{ℕ}
-use Rattle.sums.specs.Choice.{pick}
+use Prim.Native.Nat.{ℕ, zero, suc}
+use Rattle.sums.specs.Choice.{pick, unlessRefused}
 
 module _ {A : Type 0} where
   pub pick-yes : (t : Bool) (a b : A) → t ≡ true → pick t a b ≡ a
@@ -25,11 +25,10 @@ module _ {A : Type 0} where
   unfolding pick
   stop a e h = rw e h
 
-  -- both ways lead to the same
-  pub pick-same : (t : Bool) (a : A) → pick t a a ≡ a
-  unfolding pick
-  pick-same true a = refl
-  pick-same false a = refl
+  -- a refusal's number decides
+  pub refused-by : (n : ℕ) (a : A) (f : ℕ → A) → (n ≡ 0 → ⊥) → f n ≡ unlessRefused n a f
+  refused-by zero a f h = absurd (h refl)
+  refused-by (suc n) a f h = refl
 
 -- a test does not both hold and fail
 pub clash : {t : Bool} {A : Type 0} → t ≡ true → t ≡ false → A

@@ -1,12 +1,12 @@
 -- Laws of sums and of tests over the numbers below a bound.
-use mathlib.Core.Path.{_≡_, refl, sym, _∙_, ap}
-use mathlib.Core.Bool.{Bool, true, false, _&&_}
-use Prim.Native.Nat.{ℕ, zero, suc, _+_, _-_, _*_, _≤_, _<_, min}
+use mathlib.Core.Path.{_≡_, refl, sym}
+use mathlib.Core.Bool.{Bool, true, false, _&&_, _||_}
+use Prim.Native.Nat.{ℕ, zero, suc, _+_, _-_, _*_, _≤_, _<_}
 use native.Mathlib.Omega.{arith}
 use native.Mathlib.Numerals.{add-one}
 use native.Mathlib.Decide.{ℕ-discrete}
-use Rattle.sums.specs.Sum.{sum, only, all}
-use Rattle.sums.proofs.Choices.{and-split, and-join}
+use Rattle.sums.specs.Sum.{sum, only, all, any}
+use Rattle.sums.proofs.Choices.{and-split, and-join, or-fails}
 
 -- one number more
 pub sum-step : (n : ℕ) (f : ℕ → ℕ) → sum (n + 1) f ≡ sum n f + f n
@@ -118,3 +118,26 @@ pub all-from : (n : ℕ) (p : ℕ → Bool) → ((i : ℕ) → i < n → p i ≡
 unfolding all
 all-from zero p h = refl
 all-from (suc n) p h = and-join (all-from n p (λ i l. h i (omega arith))) (h n (omega arith))
+
+pub any-none : (p : ℕ → Bool) → any 0 p ≡ false
+unfolding any
+any-none p = refl
+
+pub any-step : (n : ℕ) (p : ℕ → Bool) → any (n + 1) p ≡ (any n p || p n)
+unfolding any
+any-step n p = rw (add-one n)
+
+-- where it holds of none
+pub any-fails : (n : ℕ) (p : ℕ → Bool) → any n p ≡ false → (i : ℕ) → i < n → p i ≡ false
+unfolding any
+any-fails zero p e i l = absurd (omega arith)
+any-fails (suc n) p e i l = by (ℕ-discrete i n) (λ m. any-fails n p (or-fails (any n p) (p n) e .0) i m)
+  where
+    by : Dec (i ≡ n) → (i < n → p i ≡ false) → p i ≡ false
+    by (yes q) r = rw q (or-fails (any n p) (p n) e .1)
+    by (no q) r = r (omega arith)
+
+pub any-from-none : (n : ℕ) (p : ℕ → Bool) → ((i : ℕ) → i < n → p i ≡ false) → any n p ≡ false
+unfolding any
+any-from-none zero p h = refl
+any-from-none (suc n) p h = rw (any-from-none n p (λ i l. h i (omega arith)), h n (omega arith))

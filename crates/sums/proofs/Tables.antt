@@ -1,14 +1,16 @@
 -- The number that a table gives: exactly when its test holds and no earlier one does.
-use mathlib.Core.Bool.{Bool, true, false, false≢true}
+use mathlib.Core.Bool.{Bool, true, false, _&&_}
 use mathlib.Core.List.{List, [], _∷_, _++_}
 use mathlib.Core.Path.{_≡_, refl, sym, _∙_}
 use mathlib.Core.Logic.{_⊎_, inl, inr}
-use Prim.Native.Nat.{ℕ, suc, _≤_, _<_}
+use Prim.Native.Nat.{ℕ, _≤_, _<_}
 use native.Mathlib.Decide.{ℕ-discrete}
 use native.Mathlib.Omega.{arith}
+use lib.Dec.{leb}
+use borrow.Author.Tests.{leb-true}
 use Rattle.sums.specs.Choice.{pick}
-use Rattle.sums.specs.Table.{Line, _when_, first, Given, here, later}
-use Rattle.sums.proofs.Choices.{pick-yes, pick-no}
+use Rattle.sums.specs.Table.{Line, _when_, first, Given, here, later, NoneHolds}
+use Rattle.sums.proofs.Choices.{pick-yes, pick-no, and-split}
 
 -- the first line decides where its test holds, and otherwise the rest does
 pub first-here : (n : ℕ) (t : Bool) (rest : List Line) → t ≡ true → first ((n when t) ∷ rest) ≡ n
@@ -101,11 +103,6 @@ first-clear a b e = by (ℕ-discrete (first a) 0)
     by (yes q) = q
     by (no q) = sym (first-some a b q) ∙ e
 
--- no test of the table holds
-abbrev pub NoneHolds : List Line → Type 0
-NoneHolds [] = Unit
-NoneHolds (l ∷ rest) = (l .test ≡ false) × NoneHolds rest
-
 -- a table gives 0 exactly when no test holds
 pub none-gives-0 : (table : List Line) → NoneHolds table → first table ≡ 0
 unfolding first
@@ -115,3 +112,17 @@ none-gives-0 (l ∷ rest) h = pick-no (l .test) _ _ (h .0) ∙ none-gives-0 rest
 pub gives-0-none : (table : List Line) → Numbered table → first table ≡ 0 → NoneHolds table
 gives-0-none [] n e = tt
 gives-0-none (l ∷ rest) n e = let f = first-fails (l .number) (l .test) rest (n .0) e in (f .0, gives-0-none rest (n .1) (f .1))
+
+-- a table all of whose numbers are k or less gives no higher one
+abbrev pub upto : ℕ → List Line → Bool
+upto k [] = true
+upto k (l ∷ rest) = leb (l .number) k && upto k rest
+
+pub first-upto : (k : ℕ) (table : List Line) → upto k table ≡ true → first table ≤ k
+unfolding first pick
+first-upto k [] h = omega arith
+first-upto k (l ∷ rest) h = let s = and-split (leb (l .number) k) (upto k rest) h in by (l .test) (leb-true _ _ (s .0)) (first-upto k rest (s .1))
+  where
+    by : (t : Bool) → l .number ≤ k → first rest ≤ k → pick t (l .number) (first rest) ≤ k
+    by true p q = p
+    by false p q = q

@@ -1,3 +1,4 @@
 pub mod Sum
 pub mod Choice
 pub mod Table
+pub mod Room

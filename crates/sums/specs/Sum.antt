@@ -1,5 +1,5 @@
 -- Sums and tests over the numbers below a bound.
-use mathlib.Core.Bool.{Bool, true, false, _&&_}
+use mathlib.Core.Bool.{Bool, true, false, _&&_, _||_}
 use Prim.Native.Nat.{ℕ, zero, suc, _+_}
 
 -- f 0 + f 1 + .. + f (n - 1)
@@ -16,3 +16,8 @@ only false a = 0
 unfoldable pub all : ℕ → (ℕ → Bool) → Bool
 all zero p = true
 all (suc n) p = all n p && p n
+
+-- it holds of some number below n
+unfoldable pub any : ℕ → (ℕ → Bool) → Bool
+any zero p = false
+any (suc n) p = any n p || p n

@@ -19,7 +19,12 @@ unfoldable pub first : List Line → ℕ
 first [] = 0
 first (l ∷ rest) = pick (l .test) (l .number) (first rest)
 
--- k's test holds, and no earlier one does
+-- For the theorems that say "given exactly when": k's test holds, and no earlier one does
 pub data Given (k : ℕ) : List Line → Type 0 where
   here : {t : Bool} {rest : List Line} → t ≡ true → Given k ((k when t) ∷ rest)
   later : {l : Line} {rest : List Line} → l .test ≡ false → Given k rest → Given k (l ∷ rest)
+
+-- no line's test holds
+abbrev pub NoneHolds : List Line → Type 0
+NoneHolds [] = Unit
+NoneHolds (l ∷ rest) = (l .test ≡ false) × NoneHolds rest

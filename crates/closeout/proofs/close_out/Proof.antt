@@ -9,7 +9,7 @@ use borrow.Author.Tests.{eq-eqb, ne-eqb, not-true, not-false}
 use Rattle.rows.specs.declared.Book.{Book}
 use Rattle.book.specs.Sound.{soundB}
 use Rattle.book.proofs.SoundTest.{sound→}
-use Rattle.closeout.specs.Closing.{goodLosses, answered}
+use Rattle.closeout.specs.Closing.{goodLosses}
 use Rattle.closeout.proofs.Answers.{refused-sound, refused-losses, refused-room, refused-loss, none-refused, settled, losses-small}
 use borrow.Author.Needs.{needs}
 use Rattle.closeout.proofs.close_out.Statement.{statement}
@@ -100,7 +100,7 @@ returns-5 c =
     let tests = c .before .before .before .before .before .before in
     let at = of tests in
     settled (Bk at) (Ls at) (Rm at) 0 (none-refused (Bk at) (Ls at) (Rm at) (sound at) (each tests) (wide tests) (good (c .before .before .before .before)))
-    (ap (answered 0) (c .before .before .fill .ensures .1)) (c .before .before .fill .ensures .0)
+    (ap (λ (t : ℕ). record { refusal = 0; total = t }) (c .before .before .fill .ensures .1)) (c .before .before .fill .ensures .0)
 
 pub close-out-spec : {M : Type 1} → statement M
 close-out-spec =

@@ -1,76 +1,48 @@
--- `closeouts::close_out`: the losses and the room for the amounts lie within their lists.
-use mathlib.Core.Path.{sym}
-use native.Mathlib.Omega.{arith}
-use lib.Seq.{length-take-le}
+-- `closeouts::close_out`: the losses lie within their list, and the text within its room.
 use borrow.Author.Needs.{needs}
+use mathlib.Core.Path.{sym}
+use Prim.Native.Nat.{_≤_}
+use lib.ListN.{length, take}
+use lib.Seq.{length-take-le}
+use Rattle.report.proofs.Puts.{front}
+use Rattle.closeouts.specs.Texts.{textOf}
 use Rattle.closeouts.proofs.close_out.Statement.{statement}
 use Rattle.closeouts.proofs.close_out.Tie as tie
 
-zeros-requires : tie.Need-zeros-requires
-zeros-requires c κs = search needs
-
-accounts-requires : tie.Need-accounts-requires
-accounts-requires c κs = search needs
-
-mul-wanted : tie.Need-mul-wanted
-mul-wanted c = search needs
+fits : (c : tie.After-close-out-text) → c .close-out-text .result ≤ length (c .close-out-text .last .1 .1 .0)
+fits c =
+    let a = c .before .before .before .args in
+    front _ (textOf (a .b) (take (a .count) (a .list))) _ _ (c .close-out-text .ensures .0) (c .close-out-text .ensures .1)
 
 array-share-prefix-losses : tie.Need-array-share-prefix-losses
 array-share-prefix-losses c = search needs
 
-slice-aggregate-close-out : tie.Need-slice-aggregate-close-out
-slice-aggregate-close-out c = sym (length-take-le _ _ (search needs))
+slice-aggregate-close-out-text : tie.Need-slice-aggregate-close-out-text
+slice-aggregate-close-out-text c = sym (length-take-le _ _ (search needs))
 
-array-borrow-prefix-room : tie.Need-array-borrow-prefix-room
-array-borrow-prefix-room c = search needs
+close-out-text-requires : tie.Need-close-out-text-requires
+close-out-text-requires c κs = search needs
 
-slice-aggregate-close-out-2 : tie.Need-slice-aggregate-close-out-2
-slice-aggregate-close-out-2 c = sym (length-take-le _ _ (omega arith))
+array-share-prefix-room : tie.Need-array-share-prefix-room
+array-share-prefix-room c = fits c
 
-close-out-requires : tie.Need-close-out-requires
-close-out-requires c κs = search needs
+slice-aggregate-write-all : tie.Need-slice-aggregate-write-all
+slice-aggregate-write-all c = sym (length-take-le _ _ (fits (c .before)))
 
-slice-aggregate-labelled : tie.Need-slice-aggregate-labelled
-slice-aggregate-labelled c = search needs
-
-cast-labelled : tie.Need-cast-labelled
-cast-labelled c = search needs
-
-labelled-requires : tie.Need-labelled-requires
-labelled-requires c κs = search needs
+write-all-requires : tie.Need-write-all-requires
+write-all-requires c κs = search needs
 
 returns : tie.Need-returns
 returns c = search needs
-
-rows-of-requires : tie.Need-rows-of-requires
-rows-of-requires c κs = search needs
-
-slice-aggregate-labelled-2 : tie.Need-slice-aggregate-labelled-2
-slice-aggregate-labelled-2 c = search needs
-
-labelled-requires-2 : tie.Need-labelled-requires-2
-labelled-requires-2 c κs = search needs
-
-returns-2 : tie.Need-returns-2
-returns-2 c = search needs
 
 pub close-out-spec : {M : Type 1} → statement M
 close-out-spec =
     tie.close
     (tie.spec
-    zeros-requires
-    accounts-requires
-    mul-wanted
     array-share-prefix-losses
-    slice-aggregate-close-out
-    array-borrow-prefix-room
-    slice-aggregate-close-out-2
-    close-out-requires
-    slice-aggregate-labelled
-    cast-labelled
-    labelled-requires
-    returns
-    rows-of-requires
-    slice-aggregate-labelled-2
-    labelled-requires-2
-    returns-2)
+    slice-aggregate-close-out-text
+    close-out-text-requires
+    array-share-prefix-room
+    slice-aggregate-write-all
+    write-all-requires
+    returns)

@@ -1,8 +1,7 @@
 -- `desk::carry_out` meets its contract.
 use borrow.Author.Tests.{not-true, not-false}
-use mathlib.Core.Path.{_≡_, sym, ap, _∙_}
+use mathlib.Core.Path.{sym, ap, _∙_}
 use Rattle.book.proofs.SoundTest.{sound→}
-use Rattle.desk.specs.declared.Done.{Done}
 use Rattle.desk.proofs.Doing.{unsound-step}
 use borrow.Author.Needs.{needs}
 use Rattle.desk.proofs.carry_out.Statement.{statement}

@@ -4,7 +4,6 @@ use mathlib.Core.Bool.{true}
 use mathlib.Core.Path.{_≡_, sym, ap, _∙_}
 use Rattle.book.specs.Sound.{soundB}
 use Rattle.book.proofs.SoundTest.{sound→}
-use Rattle.desk.specs.declared.Next.{Next}
 use Rattle.desk.proofs.Doing.{unsound-next, sound-next}
 use borrow.Author.Needs.{needs}
 use Rattle.desk.proofs.carry_out_next.Statement.{statement}

@@ -3,15 +3,14 @@ use mathlib.Core.Logic.{⊎-elim, inl, inr}
 use mathlib.Core.Path.{_≡_, sym, ap, _∙_}
 use Prim.Native.Nat.{_<_}
 use native.Mathlib.Omega.{arith}
-use Rattle.rows.specs.declared.Book.{Book}
 use Rattle.book.proofs.SoundRanges.{sound-ranges}
 use Rattle.rules.specs.Refusals.{namedRow}
-use Rattle.rules.specs.Effects.{changeOf, movedOn}
+use Rattle.rules.specs.Effects.{changeOf}
 use Rattle.rules.specs.Inner.{SeenOf}
 use Rattle.rules.proofs.Deciding.{put-below, open-below, named-beyond}
 use Rattle.rules.proofs.Looking.{sees-nothing}
 use Rattle.rules.proofs.WhatIsSeen.{verdict-is}
-use Rattle.desk.proofs.Doing.{step-by, refused-step, Refusing}
+use Rattle.desk.proofs.Doing.{step-by, refused-step}
 use borrow.Author.Needs.{needs}
 use Rattle.desk.proofs.step.Statement.{statement}
 use Rattle.desk.proofs.step.Tie as tie

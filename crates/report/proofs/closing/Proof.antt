@@ -1,11 +1,11 @@
--- `report::closing`: the line lies within its room.
+-- `report::closing` meets its contract: the text lies within its room.
+use borrow.Author.Needs.{needs}
 use mathlib.Core.Path.{sym}
 use Prim.Native.Nat.{_≤_}
 use lib.ListN.{length}
 use lib.Seq.{length-take-le}
-use borrow.Author.Needs.{needs}
 use Rattle.lines.specs.Lines.{closingLineOf}
-use Rattle.report.proofs.Fronts.{front}
+use Rattle.report.proofs.Puts.{front}
 use Rattle.report.proofs.closing.Statement.{statement}
 use Rattle.report.proofs.closing.Tie as tie
 

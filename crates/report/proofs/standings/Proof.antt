@@ -1,59 +1,40 @@
--- `report::standings`: is safe and ends.
-use Prim.Native.Nat.{_-_, _≤_}
-use native.Mathlib.Omega.{arith}
+-- `report::standings` meets its contract: the text lies within its room.
 use borrow.Author.Needs.{needs}
+use mathlib.Core.Path.{sym}
+use Prim.Native.Nat.{_≤_}
+use lib.ListN.{length}
+use lib.Seq.{length-take-le}
+use Rattle.report.specs.Reports.{standingsText}
+use Rattle.report.proofs.Puts.{front}
 use Rattle.report.proofs.standings.Statement.{statement}
 use Rattle.report.proofs.standings.Tie as tie
 
-abbrev Inv-loop : tie.InvT-loop
-Inv-loop b i₀ i = i ≤ 256
+fits : (c : tie.After-standings-text) → c .standings-text .result ≤ length (c .standings-text .last .1 .0)
+fits c =
+    let a = c .before .before .args in
+    front _ (standingsText (a .b)) _ _ (c .standings-text .ensures .0) (c .standings-text .ensures .1)
 
-abbrev μ-loop : tie.MeasureT-loop
-μ-loop b i₀ i = 256 - i
+standings-text-requires : tie.Need-standings-text-requires
+standings-text-requires c κs = search needs
 
-loop-holds : tie.Need-loop-holds Inv-loop μ-loop
-loop-holds c = omega arith
+array-share-prefix-room : tie.Need-array-share-prefix-room
+array-share-prefix-room c = fits c
 
-cast-if1 : tie.Need-cast-if1 Inv-loop μ-loop
-cast-if1 c = omega arith
+slice-aggregate-write-all : tie.Need-slice-aggregate-write-all
+slice-aggregate-write-all c = sym (length-take-le _ _ (fits (c .before)))
 
-cast-account : tie.Need-cast-account Inv-loop μ-loop
-cast-account c = omega arith
+write-all-requires : tie.Need-write-all-requires
+write-all-requires c κs = search needs
 
-mul-account : tie.Need-mul-account Inv-loop μ-loop
-mul-account c = omega arith
-
-element-copy-out-account : tie.Need-element-copy-out-account Inv-loop μ-loop
-element-copy-out-account c = omega arith
-
-account-requires : tie.Need-account-requires Inv-loop μ-loop
-account-requires c κs = search needs
-
-add-i : tie.Need-add-i Inv-loop μ-loop
-add-i c = omega arith
-
-loop-less : tie.Need-loop-less Inv-loop μ-loop
-loop-less c = omega arith
-
-loop-again : tie.Need-loop-again Inv-loop μ-loop
-loop-again c = omega arith
-
-returns : tie.Need-returns Inv-loop μ-loop
+returns : tie.Need-returns
 returns c = search needs
 
 pub standings-spec : {M : Type 1} → statement M
 standings-spec =
     tie.close
     (tie.spec
-    Inv-loop
-    μ-loop
-    loop-holds
-    cast-if1
-    cast-account
-    mul-account
-    element-copy-out-account
-    account-requires
-    add-i
-    loop-less
-    loop-again
+    standings-text-requires
+    array-share-prefix-room
+    slice-aggregate-write-all
+    write-all-requires
     returns)

@@ -1,16 +1,10 @@
 -- `run::day` meets its contract.
 use borrow.Author.Tests.{not-true, not-false}
-use mathlib.Core.Bool.{true, false, false≢true}
-use mathlib.Core.Path.{_≡_, refl, sym, ap, _∙_}
-use Prim.Native.Nat.{ℕ, _*_, _≤_, _/_, min}
-use native.Mathlib.Omega.{arith}
-use lib.ListN.{length}
-use Rattle.sums.proofs.Choices.{pick-yes}
+use mathlib.Core.Bool.{true, false≢true}
+use mathlib.Core.Path.{_≡_, sym, _∙_}
 use Rattle.book.specs.Sound.{soundB}
 use Rattle.book.proofs.SoundTest.{sound→}
-use Rattle.run.specs.Runs.{runOf}
-use Rattle.run.specs.Told.{roomFor}
-use Rattle.run.proofs.Tellings.{ran-unsound, ran-sound, told-unsound, told-sound}
+use Rattle.run.proofs.Tellings.{ran-unsound, ran-sound}
 use borrow.Author.Needs.{needs}
 use Rattle.run.proofs.day.Statement.{statement}
 use Rattle.run.proofs.day.Tie as tie

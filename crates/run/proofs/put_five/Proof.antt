@@ -1,8 +1,6 @@
 -- `run::put_five` meets its contract.
 use borrow.Author.Needs.{needs}
 use Prim.Native.Nat.{_*_}
-use Prim.Native.Nat.{_*_}
-use Prim.Native.Nat.{_*_}
 use native.Mathlib.Omega.{arith}
 use lib.ListN.{length-set}
 use Rattle.run.proofs.Numbers.{five-stores}

@@ -11,7 +11,7 @@ use borrow.Author.Tests.{lt-leb, le-leb}
 use Rattle.sums.specs.Choice.{pick}
 use Rattle.sums.proofs.Choices.{pass, stop}
 use Rattle.rows.specs.Rows.{hasLiveClient}
-use Rattle.rows.specs.Ranges.{InRange}
+use Rattle.rows.specs.Facts.{InRange}
 use Rattle.rows.specs.Inner.{Slot}
 use Rattle.book.proofs.KeptSums.{KeptUnder, kept-first, kept-serial, under-most}
 use Rattle.book.proofs.SoundRanges.{sound-ranges}
@@ -22,7 +22,7 @@ use Rattle.rules.proofs.Deciding.{put-below, open-below, named-beyond}
 use Rattle.rules.proofs.Kept.{tied-none, sees-kept, put-ranged, put-keeps, open-keeps}
 use Rattle.rules.proofs.WhatIsSeen.{verdict-is}
 use Rattle.run.specs.Runs.{runOf}
-use Rattle.run.specs.Inner.{putFive, refusalBy, tellOf}
+use Rattle.run.specs.Inner.{putFive, refusalShown, tellOf}
 use Rattle.run.proofs.Numbers.{numbersBy}
 use Rattle.run.proofs.Turning.{Loop, carried-most, turn, ends, cuts, long-cut, long-whole}
 use Rattle.run.proofs.run.Statement.{statement}
@@ -75,7 +75,7 @@ told-is c =
     ⊎-elim
     (λ w. pass _ (w .0 .taken)
     (w .7 ∙ w .4 .ensures ∙ ap (λ x. putFive (l .room) (l .read) (r .serial ∷ r .code ∷ r .account ∷ x ∷ w .3 .result ∷ [])) (w .2 .ensures)
-    ∙ ap (λ x. putFive (l .room) (l .read) (r .serial ∷ r .code ∷ r .account ∷ refusalBy (c .before .change .result) ∷ x ∷ [])) (w .3 .ensures)))
+    ∙ ap (λ x. putFive (l .room) (l .read) (r .serial ∷ r .code ∷ r .account ∷ refusalShown (c .before .change .result) ∷ x ∷ [])) (w .3 .ensures)))
     (λ w. stop _ (w .0 .left) (w .1)) (c .if5 .came)
 
 less-zero : (n : ℕ) → n - 0 ≡ n
@@ -170,11 +170,11 @@ see-requires c κs = ((row-in (c .before .before .before .before .before .before
 change-requires : tie.Need-change-requires Inv-loop μ-loop
 change-requires c κs = row-in (c .before .before .before .before .before .before .before)
 
-refusal-by-requires : tie.Need-refusal-by-requires Inv-loop μ-loop
-refusal-by-requires c κs = search needs
+refusal-shown-requires : tie.Need-refusal-shown-requires Inv-loop μ-loop
+refusal-shown-requires c κs = search needs
 
-given-by-requires : tie.Need-given-by-requires Inv-loop μ-loop
-given-by-requires c κs = search needs
+given-shown-requires : tie.Need-given-shown-requires Inv-loop μ-loop
+given-shown-requires c κs = search needs
 
 put-five-requires : tie.Need-put-five-requires Inv-loop μ-loop
 put-five-requires c κs =
@@ -188,11 +188,11 @@ wrapping-add-u16-requires c κs = search needs
 add-read : tie.Need-add-read Inv-loop μ-loop
 add-read c = omega (arith, c .before .before .before .before .before .before .before .before .before .before .before .before .before .if2 .left, c .before .before .before .before .before .before .before .before .before .before .before .before .before .before .before .before .before .before .before .before .before .before .fits .most)
 
-carried-by-requires : tie.Need-carried-by-requires Inv-loop μ-loop
-carried-by-requires c κs = search needs
+carried-shown-requires : tie.Need-carried-shown-requires Inv-loop μ-loop
+carried-shown-requires c κs = search needs
 
 add-done : tie.Need-add-done Inv-loop μ-loop
-add-done c = omega (arith, c .before .before .before .before .before .before .before .before .before .before .before .before .before .before .if2 .left, c .before .before .before .before .before .before .before .before .before .before .before .before .before .before .before .before .before .before .before .loop .inv .0 .within, c .before .before .before .before .before .before .before .before .before .before .before .before .before .before .before .before .before .before .before .loop .inv .0 .fewer, c .carried-by .ensures, carried-most (c .before .before .before .change .result), c .before .before .before .before .before .before .before .before .before .before .before .before .before .before .before .before .before .before .before .before .before .before .before .fits .most)
+add-done c = omega (arith, c .before .before .before .before .before .before .before .before .before .before .before .before .before .before .if2 .left, c .before .before .before .before .before .before .before .before .before .before .before .before .before .before .before .before .before .before .before .loop .inv .0 .within, c .before .before .before .before .before .before .before .before .before .before .before .before .before .before .before .before .before .before .before .loop .inv .0 .fewer, c .carried-shown .ensures, carried-most (c .before .before .before .change .result), c .before .before .before .before .before .before .before .before .before .before .before .before .before .before .before .before .before .before .before .before .before .before .before .fits .most)
 
 enum-known-change : tie.Need-enum-known-change Inv-loop μ-loop
 enum-known-change c = search needs
@@ -203,7 +203,7 @@ loop-less c = omega (arith, c .before .before .before .before .before .before .b
 loop-again : tie.Need-loop-again Inv-loop μ-loop
 loop-again c =
     let v = c .before .before .before .before .before .before .before .before .before .before .before .before .before .before .before .before .before .before .before .before .before .before .before .loop in (
-      rw (c .before .before .before .before .carried-by .ensures)
+      rw (c .before .before .before .before .carried-shown .ensures)
           (turn _ _ _ _ _ _ _ _ (v .room) (v .book) (v .place) (v .read) (v .done) (v .inv .0) _ _ _ _ _ (c .before .before .before .before .before .before .before .before .before .before .before .before .before .before .before .before .before .before .if2 .left)
           (sym (c .before .before .before .before .before .before .before .before .before .before .before .before .before .before .before .before .before .before .before .before .before .before .found-at .ensures) ∙ c .before .before .before .before .before .before .before .before .before .before .before .before .before .before .before .before .before .before .before .before .found .given .1) (change-is (c .before .before .before .before .before .before .before)) (told-is (c .before .before .before .before .before .before)) (stop _ (lt-leb _ 3 (c .if6 .taken)) (ap (λ x. record { count = c .before .before .before .before .before .before .before .before .before .before .before .before .before .before .before .before .before .before .before .before .before .before .before .loop .book .count; serial = x; rows = c .before .before .before .before .before .before .before .before .before .before .before .before .before .before .before .before .before .before .before .before .before .before .before .loop .book .rows }) (c .before .before .before .before .before .wrapping-add-u16 .ensures)) ∙ ap (bookAfter (c .before .before .before .before .before .before .before .before .before .before .before .before .before .before .before .before .before .before .before .before .before .before .before .loop .book) ((c .before .before .before .before .before .before .before .before .before .before .before .before .before .before .before .before .before .before .before .before .found .given .0 .0) .account)) (sym (c .before .before .change2 .given .1)))),
       kept-serial (v .book) (v .inv .0 .sound) (v .owed) (v .inv .1) _,
@@ -215,7 +215,7 @@ loop-less-2 c = omega (arith, c .before .before .before .before .before .before 
 loop-again-2 : tie.Need-loop-again-2 Inv-loop μ-loop
 loop-again-2 c =
     let v = c .before .before .before .before .before .before .before .before .before .before .before .before .before .before .before .before .before .before .before .before .before .before .before .loop in (
-      rw (c .before .before .before .before .carried-by .ensures)
+      rw (c .before .before .before .before .carried-shown .ensures)
           (turn _ _ _ _ _ _ _ _ (v .room) (v .book) (v .place) (v .read) (v .done) (v .inv .0) _ _ _ _ _ (c .before .before .before .before .before .before .before .before .before .before .before .before .before .before .before .before .before .before .if2 .left)
           (sym (c .before .before .before .before .before .before .before .before .before .before .before .before .before .before .before .before .before .before .before .before .before .before .found-at .ensures) ∙ c .before .before .before .before .before .before .before .before .before .before .before .before .before .before .before .before .before .before .before .before .found .given .1) (change-is (c .before .before .before .before .before .before .before)) (told-is (c .before .before .before .before .before .before)) (pass _ (le-leb _ 3 (c .if6 .left)) refl ∙ ap (bookAfter (c .before .before .before .before .before .before .before .before .before .before .before .before .before .before .before .before .before .before .before .before .before .before .before .loop .book) ((c .before .before .before .before .before .before .before .before .before .before .before .before .before .before .before .before .before .before .before .before .found .given .0 .0) .account)) (sym (c .before .before .change2 .given .1)))),
       v .inv .1,
@@ -251,7 +251,7 @@ loop-less-3 c = omega (arith, c .before .before .before .before .before .before 
 loop-again-3 : tie.Need-loop-again-3 Inv-loop μ-loop
 loop-again-3 c =
     let v = c .before .before .before .before .before .before .before .before .before .before .before .before .before .before .before .before .before .before .before .before .before .before .before .before .loop in (
-      rw (c .before .before .before .before .before .carried-by .ensures)
+      rw (c .before .before .before .before .before .carried-shown .ensures)
           (turn _ _ _ _ _ _ _ _ (v .room) (v .book) (v .place) (v .read) (v .done) (v .inv .0) _ _ _ _ _ (c .before .before .before .before .before .before .before .before .before .before .before .before .before .before .before .before .before .before .before .if2 .left)
           (sym (c .before .before .before .before .before .before .before .before .before .before .before .before .before .before .before .before .before .before .before .before .before .before .before .found-at .ensures) ∙ c .before .before .before .before .before .before .before .before .before .before .before .before .before .before .before .before .before .before .before .before .before .found .given .1) (change-is (c .before .before .before .before .before .before .before .before)) (told-is (c .before .before .before .before .before .before .before)) (ap (λ x. record { count = c .before .before .before .before .before .before .before .before .before .before .before .before .before .before .before .before .before .before .before .before .before .before .before .before .loop .book .count; serial = x; rows = set (c .before .before .before .before .before .before .before .before .before .before .before .before .before .before .before .before .before .before .before .before .before .before .before .before .loop .book .rows) ((c .before .before .before .before .before .before .before .before .before .before .before .before .before .before .before .before .before .before .before .before .before .found .given .0 .0) .account) (c .before .before .before .change3 .given .0 .0) }) (c .before .before .before .before .before .before .wrapping-add-u16 .ensures) ∙ ap (bookAfter (c .before .before .before .before .before .before .before .before .before .before .before .before .before .before .before .before .before .before .before .before .before .before .before .before .loop .book) ((c .before .before .before .before .before .before .before .before .before .before .before .before .before .before .before .before .before .before .before .before .before .found .given .0 .0) .account)) (sym (c .before .before .before .change3 .given .1)))),
       rw (c .before .under-tm .ensures, c .under-cm .ensures, row-is (c .before .before .before .before .before .before .before .before .before .before .before .before .before .before .before .before), under-is (c .before .before .before .before .before .before .before .before .before .before .before .before .before .before .before .before))
@@ -280,7 +280,7 @@ loop-less-4 c = omega (arith, c .before .before .before .before .before .before 
 loop-again-4 : tie.Need-loop-again-4 Inv-loop μ-loop
 loop-again-4 c =
     let v = c .before .before .before .before .before .before .before .before .before .before .before .before .before .before .before .before .before .before .before .before .before .before .loop in (
-      rw (c .before .before .before .carried-by .ensures)
+      rw (c .before .before .before .carried-shown .ensures)
           (turn _ _ _ _ _ _ _ _ (v .room) (v .book) (v .place) (v .read) (v .done) (v .inv .0) _ _ _ _ _ (c .before .before .before .before .before .before .before .before .before .before .before .before .before .before .before .before .before .if2 .left)
           (sym (c .before .before .before .before .before .before .before .before .before .before .before .before .before .before .before .before .before .before .before .before .before .found-at .ensures) ∙ c .before .before .before .before .before .before .before .before .before .before .before .before .before .before .before .before .before .before .before .found .given .1) (change-is (c .before .before .before .before .before .before)) (told-is (c .before .before .before .before .before)) (ap (λ x. record { count = c .before .before .before .before .before .before .before .before .before .before .before .before .before .before .before .before .before .before .before .before .before .before .loop .book .count + 1; serial = x; rows = set (c .before .before .before .before .before .before .before .before .before .before .before .before .before .before .before .before .before .before .before .before .before .before .loop .book .rows) (c .before .before .before .before .before .before .before .before .before .before .before .before .before .before .before .before .before .before .before .before .before .before .loop .book .count) (c .before .change4 .given .0 .0) }) (c .before .before .before .before .wrapping-add-u16 .ensures) ∙ ap (bookAfter (c .before .before .before .before .before .before .before .before .before .before .before .before .before .before .before .before .before .before .before .before .before .before .loop .book) ((c .before .before .before .before .before .before .before .before .before .before .before .before .before .before .before .before .before .before .before .found .given .0 .0) .account)) (sym (c .before .change4 .given .1)))),
       open-keeps (v .book) (c .before .before .before .before .before .before .before .before .before .before .before .before .before .before .before .before .before .before .before .found .given .0 .0) (c .before .change4 .given .0 .0) (v .inv .0 .sound) (sym (change-is (c .before .before .before .before .before .before)) ∙ c .before .change4 .given .1) (v .owed) (v .inv .1) _,
@@ -346,12 +346,12 @@ run-spec =
     has-live-client-requires
     see-requires
     change-requires
-    refusal-by-requires
-    given-by-requires
+    refusal-shown-requires
+    given-shown-requires
     put-five-requires
     wrapping-add-u16-requires
     add-read
-    carried-by-requires
+    carried-shown-requires
     add-done
     enum-known-change
     loop-less

@@ -6,8 +6,7 @@ use native.Mathlib.Omega.{arith}
 use borrow.Author.Needs.{needs}
 use Rattle.sums.specs.Sum.{all}
 use Rattle.sums.proofs.Sums.{all-none, all-step}
-use Rattle.rows.specs.Rows.{rowAt}
-use Rattle.book.specs.Sound.{goodRow, rowSound}
+use Rattle.book.specs.Sound.{rowSound}
 use Rattle.book.proofs.RowTests.{row-slot}
 use Rattle.book.proofs.sound.rows_sound.Statement.{statement}
 use Rattle.book.proofs.sound.rows_sound.Tie as tie

@@ -14,26 +14,26 @@ use Rattle.closeout.proofs.pays.fill.Statement.{statement}
 use Rattle.closeout.proofs.pays.fill.Tie as tie
 
 abbrev Inv-loop : tie.InvT-loop
-Inv-loop losses room₀ b left₀ cm₀ uncovered₀ n i₀ room left cm uncovered i = Passed b losses room₀ room left cm uncovered i × (i ≤ b .count)
+Inv-loop losses room₀ b left₀ c cm₀ uncovered₀ n i₀ room left cm uncovered i = Passed b losses room₀ room left cm uncovered i × (i ≤ b .count)
 
 abbrev μ-loop : tie.MeasureT-loop
-μ-loop losses room₀ b left₀ cm₀ uncovered₀ n i₀ room left cm uncovered i = b .count - i
+μ-loop losses room₀ b left₀ c cm₀ uncovered₀ n i₀ room left cm uncovered i = b .count - i
 
 -- in a turn: what the checks say, where the pass stands, and which accounts are there
 abbrev Turn : Type 0
 Turn = tie.In-loop Inv-loop μ-loop
 
 abbrev Bk : Turn → Book
-Bk c = c .before .before .before .before .before .before .before .args .t1
+Bk c = c .before .before .before .before .before .before .before .before .before .args .t1
 
 abbrev Ls : Turn → List ℕ
-Ls c = c .before .before .before .before .before .before .before .args .losses .now
+Ls c = c .before .before .before .before .before .before .before .before .before .args .losses .now
 
 abbrev R₀ : Turn → List ℕ
-R₀ c = c .before .before .before .before .before .before .before .args .room .now
+R₀ c = c .before .before .before .before .before .before .before .before .before .args .room .now
 
 checked : (c : Turn) → Checked (Bk c) (Ls c) (R₀ c)
-checked c = c .before .before .before .before .before .before .before .pre
+checked c = c .before .before .before .before .before .before .before .before .before .pre
 
 here : (c : Turn) → Passed (Bk c) (Ls c) (R₀ c) (c .before .loop .room) (c .before .loop .left) (c .before .loop .cm) (c .before .loop .uncovered) (c .before .loop .i)
 here c = c .before .loop .inv .0
@@ -53,11 +53,22 @@ element-copy-out-collateral-of c = omega arith
 collateral-of-requires : tie.Need-collateral-of-requires Inv-loop μ-loop
 collateral-of-requires c κs = let pre = c .before .before .before .before .pre in pre .sound .ranges 0 (pre .sound .shaped .some)
 
+shared-slice-read-lesser : tie.Need-shared-slice-read-lesser Inv-loop μ-loop
+shared-slice-read-lesser c = let pre = c .before .before .before .before .before .before .pre in omega (arith, pre .each, pre .sound .shaped .some)
+
+lesser-requires : tie.Need-lesser-requires Inv-loop μ-loop
+lesser-requires c κs = search needs
+
+sub-cm : tie.Need-sub-cm Inv-loop μ-loop
+sub-cm c = omega (arith, c .lesser .ensures)
+
 cast-n : tie.Need-cast-n Inv-loop μ-loop
 cast-n c = omega arith
 
 loop-holds : tie.Need-loop-holds Inv-loop μ-loop
-loop-holds c = (start _ _ _ _ _ (ap length (c .before .before .zeros .ensures)) (c .collateral-of .ensures), omega arith)
+loop-holds c =
+    let first = c .before .before in
+    (start _ _ _ _ (ap length (first .before .before .zeros .ensures)) (first .collateral-of .ensures) (c .lesser .ensures), omega arith)
 
 mul-r : tie.Need-mul-r Inv-loop μ-loop
 mul-r c = omega arith
@@ -105,13 +116,13 @@ array-write-left : tie.Need-array-write-left Inv-loop μ-loop
 array-write-left c = omega (arith, low (c .before .before .before .before .before .before .before .before .before))
 
 mul-left-3 : tie.Need-mul-left-3 Inv-loop μ-loop
-mul-left-3 c = omega arith
+mul-left-3 c = let at = c .before .before .before .before .before .before .before .before .before in omega (arith, checked at .sound .most, inside at)
 
 array-write-left-2 : tie.Need-array-write-left-2 Inv-loop μ-loop
-array-write-left-2 c = omega (arith, low (c .before .before .before .before .before .before .before .before .before))
+array-write-left-2 c = let at = c .before .before .before .before .before .before .before .before .before in omega (arith, checked at .sound .most, inside at)
 
-sub-cm : tie.Need-sub-cm Inv-loop μ-loop
-sub-cm c = cm-has _ _ _ _ (c .before .before .before .before .before .before .pay .ensures)
+sub-cm-2 : tie.Need-sub-cm-2 Inv-loop μ-loop
+sub-cm-2 c = cm-has _ _ _ _ (c .before .before .before .before .before .before .pay .ensures)
 
 -- at the end of a turn
 abbrev End : Type 0
@@ -128,7 +139,7 @@ paid c = c .before .before .before .before .before .before .before .pay .result
 
 next : (c : End) → Passed (Bk (of c)) (Ls (of c)) (R₀ (of c)) (c .before .before .before .before .before .put .last .0)
     (set (set (of c .before .loop .left) (named c) (getD (of c .before .loop .left) (named c) 0 - paid c .tm)) (of c .before .loop .i) (paid c .kept))
-    (of c .before .loop .cm - paid c .borne) (of c .before .loop .uncovered + paid c .uncovered) (of c .before .loop .i + 1)
+    (of c .before .loop .cm - paid c .cm) (of c .before .loop .uncovered + paid c .uncovered) (of c .before .loop .i + 1)
 next c = turn (checked (of c) .sound) (inside (of c)) (here (of c)) (c .before .before .before .before .before .before .before .pay .ensures) (c .before .before .before .before .before .put .ensures) (c .before .before .before .before .before .put .kept .0)
 
 add-uncovered : tie.Need-add-uncovered Inv-loop μ-loop
@@ -147,7 +158,7 @@ same-length : tie.Need-same-length Inv-loop μ-loop
 same-length c = c .before .loop .inv .0 .wide
 
 returns : tie.Need-returns Inv-loop μ-loop
-returns c = finish (c .before .loop .inv .0) (omega arith) (c .before .before .before .before .before .before .before .pre .wide)
+returns c = finish (c .before .loop .inv .0) (omega arith) (c .before .before .before .before .before .before .before .before .before .pre .wide)
 
 pub fill-spec : {M : Type 1} → statement M
 fill-spec =
@@ -158,6 +169,9 @@ fill-spec =
     zeros-requires
     element-copy-out-collateral-of
     collateral-of-requires
+    shared-slice-read-lesser
+    lesser-requires
+    sub-cm
     cast-n
     loop-holds
     mul-r
@@ -177,7 +191,7 @@ fill-spec =
     array-write-left
     mul-left-3
     array-write-left-2
-    sub-cm
+    sub-cm-2
     add-uncovered
     add-i
     loop-less

@@ -1,6 +1,8 @@
 -- `closeout::pays::pay` meets its contract.
-use Rattle.closeout.specs.Inner.{paidBy}
-use Rattle.closeout.proofs.Turns.{part-le}
+use native.Mathlib.Omega.{arith}
+use lib.Dec.{eqb}
+use Rattle.sums.proofs.Sums.{only-most}
+use Rattle.closeout.proofs.Turns.{by-steps}
 use borrow.Author.Needs.{needs}
 use Rattle.closeout.proofs.pays.pay.Statement.{statement}
 use Rattle.closeout.proofs.pays.pay.Tie as tie
@@ -17,30 +19,27 @@ sub-short c = search needs
 lesser-requires-2 : tie.Need-lesser-requires-2
 lesser-requires-2 c κs = search needs
 
-choose-requires : tie.Need-choose-requires
-choose-requires c κs = search needs
+only-if-requires : tie.Need-only-if-requires
+only-if-requires c κs = search needs
 
-sub-choose : tie.Need-sub-choose
-sub-choose c = rw (c .before .choose .ensures, c .before .before .lesser2 .ensures) (part-le _ _ _ .0)
-
-choose-requires-2 : tie.Need-choose-requires-2
-choose-requires-2 c κs = search needs
+sub-asked : tie.Need-sub-asked
+sub-asked c =
+    let r = c .before .before .before .before .before .args .r in
+    omega (arith, c .only-if .ensures, c .before .lesser2 .ensures, only-most (eqb (r .sort) 2) (c .before .lesser2 .result))
 
 lesser-requires-3 : tie.Need-lesser-requires-3
 lesser-requires-3 c κs = search needs
 
-choose-requires-3 : tie.Need-choose-requires-3
-choose-requires-3 c κs = search needs
+sub-t12 : tie.Need-sub-t12
+sub-t12 c = search needs
 
 sub-t13 : tie.Need-sub-t13
 sub-t13 c = search needs
 
-sub-t14 : tie.Need-sub-t14
-sub-t14 c = search needs
-
 returns : tie.Need-returns
-unfolding paidBy
-returns c = cc
+returns c =
+    let short = c .before .before .before .before in
+    by-steps _ _ _ _ (short .before .collateral-of .ensures) (short .lesser .ensures) (c .before .before .lesser2 .ensures) (c .before .only-if .ensures) (c .lesser3 .ensures)
 
 pub pay-spec : {M : Type 1} → statement M
 pay-spec =
@@ -50,11 +49,9 @@ pay-spec =
     lesser-requires
     sub-short
     lesser-requires-2
-    choose-requires
-    sub-choose
-    choose-requires-2
+    only-if-requires
+    sub-asked
     lesser-requires-3
-    choose-requires-3
+    sub-t12
     sub-t13
-    sub-t14
     returns)

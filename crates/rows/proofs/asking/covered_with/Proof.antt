@@ -1,5 +1,4 @@
 -- `rows::asking::covered_with` meets its contract.
-use mathlib.Core.Path.{_≡_}
 use native.Mathlib.Omega.{arith}
 use Rattle.rows.proofs.RangesKept.{margin-ranged}
 use borrow.Author.Needs.{needs}

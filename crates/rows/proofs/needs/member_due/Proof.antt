@@ -32,8 +32,8 @@ add-result c =
       arith,
       at .only-if .ensures,
       c .only-if2 .ensures,
-      only-most (eqb (r .code) 1) (at .before .deemed .result),
-      only-most (eqb (r .code) 3) (c .before .deemed2 .result),
+      only-most (eqb (r .sort) 1) (at .before .deemed .result),
+      only-most (eqb (r .sort) 3) (c .before .deemed2 .result),
     )
 
 returns : tie.Need-returns

@@ -1,6 +1,6 @@
 -- `rows::needs::members_sum` meets its contract.
 use mathlib.Core.Path.{_≡_, refl, ap, _∙_}
-use Prim.Native.Nat.{ℕ, _-_, _≤_}
+use Prim.Native.Nat.{_-_, _≤_}
 use native.Mathlib.Omega.{arith}
 use Rattle.rows.specs.Rows.{rowAt, view}
 use Rattle.rows.specs.Inner.{memberDue, clientsBelow, membersBelow}

@@ -7,11 +7,11 @@ use Rattle.rows.proofs.SetterFields.{live}
 use Rattle.rows.proofs.setters.set_live.Key.{name}
 use Rattle.rows.proofs.setters.set_live as f
 use Rattle.rows.proofs.setters.set_live.Statement.{statement}
-use Rattle.rows.proofs.setters.set_live.Code as code
+use Rattle.rows.proofs.setters.set_live.Code as sort
 
 pub set-live-spec : {M : Type 1} → statement M
-unfolding code.routine tablesOf
+unfolding sort.routine tablesOf
 set-live-spec 𝓤 H 𝓜 𝓖 𝓡 =
     entered 𝓤 H (tripleOf 𝓤 H (𝓖 .A) f.signature (f.spec 𝓤 H (𝓖 .A) (𝓜 .mem) (𝓡 .run)))
-    (tables 𝓤 H 𝓜 𝓡 code.env .C) (tables 𝓤 H 𝓜 𝓡 code.env .Λ) name code.function (code.unfolded 𝓤 H 𝓜 𝓡)
-    (setter-meets truth live 𝓤 H (𝓖 .A) (givenOf 𝓤 H 𝓜 𝓖) (tablesOf 𝓤 H 𝓜 (tables 𝓤 H 𝓜 𝓡 code.env)))
+    (tables 𝓤 H 𝓜 𝓡 sort.env .C) (tables 𝓤 H 𝓜 𝓡 sort.env .Λ) name sort.function (sort.unfolded 𝓤 H 𝓜 𝓡)
+    (setter-meets truth live 𝓤 H (𝓖 .A) (givenOf 𝓤 H 𝓜 𝓖) (tablesOf 𝓤 H 𝓜 (tables 𝓤 H 𝓜 𝓡 sort.env)))

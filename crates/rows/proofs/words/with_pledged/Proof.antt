@@ -11,12 +11,12 @@ use Rattle.rows.proofs.setters.set_pledged.Met.{met}
 use Rattle.rows.proofs.words.with_pledged.Key.{name}
 use Rattle.rows.proofs.words.with_pledged as f
 use Rattle.rows.proofs.words.with_pledged.Statement.{statement}
-use Rattle.rows.proofs.words.with_pledged.Code as code
+use Rattle.rows.proofs.words.with_pledged.Code as sort
 
 pub with-pledged-spec : {M : Type 1} → statement M
-unfolding code.routine tablesOf
+unfolding sort.routine tablesOf
 with-pledged-spec 𝓤 H 𝓜 𝓖 𝓡 =
     entered 𝓤 H (tripleOf 𝓤 H (𝓖 .A) f.signature (f.spec 𝓤 H (𝓖 .A) (𝓜 .mem) (𝓡 .run)))
-    (tables 𝓤 H 𝓜 𝓡 code.env .C) (tables 𝓤 H 𝓜 𝓡 code.env .Λ) name code.function (code.unfolded 𝓤 H 𝓜 𝓡)
-    (with-meets withPledged setter.name number 𝓤 H (𝓖 .A) (givenOf 𝓤 H 𝓜 𝓖) (tablesOf 𝓤 H 𝓜 (tables 𝓤 H 𝓜 𝓡 code.env))
-    (cited 𝓤 H (Setting u64 withPledged 𝓤 H (𝓖 .A)) 𝓜 𝓡 code.env setter.name setter.routine code.calls-rows·setters·set-pledged (met 𝓤 H 𝓜 𝓖 𝓡)))
+    (tables 𝓤 H 𝓜 𝓡 sort.env .C) (tables 𝓤 H 𝓜 𝓡 sort.env .Λ) name sort.function (sort.unfolded 𝓤 H 𝓜 𝓡)
+    (with-meets withPledged setter.name number 𝓤 H (𝓖 .A) (givenOf 𝓤 H 𝓜 𝓖) (tablesOf 𝓤 H 𝓜 (tables 𝓤 H 𝓜 𝓡 sort.env))
+    (cited 𝓤 H (Setting u64 withPledged 𝓤 H (𝓖 .A)) 𝓜 𝓡 sort.env setter.name setter.routine sort.calls-rows·setters·set-pledged (met 𝓤 H 𝓜 𝓖 𝓡)))

@@ -1,7 +1,6 @@
 -- `rules::effects::change` meets its contract.
 use borrow.Author.Needs.{needs}
-use mathlib.Core.Path.{sym, ap, _∙_}
-use Rattle.rules.specs.Inner.{changeBy}
+use mathlib.Core.Path.{sym, _∙_}
 use Rattle.rules.proofs.Changing.{refused, passed, no-refusal-amounts}
 use Rattle.rules.proofs.effects.change.Statement.{statement}
 use Rattle.rules.proofs.effects.change.Tie as tie

@@ -1,18 +1,16 @@
 -- `rules::refusals::refusal` meets its contract: line by line down the table.
 use borrow.Author.Needs.{needs}
 use borrow.Author.Tests.{eq-eqb, ne-eqb}
-use mathlib.Core.Bool.{Bool, not}
+use mathlib.Core.Bool.{not}
 use mathlib.Core.List.{[], _++_}
-use mathlib.Core.Path.{_≡_, refl, sym, ap, _∙_}
+use mathlib.Core.Path.{_≡_, sym, ap, _∙_}
 use Prim.Native.Nat.{ℕ}
-use lib.Dec.{eqb}
 use Rattle.sums.specs.Table.{first}
 use Rattle.sums.proofs.Tables.{first-here, first-later, first-some}
-use Rattle.dayfile.specs.declared.Record.{Record}
 use Rattle.dayfile.specs.Records.{faults, faultOf}
 use Rattle.rules.specs.Inner.{AmountsIn, refusalBy, from7, from8, from9, from10, from11, from12, from13, from14}
-use Rattle.dayfile.proofs.Good.{good}
-use Rattle.rules.proofs.Faults.{amounts-in, past-faults}
+use Rattle.dayfile.proofs.Good.{good, past-faults}
+use Rattle.rules.proofs.Faults.{amounts-in}
 use Rattle.rules.proofs.refusals.refusal.Statement.{statement}
 use Rattle.rules.proofs.refusals.refusal.Tie as tie
 

@@ -5,7 +5,7 @@ use native.Mathlib.Omega.{arith}
 use lib.Dec.{eqb}
 use borrow.Author.Needs.{needs}
 use Rattle.sums.proofs.Sums.{only-most}
-use Rattle.rows.specs.Ranges.{InRange}
+use Rattle.rows.specs.Facts.{InRange}
 use Rattle.rows.proofs.NeedSums.{under-cm-most}
 use Rattle.rules.proofs.Kept.{seen-made}
 use Rattle.rules.proofs.seeing.see.Statement.{statement}
@@ -27,8 +27,8 @@ top-most c =
       arith,
       c .before .before .only-if .ensures,
       c .only-if2 .ensures,
-      only-most (eqb (a .row .code) 0) (m .result),
-      only-most (not (eqb (a .row .code) 0)) (a .top .margin),
+      only-most (eqb (a .row .sort) 0) (m .result),
+      only-most (not (eqb (a .row .sort) 0)) (a .top .margin),
       m .ensures,
       start .pre .0 .2 .margin,
     )

@@ -1,0 +1,62 @@
+-- Texts and lists of numbers put into a room at a place.
+use mathlib.Core.List.{List, [], _∷_, _++_, append-assoc, append-nil}
+use mathlib.Core.Path.{_≡_, refl, ap, sym, _∙_}
+use Prim.Native.Nat.{ℕ, zero, suc, _+_, _≤_, _<_}
+use native.Mathlib.Numerals.{add-one}
+use native.Mathlib.Omega.{arith}
+use lib.ListN.{length, set, take, drop, getD, length-append}
+use lib.Seq.{take-suc, take-all}
+use Rattle.lines.specs.Lines.{space, newline, followed, spaced}
+use Rattle.sums.specs.Room.{over}
+use Rattle.lines.specs.Inner.{Puts}
+use Rattle.lines.proofs.Puts.{and-then, puts-length}
+use Rattle.report.specs.Inner.{spacedTo}
+
+-- nothing put
+pub none : (room : List ℕ) (at : ℕ) {p : ℕ} → p ≡ at → at ≤ length room → Puts room at [] room p
+none room at e h = record { holds = refl; next = omega arith; within = omega arith }
+
+-- a text put byte by byte
+pub byte-at : {room₀ room : List ℕ} {at i : ℕ} (text : List ℕ) → i < length text → at + length text ≤ length room₀
+    → Puts room₀ at (take i text) room (at + i) → Puts room₀ at (take (i + 1) text) (set room (at + i) (getD text i 0)) (at + (i + 1))
+byte-at {at = at} {i = i} text h m f =
+    let e : take (i + 1) text ≡ take i text ++ (getD text i 0 ∷ []) = ap (λ (j : ℕ). take j text) (add-one i) ∙ take-suc text i 0 h in
+    rw e (and-then (take i text) (getD text i 0 ∷ []) f (record { holds = refl; next = omega arith; within = omega (arith, puts-length f) }))
+
+pub whole : {room₀ room : List ℕ} {at i after : ℕ} (text : List ℕ) → length text ≤ i → Puts room₀ at (take i text) room after → Puts room₀ at text room after
+whole {room₀} {room} {at} {i} text h f = rw (take-all i text h) at f
+
+-- one number more, a space after it
+pub spaced-step : (list : List ℕ) (i : ℕ) → i < length list → spacedTo list (suc i) ≡ spacedTo list i ++ followed (getD list i 0) space
+unfolding spacedTo
+spaced-step [] i h = absurd (omega arith)
+spaced-step (n ∷ list) zero h = append-nil (followed n space)
+spaced-step (n ∷ list) (suc i) h =
+    ap (λ (t : List ℕ). followed n space ++ t) (spaced-step list i (omega arith))
+    ∙ sym (append-assoc (followed n space) (spacedTo list i) (followed (getD list i 0) space))
+
+-- the last number, the line's end after it
+pub spaced-last : (list : List ℕ) (i : ℕ) → length list ≡ suc i → spacedTo list i ++ followed (getD list i 0) newline ≡ spaced list
+unfolding spacedTo spaced
+spaced-last [] i h = absurd (omega arith)
+spaced-last (n ∷ []) zero h = refl
+spaced-last (n ∷ []) (suc i) h = absurd (omega arith)
+spaced-last (n ∷ m ∷ list) zero h = absurd (omega arith)
+spaced-last (n ∷ m ∷ list) (suc i) h =
+    append-assoc (followed n space) (spacedTo (m ∷ list) i) (followed (getD (m ∷ list) i 0) newline)
+    ∙ ap (λ (t : List ℕ). followed n space ++ t) (spaced-last (m ∷ list) i (omega arith))
+
+pub number-more : {room₀ room room′ : List ℕ} {at p q : ℕ} (list : List ℕ) (i : ℕ) → i < length list → Puts room₀ at (spacedTo list i) room p
+    → Puts room p (followed (getD list i 0) space) room′ q → Puts room₀ at (spacedTo list (i + 1)) room′ q
+number-more list i h f g =
+    let e : spacedTo list (i + 1) ≡ spacedTo list i ++ followed (getD list i 0) space = ap (spacedTo list) (add-one i) ∙ spaced-step list i h in
+    rw e (and-then (spacedTo list i) (followed (getD list i 0) space) f g)
+
+pub number-last : {room₀ room room′ : List ℕ} {at p q : ℕ} (list : List ℕ) (i : ℕ) → length list ≡ i + 1 → Puts room₀ at (spacedTo list i) room p
+    → Puts room p (followed (getD list i 0) newline) room′ q → Puts room₀ at (spaced list) room′ q
+number-last list i h f g =
+    rw (sym (spaced-last list i (h ∙ add-one i))) (and-then (spacedTo list i) (followed (getD list i 0) newline) f g)
+
+-- a text at a room's start is within the room
+pub front : (n : ℕ) (text room after : List ℕ) → n ≡ length text → after ≡ over text room → n ≤ length after
+front n text room after h e = omega (arith, ap length e, length-append text (drop (length text) room))

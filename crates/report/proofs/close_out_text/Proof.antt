@@ -1,0 +1,14 @@
+-- `report::close_out_text` meets its contract.
+use borrow.Author.Needs.{needs}
+use Rattle.lines.proofs.Puts.{puts-over}
+use Rattle.report.proofs.close_out_text.Statement.{statement}
+use Rattle.report.proofs.close_out_text.Tie as tie
+
+put-close-out-requires : tie.Need-put-close-out-requires
+put-close-out-requires c κs = search needs
+
+returns : tie.Need-returns
+returns c = puts-over (c .put-close-out .ensures)
+
+pub close-out-text-spec : {M : Type 1} → statement M
+close-out-text-spec = tie.close (tie.spec put-close-out-requires returns)

@@ -1,0 +1,78 @@
+-- `report::loss::put_close_out` meets its contract: the refusal alone, or the accounts' lines and then the total.
+use borrow.Author.Needs.{needs}
+use mathlib.Core.List.{List, _++_}
+use mathlib.Core.Path.{_≡_, refl, ap, _∙_}
+use Prim.Native.Nat.{ℕ, zero, suc, _≤_}
+use native.Mathlib.Omega.{arith}
+use Rattle.lines.proofs.Puts.{and-then}
+use Rattle.report.specs.Reports.{accounts, listed, totalWord, refusedWord, wordLine, lossLines, closeOutText}
+use Rattle.report.proofs.loss.put_close_out.Statement.{statement}
+use Rattle.report.proofs.loss.put_close_out.Tie as tie
+
+alone : (refusal total : ℕ) (losses amounts : List ℕ) → 1 ≤ refusal → closeOutText refusal total losses amounts ≡ wordLine refusedWord refusal
+unfolding closeOutText
+alone zero total losses amounts h = absurd (omega arith)
+alone (suc refusal) total losses amounts h = refl
+
+whole : (refusal total : ℕ) (losses amounts : List ℕ) → refusal ≡ 0
+    → closeOutText refusal total losses amounts ≡ lossLines losses amounts (listed losses amounts) ++ wordLine totalWord total
+unfolding closeOutText
+whole zero total losses amounts h = refl
+whole (suc refusal) total losses amounts h = absurd (omega arith)
+
+slice-aggregate-put-labelled : tie.Need-slice-aggregate-put-labelled
+slice-aggregate-put-labelled c = search needs
+
+put-labelled-requires : tie.Need-put-labelled-requires
+put-labelled-requires c κs = search needs
+
+same-length : tie.Need-same-length
+same-length c = search needs
+
+returns : tie.Need-returns
+unfolding wordLine
+returns c =
+    let refusal = c .before .before .before .before .before .before .before .before .before .args .refusal in
+    rw (alone refusal _ _ _ (omega arith)) (c .before .before .put-labelled .ensures)
+
+lesser-requires : tie.Need-lesser-requires
+lesser-requires c κs = search needs
+
+accounts-requires : tie.Need-accounts-requires
+accounts-requires c κs = search needs
+
+put-losses-requires : tie.Need-put-losses-requires
+put-losses-requires c κs = search needs
+
+slice-aggregate-put-labelled-2 : tie.Need-slice-aggregate-put-labelled-2
+slice-aggregate-put-labelled-2 c = search needs
+
+put-labelled-requires-2 : tie.Need-put-labelled-requires-2
+put-labelled-requires-2 c κs = search needs
+
+same-length-2 : tie.Need-same-length-2
+same-length-2 c = search needs
+
+returns-2 : tie.Need-returns-2
+unfolding wordLine
+returns-2 c =
+    let refusal = c .before .before .before .before .before .before .before .before .before .before .before .before .before .before .before .args .refusal in
+    let n = c .before .before .before .before .before .before .before .before .before .accounts .ensures ∙ ap accounts (c .before .before .before .before .before .before .before .before .before .before .lesser .ensures) in
+    rw (whole refusal _ _ _ (omega arith))
+    (and-then _ _ (rw n at (c .before .before .before .before .before .before .before .put-losses .ensures .0)) (c .before .before .put-labelled2 .ensures))
+
+pub put-close-out-spec : {M : Type 1} → statement M
+put-close-out-spec =
+    tie.close
+    (tie.spec
+    slice-aggregate-put-labelled
+    put-labelled-requires
+    same-length
+    returns
+    lesser-requires
+    accounts-requires
+    put-losses-requires
+    slice-aggregate-put-labelled-2
+    put-labelled-requires-2
+    same-length-2
+    returns-2)

@@ -1,0 +1,112 @@
+-- `report::loss::put_losses` meets its contract. The invariant: the lines of the accounts below i stand in the room, at most 126 bytes each.
+use mathlib.Core.Path.{_≡_}
+use Prim.Native.Nat.{_*_, _-_, _≤_}
+use native.Mathlib.Numerals.{add-one}
+use native.Mathlib.Omega.{arith}
+use Rattle.lines.specs.Inner.{Puts}
+use Rattle.lines.proofs.Puts.{and-then, puts-length}
+use Rattle.report.specs.Reports.{lossLine, lossLines}
+use Rattle.report.proofs.Puts.{none}
+use Rattle.report.proofs.loss.put_losses.Statement.{statement}
+use Rattle.report.proofs.loss.put_losses.Tie as tie
+
+abbrev Inv-loop : tie.InvT-loop
+Inv-loop room₀ n losses amounts at₀ i₀ room at i = Puts room₀ 0 (lossLines losses amounts i) room at × (at ≤ 126 * i) × (i ≤ n)
+
+abbrev μ-loop : tie.MeasureT-loop
+μ-loop room₀ n losses amounts at₀ i₀ room at i = n - i
+
+loop-holds : tie.Need-loop-holds Inv-loop μ-loop
+unfolding lossLines
+loop-holds c = (none _ _ (omega arith) (omega arith), omega arith, omega arith)
+
+mul-k : tie.Need-mul-k Inv-loop μ-loop
+mul-k c = omega arith
+
+mul-put-six : tie.Need-mul-put-six Inv-loop μ-loop
+mul-put-six c = omega arith
+
+shared-slice-read-put-six : tie.Need-shared-slice-read-put-six Inv-loop μ-loop
+shared-slice-read-put-six c = omega arith
+
+mul-put-six-2 : tie.Need-mul-put-six-2 Inv-loop μ-loop
+mul-put-six-2 c = omega arith
+
+shared-slice-read-put-six-2 : tie.Need-shared-slice-read-put-six-2 Inv-loop μ-loop
+shared-slice-read-put-six-2 c = omega arith
+
+add-put-six : tie.Need-add-put-six Inv-loop μ-loop
+add-put-six c = omega arith
+
+mul-put-six-3 : tie.Need-mul-put-six-3 Inv-loop μ-loop
+mul-put-six-3 c = omega arith
+
+shared-slice-read-put-six-3 : tie.Need-shared-slice-read-put-six-3 Inv-loop μ-loop
+shared-slice-read-put-six-3 c = omega arith
+
+add-put-six-2 : tie.Need-add-put-six-2 Inv-loop μ-loop
+add-put-six-2 c = omega arith
+
+mul-put-six-4 : tie.Need-mul-put-six-4 Inv-loop μ-loop
+mul-put-six-4 c = omega arith
+
+shared-slice-read-put-six-4 : tie.Need-shared-slice-read-put-six-4 Inv-loop μ-loop
+shared-slice-read-put-six-4 c = omega arith
+
+add-put-six-3 : tie.Need-add-put-six-3 Inv-loop μ-loop
+add-put-six-3 c = omega arith
+
+mul-put-six-5 : tie.Need-mul-put-six-5 Inv-loop μ-loop
+mul-put-six-5 c = omega arith
+
+shared-slice-read-put-six-5 : tie.Need-shared-slice-read-put-six-5 Inv-loop μ-loop
+shared-slice-read-put-six-5 c = omega arith
+
+put-six-requires : tie.Need-put-six-requires Inv-loop μ-loop
+put-six-requires c κs = omega (arith, puts-length (c .before .before .before .before .before .before .before .loop .inv .0))
+
+add-i : tie.Need-add-i Inv-loop μ-loop
+add-i c = omega arith
+
+loop-less : tie.Need-loop-less Inv-loop μ-loop
+loop-less c = omega arith
+
+loop-again : tie.Need-loop-again Inv-loop μ-loop
+unfolding lossLines lossLine
+loop-again c =
+    let l = c .before .before .before .before .before .before .before .before .before .before in
+    (rw (add-one (l .loop .i)) (and-then _ _ (l .loop .inv .0) (c .before .before .put-six .ensures .0)), omega arith, omega arith)
+
+same-length : tie.Need-same-length Inv-loop μ-loop
+same-length c = puts-length (c .before .loop .inv .0)
+
+returns : tie.Need-returns Inv-loop μ-loop
+returns c = let e : c .before .loop .i ≡ c .before .before .before .before .before .args .n = omega arith in (rw e at (c .before .loop .inv .0), omega arith)
+
+pub put-losses-spec : {M : Type 1} → statement M
+put-losses-spec =
+    tie.close
+    (tie.spec
+    Inv-loop
+    μ-loop
+    loop-holds
+    mul-k
+    mul-put-six
+    shared-slice-read-put-six
+    mul-put-six-2
+    shared-slice-read-put-six-2
+    add-put-six
+    mul-put-six-3
+    shared-slice-read-put-six-3
+    add-put-six-2
+    mul-put-six-4
+    shared-slice-read-put-six-4
+    add-put-six-3
+    mul-put-six-5
+    shared-slice-read-put-six-5
+    put-six-requires
+    add-i
+    loop-less
+    loop-again
+    same-length
+    returns)

@@ -1,0 +1,78 @@
+-- What the programs `standings` and `closeouts` print behind the closing line, byte by byte.
+use mathlib.Core.Bool.{Bool, true, false}
+use mathlib.Core.List.{List, [], _∷_, _++_}
+use Prim.Native.Nat.{ℕ, zero, suc, _+_, _*_, _/_, min}
+use lib.ListN.{length, getD}
+use Rattle.rows.specs.declared.Row.{Row}
+use Rattle.rows.specs.declared.Book.{Book}
+use Rattle.rows.specs.Rows.{rowAt}
+use Rattle.book.specs.declared.Figures.{Figures}
+use Rattle.book.specs.Asked.{standingOf}
+use Rattle.lines.specs.Lines.{space, followed, spaced}
+
+-- "A book holds at most 256 accounts, numbered from 0": a count beyond that names no further one
+abbrev pub accounts : ℕ → ℕ
+accounts count = min count 256
+
+-- a word and the space behind it
+abbrev pub andSpace : List ℕ → List ℕ
+andSpace word = word ++ (space ∷ [])
+
+-- `cm`, `tm`, `client` or `cp`
+abbrev pub sortWord : ℕ → List ℕ
+sortWord zero = 99 ∷ 109 ∷ []  -- c m
+sortWord (suc zero) = 116 ∷ 109 ∷ []  -- t m
+sortWord (suc (suc zero)) = 99 ∷ 108 ∷ 105 ∷ 101 ∷ 110 ∷ 116 ∷ []  -- c l i e n t
+sortWord (suc (suc (suc sort))) = 99 ∷ 112 ∷ []  -- c p
+
+-- `live` or `retired`
+abbrev pub stateWord : Bool → List ℕ
+stateWord true = 108 ∷ 105 ∷ 118 ∷ 101 ∷ []  -- l i v e
+stateWord false = 114 ∷ 101 ∷ 116 ∷ 105 ∷ 114 ∷ 101 ∷ 100 ∷ []  -- r e t i r e d
+
+-- "its TM or 0, the five figures"
+abbrev pub numbersOf : Row → Figures → List ℕ
+numbersOf row f = row .tm ∷ f .collateral ∷ f .need ∷ f .blocked ∷ f .deemed ∷ f .free ∷ []
+
+-- "a line per account: number, `cm`/`tm`/`client`/`cp`, `live`/`retired`, its TM or 0, the five figures"
+unfoldable pub standingLine : ℕ → Row → Figures → List ℕ
+standingLine i row f =
+    followed i space ++ (andSpace (sortWord (row .sort)) ++ (andSpace (stateWord (row .live)) ++ spaced (numbersOf row f)))
+
+-- the lines of the accounts below n, in rising number
+unfoldable pub standingLines : Book → ℕ → List ℕ
+standingLines b zero = []
+standingLines b (suc n) = standingLines b n ++ standingLine n (rowAt b n) (standingOf b n)
+
+-- "`standings`: the closing line, then a line per account"
+unfoldable pub standingsText : Book → List ℕ
+standingsText b = standingLines b (accounts (b .count))
+
+-- "a line per account: number, loss, the four amounts", which stand from number 4 i on
+unfoldable pub lossLine : List ℕ → List ℕ → ℕ → List ℕ
+lossLine losses amounts i =
+    spaced (i ∷ getD losses i 0 ∷ getD amounts (4 * i) 0 ∷ getD amounts (4 * i + 1) 0 ∷ getD amounts (4 * i + 2) 0 ∷ getD amounts (4 * i + 3) 0 ∷ [])
+
+-- the lines of the accounts below n, in rising number
+unfoldable pub lossLines : List ℕ → List ℕ → ℕ → List ℕ
+lossLines losses amounts zero = []
+lossLines losses amounts (suc n) = lossLines losses amounts n ++ lossLine losses amounts n
+
+-- each account that has a loss and four amounts
+abbrev pub listed : List ℕ → List ℕ → ℕ
+listed losses amounts = accounts (min (length losses) (length amounts / 4))
+
+abbrev pub totalWord : List ℕ
+totalWord = 116 ∷ 111 ∷ 116 ∷ 97 ∷ 108 ∷ []
+
+abbrev pub refusedWord : List ℕ
+refusedWord = 114 ∷ 101 ∷ 102 ∷ 117 ∷ 115 ∷ 101 ∷ 100 ∷ []
+
+-- `total N`, `refused N`
+unfoldable pub wordLine : List ℕ → ℕ → List ℕ
+wordLine word n = andSpace word ++ spaced (n ∷ [])
+
+-- "`closeouts`: the closing line, then a line per account ..; then `total N`, or `refused N` alone in their place"
+unfoldable pub closeOutText : ℕ → ℕ → List ℕ → List ℕ → List ℕ
+closeOutText zero total losses amounts = lossLines losses amounts (listed losses amounts) ++ wordLine totalWord total
+closeOutText (suc refusal) total losses amounts = wordLine refusedWord (suc refusal)

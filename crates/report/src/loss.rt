@@ -1,0 +1,65 @@
+// The lines of `closeouts`, put into a room.
+ghost use mathlib.Core.List.{[], _∷_, _++_};
+ghost use Prim.Native.Nat.{_+_, _*_, _≤_};
+ghost use lib.ListN.{length};
+ghost use Rattle.lines.specs.Lines.{spaced};
+ghost use Rattle.lines.specs.Inner.{Puts};
+ghost use Rattle.report.specs.Reports.{lossLines, closeOutText};
+use crate::accounts;
+use crate::lesser;
+use crate::put::put_number;
+use crate::put::put_six;
+use crate::put::put_text;
+
+// Puts a word with the space behind it, then a number.
+fn put_labelled(room: &mut [u8], at: usize, word: &[u8], n: u64) -> usize
+    requires { ⌜ at + length (now word) + 21 ≤ length (now room) ⌝ }
+    ensures { λ after. ⌜ Puts (now (room .entry)) at (now (word .entry) ++ spaced (n ∷ [])) (now (room .exit)) after ⌝ }
+{
+    let p = put_text(room, at, word);
+    put_number(room, p, n, b'\n')
+}
+
+// Puts the lines of the accounts below n, and gives how long they are.
+fn put_losses(room: &mut [u8], n: usize, losses: &[u64], amounts: &[u64]) -> usize
+    requires { ⌜ (n ≤ length (now losses)) × (4 * n ≤ length (now amounts)) × (126 * n ≤ length (now room)) ⌝ }
+    ensures { λ after. ⌜ Puts (now (room .entry)) 0 (lossLines (now (losses .entry)) (now (amounts .entry)) n) (now (room .exit)) after ⌝ }
+    ensures { λ after. ⌜ after ≤ 126 * n ⌝ }
+{
+    let mut at: usize = 0;
+    let mut i: usize = 0;
+    while i < n {
+        let k = 4 * i;
+        at = put_six(
+            room,
+            at,
+            i as u64,
+            losses[i],
+            amounts[k],
+            amounts[k + 1],
+            amounts[k + 2],
+            amounts[k + 3],
+        );
+        i += 1;
+    }
+    at
+}
+
+// Puts the refusal alone, or each account's line and the total, and gives how long they are.
+pub(crate) fn put_close_out(
+    room: &mut [u8],
+    refusal: u8,
+    total: u64,
+    losses: &[u64],
+    amounts: &[u64],
+) -> usize
+    requires { ⌜ 65536 ≤ length (now room) ⌝ }
+    ensures { λ after. ⌜ Puts (now (room .entry)) 0 (closeOutText refusal total (now (losses .entry)) (now (amounts .entry))) (now (room .exit)) after ⌝ }
+{
+    if refusal != 0 {
+        return put_labelled(room, 0, b"refused ", refusal as u64);
+    }
+    let n = accounts(lesser(losses.len(), amounts.len() / 4));
+    let at = put_losses(room, n, losses, amounts);
+    put_labelled(room, at, b"total ", total)
+}

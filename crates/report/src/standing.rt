@@ -1,0 +1,72 @@
+// The lines of `standings`, put into a room.
+ghost use Prim.Native.Nat.{_+_, _*_, _≤_};
+ghost use lib.ListN.{length};
+ghost use Rattle.lines.specs.Inner.{Puts};
+ghost use Rattle.report.specs.Reports.{andSpace, sortWord, stateWord, standingLine, standingLines};
+use crate::put::put_number;
+use crate::put::put_six;
+use crate::put::put_text;
+use book::Figures;
+use rows::Book;
+use rows::Row;
+
+fn put_sort(room: &mut [u8], at: usize, sort: u8) -> usize
+    requires { ⌜ at + 7 ≤ length (now room) ⌝ }
+    ensures { λ after. ⌜ Puts (now (room .entry)) at (andSpace (sortWord sort)) (now (room .exit)) after ⌝ }
+    ensures { λ after. ⌜ after ≤ at + 7 ⌝ }
+{
+    match sort {
+        0 => put_text(room, at, b"cm "),
+        1 => put_text(room, at, b"tm "),
+        2 => put_text(room, at, b"client "),
+        _ => put_text(room, at, b"cp "),
+    }
+}
+
+fn put_state(room: &mut [u8], at: usize, live: bool) -> usize
+    requires { ⌜ at + 8 ≤ length (now room) ⌝ }
+    ensures { λ after. ⌜ Puts (now (room .entry)) at (andSpace (stateWord live)) (now (room .exit)) after ⌝ }
+    ensures { λ after. ⌜ after ≤ at + 8 ⌝ }
+{
+    if live {
+        put_text(room, at, b"live ")
+    } else {
+        put_text(room, at, b"retired ")
+    }
+}
+
+// Puts one account's line: it takes 162 bytes at most.
+fn put_standing(room: &mut [u8], at: usize, i: usize, r: Row, f: Figures) -> usize
+    requires { ⌜ at + 162 ≤ length (now room) ⌝ }
+    ensures { λ after. ⌜ Puts (now (room .entry)) at (standingLine i r f) (now (room .exit)) after ⌝ }
+    ensures { λ after. ⌜ after ≤ at + 162 ⌝ }
+{
+    let p1 = put_number(room, at, i as u64, b' ');
+    let p2 = put_sort(room, p1, r.sort);
+    let p3 = put_state(room, p2, r.live);
+    put_six(
+        room,
+        p3,
+        r.tm as u64,
+        f.collateral,
+        f.need,
+        f.blocked,
+        f.deemed,
+        f.free,
+    )
+}
+
+// Puts the lines of the accounts below n, and gives how long they are.
+pub(crate) fn put_standings(room: &mut [u8], b: Book, n: usize) -> usize
+    requires { ⌜ (n ≤ 256) × (162 * n ≤ length (now room)) ⌝ }
+    ensures { λ after. ⌜ Puts (now (room .entry)) 0 (standingLines b n) (now (room .exit)) after ⌝ }
+{
+    let mut at: usize = 0;
+    let mut i: usize = 0;
+    while i < n {
+        let figures = book::standing(b, i as u16);
+        at = put_standing(room, at, i, b.rows[i], figures);
+        i += 1;
+    }
+    at
+}

@@ -1,0 +1,30 @@
+-- Sentences of 'A sound book' as facts, for internal functions and for proofs: no promise of a public call cites it.
+use mathlib.Core.Path.{_≡_}
+use mathlib.Core.Logic.{_⊎_}
+use Prim.Native.Nat.{ℕ, _≤_, _<_}
+use Rattle.rows.specs.declared.Kinds.{Kinds}
+use Rattle.rows.specs.declared.Row.{Row}
+use Rattle.rows.specs.View.{View, needCM}
+use Rattle.rows.specs.Rows.{ceiling}
+use Rattle.rows.specs.Ranges.{ceilings}
+
+-- "account 0 is the CM"; "Every other account is a TM, a CP, or a client whose TM is a lower-numbered TM row."
+pub record Shaped (v : View) : Type 0 where
+  pub some : 0 < v .count
+  pub top : v .sort 0 ≡ 0
+  pub sorts : (i : ℕ) → 0 < i → i < v .count → (v .sort i ≡ 1) ⊎ ((v .sort i ≡ 2) ⊎ (v .sort i ≡ 3))
+  pub tms : (i : ℕ) → i < v .count → v .sort i ≡ 2 → (v .tm i < i) × (v .sort (v .tm i) ≡ 1)
+
+-- "The CM's need, defined below, is at most the CM's collateral."
+abbrev pub Covered : View → Type 0
+Covered v = needCM v ≤ v .collateral 0
+
+-- "Received (each kind), pledged and margin are at most the ceiling. Allocated is at most received in each kind."
+abbrev pub KindsWithin : Kinds → Kinds → Type 0
+KindsWithin a b = (a .cash ≤ b .cash) × (a .deposits ≤ b .deposits) × (a .guarantees ≤ b .guarantees) × (a .securities ≤ b .securities)
+
+pub record InRange (r : Row) : Type 0 where
+  pub received : KindsWithin (r .received) ceilings
+  pub allocated : KindsWithin (r .allocated) (r .received)
+  pub pledged : r .pledged ≤ ceiling
+  pub margin : r .margin ≤ ceiling
