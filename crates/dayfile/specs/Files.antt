@@ -1,4 +1,4 @@
--- What the theorems on whole day files speak of: no promise of a public call cites it.
+-- What the theorems on whole day files speak of. Of it only `Bytes` stands in a promise, that of the crate feed.
 use mathlib.Core.List.{List, [], _∷_, _++_}
 use mathlib.Core.Path.{_≡_}
 use Prim.Native.Nat.{ℕ, _^_, _<_}

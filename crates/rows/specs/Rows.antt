@@ -26,7 +26,7 @@ noRow = record { sort = 0; live = false; tm = 0; received = noKinds; allocated =
 abbrev pub openedRow : ℕ → ℕ → Row
 openedRow sort tm = record { sort = sort; live = true; tm = tm; received = noKinds; allocated = noKinds; pledged = 0; margin = 0 }
 
--- "Receive adds to received; hand back takes from it": kind by kind
+-- "Receive adds to received; .. allocate adds to allocated": kind by kind
 abbrev pub plusKinds : Kinds → Kinds → Kinds
 plusKinds a b = record {
   cash = a .cash + b .cash;
@@ -35,6 +35,7 @@ plusKinds a b = record {
   securities = a .securities + b .securities;
 }
 
+-- "hand back takes from it; .. release takes from it": kind by kind
 abbrev pub lessKinds : Kinds → Kinds → Kinds
 lessKinds a b = record {
   cash = a .cash - b .cash;

@@ -10,6 +10,7 @@ pub record Line : Type 0 where
   pub number : ℕ
   pub test : Bool
 
+-- the number n, given when the test t holds
 infix 20 _when_
 abbrev pub _when_ : ℕ → Bool → Line
 n when t = record { number = n; test = t }
