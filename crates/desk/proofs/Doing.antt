@@ -3,11 +3,13 @@ use mathlib.Core.Bool.{true, false, not}
 use mathlib.Core.List.{List}
 use mathlib.Core.Logic.{_⊎_, inl, inr}
 use mathlib.Core.Path.{_≡_, refl, sym, ap, _∙_}
-use Prim.Native.Nat.{ℕ, _≤_, _<_}
+use Prim.Native.Nat.{ℕ, _+_, _≤_, _<_}
+use lib.ListN.{set}
 use borrow.Author.Tests.{ne-eqb, le-leb, lt-leb}
 use Rattle.sums.specs.Choice.{pick, unlessRefused}
 use Rattle.sums.proofs.Choices.{pass, stop}
 use Rattle.sums.proofs.Tables.{first-here}
+use Rattle.rows.specs.declared.Row.{Row}
 use Rattle.rows.specs.declared.Book.{Book}
 use Rattle.book.specs.Sound.{soundB}
 use Rattle.book.specs.Facts.{Sound}
@@ -15,11 +17,11 @@ use Rattle.dayfile.specs.declared.Record.{Record}
 use Rattle.dayfile.specs.declared.Found.{Found}
 use Rattle.dayfile.specs.Reading.{foundAt}
 use Rattle.rules.specs.declared.Change.{Change}
-use Rattle.rules.specs.declared.Change.the-variants.{Refuse}
+use Rattle.rules.specs.declared.Change.the-variants.{Refuse, Put, Open}
 use Rattle.rules.specs.Refusals.{namedRow, refusalOf}
-use Rattle.rules.specs.Effects.{effectOf, changeOf, movedOn}
+use Rattle.rules.specs.Effects.{effectOf, changeOf, nextSerial, movedOn}
 use Rattle.rules.proofs.Deciding.{never-one, refuse-number}
-use Rattle.desk.specs.declared.Outcome.the-variants.{Refused}
+use Rattle.desk.specs.declared.Outcome.the-variants.{CarriedOut, Opened, Refused}
 use Rattle.desk.specs.declared.Answer.{Answer}
 use Rattle.desk.specs.declared.Done.{Done}
 use Rattle.desk.specs.declared.Next.{Next}
@@ -44,6 +46,24 @@ refused-step b r s n a after e ea eb = (λ j. record { answer = answer j; book =
     book : Refusing b n after → after ≡ doneBy b r (Refuse n) .book
     book (inl h) = stop _ (lt-leb n 3 (h .0)) (h .1)
     book (inr h) = pass _ (le-leb n 3 (h .0)) (h .1)
+
+-- a row put anew, and one opened, with the serial moved on
+module _ (b : Book) (r : Record) (row : Row) (next : ℕ) (d : Done) where
+  pub put-step : changeOf b r ≡ Put row → next ≡ nextSerial (b .serial)
+      → d ≡ record { answer = ofRecord r CarriedOut; book = record { count = b .count; serial = next; rows = set (b .rows) (r .account) row } }
+      → d ≡ stepOf b r
+  put-step e n h =
+      h
+      ∙ ap (λ (x : ℕ). record { answer = ofRecord r CarriedOut; book = record { count = b .count; serial = x; rows = set (b .rows) (r .account) row } }) n
+      ∙ step-by b r (Put row) e
+
+  pub open-step : changeOf b r ≡ Open row → next ≡ nextSerial (b .serial)
+      → d ≡ record { answer = ofRecord r (Opened (b .count)); book = record { count = b .count + 1; serial = next; rows = set (b .rows) (b .count) row } }
+      → d ≡ stepOf b r
+  open-step e n h =
+      h
+      ∙ ap (λ (x : ℕ). record { answer = ofRecord r (Opened (b .count)); book = record { count = b .count + 1; serial = x; rows = set (b .rows) (b .count) row } }) n
+      ∙ step-by b r (Open row) e
 
 -- "1: the book isn't sound"
 pub unsound-step : (b : Book) (r : Record) → soundB b ≡ false → _≡_ {A = Done} (record { answer = nobody (Refused 1); book = b }) (stepOf b r)

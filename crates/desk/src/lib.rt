@@ -45,15 +45,17 @@ fn about_nobody(outcome: Outcome) -> Answer
     }
 }
 
-fn about(r: Record, outcome: Outcome) -> Answer
-    ensures { λ a. ⌜ a ≡ ofRecord r outcome ⌝ }
+// The answer to a record, and the book after it.
+fn answered(r: Record, outcome: Outcome, book: Book) -> Done
+    ensures { λ d. ⌜ d ≡ record { answer = ofRecord r outcome; book = book } ⌝ }
 {
-    Answer {
+    let answer = Answer {
         serial: r.serial,
         code: r.code,
         account: r.account,
         outcome,
-    }
+    };
+    Done { answer, book }
 }
 
 // A record at a sound book.
@@ -80,28 +82,19 @@ fn step(b: Book, r: Record) -> Done
             if 3 < n {
                 book.serial = next;
             }
-            Done {
-                answer: about(r, Outcome::Refused(n)),
-                book,
-            }
+            answered(r, Outcome::Refused(n), book)
         }
         Change::Put(new) => {
             book.serial = next;
             book.rows[i] = new;
-            Done {
-                answer: about(r, Outcome::CarriedOut),
-                book,
-            }
+            answered(r, Outcome::CarriedOut, book)
         }
         Change::Open(new) => {
             let at = count as usize;
             book.serial = next;
             book.count = count + 1;
             book.rows[at] = new;
-            Done {
-                answer: about(r, Outcome::Opened(count)),
-                book,
-            }
+            answered(r, Outcome::Opened(count), book)
         }
     }
 }

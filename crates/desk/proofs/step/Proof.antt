@@ -1,6 +1,6 @@
 -- `desk::step` meets its contract.
 use mathlib.Core.Logic.{⊎-elim, inl, inr}
-use mathlib.Core.Path.{_≡_, sym, ap, _∙_}
+use mathlib.Core.Path.{_≡_, refl, sym, ap, _∙_}
 use Prim.Native.Nat.{_<_}
 use native.Mathlib.Omega.{arith}
 use Rattle.book.proofs.SoundRanges.{sound-ranges}
@@ -10,7 +10,7 @@ use Rattle.rules.specs.Inner.{SeenOf}
 use Rattle.rules.proofs.Deciding.{put-below, open-below, named-beyond}
 use Rattle.rules.proofs.Looking.{sees-nothing}
 use Rattle.rules.proofs.WhatIsSeen.{verdict-is}
-use Rattle.desk.proofs.Doing.{step-by, refused-step}
+use Rattle.desk.proofs.Doing.{refused-step, put-step, open-step}
 use borrow.Author.Needs.{needs}
 use Rattle.desk.proofs.step.Statement.{statement}
 use Rattle.desk.proofs.step.Tie as tie
@@ -55,8 +55,8 @@ wrapping-add-u16-requires c κs = search needs
 enum-known-change : tie.Need-enum-known-change
 enum-known-change c = search needs
 
-about-requires : tie.Need-about-requires
-about-requires c κs = search needs
+answered-requires : tie.Need-answered-requires
+answered-requires c κs = search needs
 
 enum-known-change-2 : tie.Need-enum-known-change-2
 enum-known-change-2 c = search needs
@@ -67,8 +67,8 @@ mul-new c = search needs
 element-set-from-new : tie.Need-element-set-from-new
 element-set-from-new c = put-below _ (c .before .before .before .before .before .before .before .before .before .before .before .before .before .before .args .r) _ (sym (change-is (c .before .before .before .before)) ∙ c .before .change3 .given .1)
 
-about-requires-2 : tie.Need-about-requires-2
-about-requires-2 c κs = search needs
+answered-requires-2 : tie.Need-answered-requires-2
+answered-requires-2 c κs = search needs
 
 enum-known-change-3 : tie.Need-enum-known-change-3
 enum-known-change-3 c = search needs
@@ -85,22 +85,26 @@ mul-new-2 c = let h = opened-below c in omega arith
 element-set-from-new-2 : tie.Need-element-set-from-new-2
 element-set-from-new-2 c = opened-below c
 
-about-requires-3 : tie.Need-about-requires-3
-about-requires-3 c κs = search needs
+answered-requires-3 : tie.Need-answered-requires-3
+answered-requires-3 c κs = search needs
 
 returns : tie.Need-returns
 returns c =
     let d = c .before .before .before in
     let s = c .before .before .before .before .before .before .before .before .before .before .before .before .before .before .before .before in
-    refused-step (s .args .b) (s .args .r) (s .pre) _ _ _ (sym (change-is (c .before .before .before .before .before .before)) ∙ d .change2 .given .1) (c .about .ensures)
+    c .answered .ensures ∙ refused-step (s .args .b) (s .args .r) (s .pre) _ _ _ (sym (change-is (c .before .before .before .before .before .before)) ∙ d .change2 .given .1) refl
     (⊎-elim (λ w. inl (w .0 .taken, w .1 ∙ ap (λ x. record { count = s .args .b .count; serial = x; rows = s .args .b .rows }) (c .before .before .before .before .before .wrapping-add-u16 .ensures)))
     (λ w. inr (w .0 .left, w .1)) (c .before .if3 .came))
 
 returns-2 : tie.Need-returns-2
-returns-2 c = (cc) ∙ step-by _ _ _ (sym (change-is (c .before .before .before .before .before)) ∙ c .before .before .change3 .given .1)
+returns-2 c =
+    put-step _ _ _ _ _ (sym (change-is (c .before .before .before .before .before)) ∙ c .before .before .change3 .given .1)
+    (c .before .before .before .before .wrapping-add-u16 .ensures) (c .answered2 .ensures)
 
 returns-3 : tie.Need-returns-3
-returns-3 c = (cc) ∙ step-by _ _ _ (sym (change-is (c .before .before .before .before .before)) ∙ c .before .before .change4 .given .1)
+returns-3 c =
+    open-step _ _ _ _ _ (sym (change-is (c .before .before .before .before .before)) ∙ c .before .before .change4 .given .1)
+    (c .before .before .before .before .wrapping-add-u16 .ensures) (c .answered3 .ensures)
 
 pub step-spec : {M : Type 1} → statement M
 step-spec =
@@ -115,17 +119,17 @@ step-spec =
     change-requires
     wrapping-add-u16-requires
     enum-known-change
-    about-requires
+    answered-requires
     enum-known-change-2
     mul-new
     element-set-from-new
-    about-requires-2
+    answered-requires-2
     enum-known-change-3
     cast-at
     add-book
     mul-new-2
     element-set-from-new-2
-    about-requires-3
+    answered-requires-3
     returns
     returns-2
     returns-3)
