@@ -13,7 +13,7 @@ use Rattle.dayfile.specs.declared.Wrote.the-variants.{Written, Refused}
 use Rattle.dayfile.specs.Bytes.{bytesOf}
 use Rattle.dayfile.specs.Records.{bit, faults}
 
--- Of a good record, whose second mark byte has none of the bits 6 and 7. "eight bytes for each one in the second mark byte":
+-- For a good record: its second mark byte has none of the bits 6 and 7. "eight bytes for each one in the second mark byte":
 -- an amount's bytes where its bit is 1, none where it is 0
 unfoldable pub field : ℕ → ℕ → List ℕ
 field zero x = []

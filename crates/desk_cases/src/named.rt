@@ -43,6 +43,7 @@ fn full() {
     let b = ask(b, OPEN_CLIENT, NONE, 1, 0);
     let b = ask(b, OPEN_CLIENT, NONE, 2, 0);
     let b = ask(b, RETIRE, NONE, 255, 0);
+    let b = ask(b, OPEN_CLIENT, NONE, 255, 0);
     ask(b, OPEN_CLIENT, NONE, 1, 0);
 }
 

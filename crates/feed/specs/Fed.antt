@@ -8,11 +8,11 @@ use Rattle.run.specs.declared.Ran.{Ran}
 use Rattle.run.specs.Runs.{ranOf}
 use Rattle.feed.specs.declared.Day.{Day}
 
--- "The program reads a day file .. over a fresh book"; "It stops at the end, at a cut or at a million records"
+-- a run's results without its place
 abbrev pub dayOf : Ran → Day
 dayOf r = record { book = r .book; closing = r .closing; read = r .read; done = r .done }
 
--- the day of these bytes
+-- "The program reads a day file .. over a fresh book"; "It stops at the end, at a cut or at a million records"
 unfoldable pub wholeDay : List ℕ → Day
 wholeDay s = dayOf (ranOf freshBook s 1_000_000)
 

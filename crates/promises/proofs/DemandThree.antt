@@ -37,26 +37,27 @@ sound-exactly b = (sound→ b, sound← b)
 pub every-record : (b : Book) (r : Record) → soundB b ≡ true → soundB (stepOf b r .book) ≡ true
 every-record b r e = sound← (stepOf b r .book) (step-sound b r (sound→ b e))
 
--- So does whatever bytes stand at a place of a piece: a record, too few bytes, or none.
+-- So do whatever bytes stand at a place of a piece: a record, too few bytes, or none.
 pub every-place : (b : Book) (piece : List ℕ) (place : ℕ) → soundB b ≡ true → soundB (nextOf b piece place .book) ≡ true
 every-place b piece place e = sound← (nextOf b piece place .book) (next-sound b piece place (sound→ b e))
 
--- Every sequence of records from a fresh book leaves a sound book, handed over as values ..
+-- Every sequence of records, handed over as values to a fresh book, leaves a sound book, ..
 pub every-sequence : (rs : List Record) → soundB (afterAll freshBook rs) ≡ true
 every-sequence rs = sound← (afterAll freshBook rs) (all-sound freshBook rs fresh-sound)
 
--- .. or as any bytes at all.
+-- .. and so do any bytes at all.
 pub any-bytes : (piece : List ℕ) (most : ℕ) → soundB (ranOf freshBook piece most .book) ≡ true
 any-bytes piece most = sound← (ranOf freshBook piece most .book) (ran-keeps freshBook piece most fresh-sound)
 
 module _ (b : Book) (losses room : List ℕ) (carried : closeOutRefusal b losses room ≡ 0) where
-  -- Every account, so each client and CP, pays exactly the lesser of its own loss and its own collateral (the first of its four
-  -- amounts).
+  -- Every account, so each client and CP, pays for its own loss exactly the lesser of that loss and its own collateral (the first
+  -- of its four amounts).
   pub pays-the-lesser : (i : ℕ) → i < b .count → cellOf b losses room i 0 ≡ min (lossAt losses i) (collateral (rowAt b i))
   pays-the-lesser = carried-own b losses room carried
 
   -- Nobody else's loss is paid from the collateral of a client (sort 2) or a CP (sort 3): losses of others are paid from a TM's,
-  -- where they are its clients', and from the CM's. So a client or CP pays exactly that lesser and nothing else.
+  -- where they are its clients' (the second amount, stated here), and from the CM's (the third, by `leftCM` out of account 0's). So
+  -- a client or CP pays exactly that lesser and nothing else.
   pub nobody-takes-from-a-client-or-CP : (i : ℕ) → (rowAt b i .sort ≡ 2) ⊎ (rowAt b i .sort ≡ 3)
       → ofClients (view b) i (fromTM (view b) (lossAt losses)) ≡ 0
   nobody-takes-from-a-client-or-CP i s =
@@ -79,7 +80,8 @@ module _ (b : Book) (losses room : List ℕ) (carried : closeOutRefusal b losses
       let s = carried-sound b losses room carried in
       rw (carried-total b losses room carried) (fund-within (view b) (s .shaped) (lossAt losses) (s .covered) h)
 
--- However others stand: two close-outs that agree on one account's loss and collateral have it pay the same.
+-- However others stand: two close-outs that agree on one account's loss and collateral have it pay the same for its own loss (the
+-- first amount).
 pub however-others-stand : (b b′ : Book) (losses losses′ room room′ : List ℕ) → closeOutRefusal b losses room ≡ 0 → closeOutRefusal b′ losses′ room′ ≡ 0
     → (i : ℕ) → i < b .count → i < b′ .count → lossAt losses i ≡ lossAt losses′ i → collateral (rowAt b i) ≡ collateral (rowAt b′ i)
     → cellOf b losses room i 0 ≡ cellOf b′ losses′ room′ i 0
@@ -95,6 +97,6 @@ pub CM-pays-what-it-has : (b : Book) (losses : List ℕ)
     → own (view b) (lossAt losses) 0 + sum (b .count) (fromCM (view b) (lossAt losses)) ≤ collateral (rowAt b 0)
 CM-pays-what-it-has b losses = CM-pays (view b) (lossAt losses)
 
--- What is left uncovered, which the fund pays, is at most the losses beyond the margins.
+-- What is left uncovered, which the fund pays, is at most the losses beyond the margins, added up account by account.
 pub the-fund-pays-at-most : (b : Book) (losses room : List ℕ) → closedOf b losses room .total ≤ sum (b .count) (beyond (view b) (lossAt losses))
 the-fund-pays-at-most = total-bound

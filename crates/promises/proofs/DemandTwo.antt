@@ -50,7 +50,7 @@ use Rattle.promises.specs.Sequences.{afterAll}
 -- its collateral bears of its need; deemed is what its collateral can't bear, and passes to the TM above a client, and to the CM
 -- above a TM or a CP.
 module _ (v : View) where
-  -- A client's margin is blocked against the client's own collateral first; what is left of it is deemed.
+  -- A client's margin is blocked against the client's own collateral first; what is left of the margin is deemed.
   pub client's-own-first : (i : ℕ) → v .sort i ≡ 2
       → (blocked v i ≡ min (v .margin i) (v .collateral i)) × (deemed v i ≡ v .margin i - min (v .margin i) (v .collateral i))
   client's-own-first i e = (ap (λ n. min n (v .collateral i)) (need-client v i e), deemed-client v i e)
@@ -104,11 +104,11 @@ module _ (b : Book) (r : Record) where
   pub carried-out-exactly-when : (refusalOf b r ≡ 0 → NoneHolds (refusals b r)) × (NoneHolds (refusals b r) → refusalOf b r ≡ 0)
   carried-out-exactly-when = (carried-exactly b r, exactly-carried b r)
 
-  -- What a record does that is carried out: the row named is put anew or one is opened, and the serial moves on.
+  -- What a record that is carried out does: the row named is put anew or one is opened, and the serial moves on.
   pub carried-out-does : refusalOf b r ≡ 0 → stepOf b r ≡ doneBy b r (effectOf (namedRow b r) r)
   carried-out-does = passed-as b r
 
--- Code by code, what a record does that is carried out. `row` is the row of the account named before it, `after i` is account i's
+-- Code by code, what a record that is carried out does. `row` is the row of the account named before it, `after i` is account i's
 -- row then; the row named is the same but for what is said to be put anew.
 module _ (b : Book) (r : Record) (carried : refusalOf b r ≡ 0) where
   abbrev row : Row
@@ -117,7 +117,7 @@ module _ (b : Book) (r : Record) (carried : refusalOf b r ≡ 0) where
   abbrev after : ℕ → Row
   after = rowAt (stepOf b r .book)
 
-  -- 1, open TM: the next number's row is a TM's, live, with all amounts 0.
+  -- 1, open TM: the next number's row is a TM's, live, with all amounts 0 (the account named is 0, the CM).
   pub opens-a-TM : r .code ≡ 1 → after (b .count) ≡ openedRow 1 (r .account)
   opens-a-TM e = new-after b r carried (rw e) ∙ ap (λ n. openedRow n (r .account)) e
 
@@ -125,7 +125,7 @@ module _ (b : Book) (r : Record) (carried : refusalOf b r ≡ 0) where
   pub opens-a-client : r .code ≡ 2 → after (b .count) ≡ openedRow 2 (r .account)
   opens-a-client e = new-after b r carried (rw e) ∙ ap (λ n. openedRow n (r .account)) e
 
-  -- 3, open CP: it is a CP's, live, with all amounts 0.
+  -- 3, open CP: it is a CP's, live, with all amounts 0 (the account named is 0, the CM).
   pub opens-a-CP : r .code ≡ 3 → after (b .count) ≡ openedRow 3 (r .account)
   opens-a-CP e = new-after b r carried (rw e) ∙ ap (λ n. openedRow n (r .account)) e
 
@@ -161,7 +161,7 @@ module _ (b : Book) (r : Record) (carried : refusalOf b r ≡ 0) where
   pub retire-retires : r .code ≡ 11 → after (r .account) ≡ withLive row false
   retire-retires e = named-after b r carried (rw e) ∙ by-retire row r e
 
--- "Never delete an account: retire it, and never give its number again."
+-- Accounts, their numbers and their rows last.
 module _ (b : Book) (r : Record) where
   -- No other account's row changes.
   pub others-keep-their-rows : (i : ℕ) → i < b .count → (i ≡ r .account → ⊥) → rowAt (stepOf b r .book) i ≡ rowAt b i
@@ -209,8 +209,8 @@ pub counts-are-of-the-answers : (b : Book) (piece : List ℕ) (most : ℕ) → s
     → (ranOf b piece most .read ≡ length (answersOf piece most b 0)) × (ranOf b piece most .done ≡ carriedOf (answersOf piece most b 0))
 counts-are-of-the-answers = ran-counts
 
--- .. and each record of it, not the first alone, is carried out as one call for the next record does it: from the book and the
--- place reached, a run goes on from the book and the place after that call.
+-- .. and each record, not the first alone, is carried out as `nextOf` does it: the run goes on with that call's book and place, and
+-- counts its answer.
 pub each-record-is-a-step : (piece : List ℕ) (most : ℕ) (b : Book) (place read done : ℕ) (r : Record) (next : ℕ) → soundB b ≡ true
     → foundAt piece place ≡ Whole r next
     → runOf piece (suc most) b place read done
@@ -241,7 +241,7 @@ pub reads-back : (r : Record) → faultOf r ≡ 0 → WordsFit r → (before aft
     → readAt (before ++ (writtenOf r ++ after)) (length before) ≡ Good r (length before + length (writtenOf r))
 reads-back = read-written
 
--- A day file reads back to the records it was written from, ..
+-- A day file reads back as the records it was written from, ..
 pub day-file-reads-back : (rs : List Record) → AllGood rs → Reads (fileOf rs) 0 rs
 day-file-reads-back = file-reads
 

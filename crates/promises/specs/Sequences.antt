@@ -1,4 +1,4 @@
--- "Every sequence of records": the book after the records of a list, each handed over as values.
+-- Every sequence of records: the book after the records of a list, each handed over as values.
 use mathlib.Core.List.{List, [], _∷_}
 use Rattle.rows.specs.declared.Book.{Book}
 use Rattle.dayfile.specs.declared.Record.{Record}

@@ -1,4 +1,5 @@
--- What the programs `standings` and `closeouts` print behind the closing line, byte by byte.
+-- What the programs `standings` and `closeouts` print behind the closing line, byte by byte. Document 01 has neither program; their
+-- lines are laid down in docs/DECISIONS.md, 29.
 use mathlib.Core.Bool.{Bool, true, false}
 use mathlib.Core.List.{List, [], _∷_, _++_}
 use Prim.Native.Nat.{ℕ, zero, suc, _+_, _*_, _/_, min}
@@ -30,11 +31,11 @@ abbrev pub stateWord : Bool → List ℕ
 stateWord true = 108 ∷ 105 ∷ 118 ∷ 101 ∷ []  -- l i v e
 stateWord false = 114 ∷ 101 ∷ 116 ∷ 105 ∷ 114 ∷ 101 ∷ 100 ∷ []  -- r e t i r e d
 
--- "its TM or 0, the five figures"
+-- its TM or 0, the five figures
 abbrev pub numbersOf : Row → Figures → List ℕ
 numbersOf row f = row .tm ∷ f .collateral ∷ f .need ∷ f .blocked ∷ f .deemed ∷ f .free ∷ []
 
--- "a line per account: number, `cm`/`tm`/`client`/`cp`, `live`/`retired`, its TM or 0, the five figures"
+-- a line per account: number, `cm`/`tm`/`client`/`cp`, `live`/`retired`, its TM or 0, the five figures
 unfoldable pub standingLine : ℕ → Row → Figures → List ℕ
 standingLine i row f =
     followed i space ++ (andSpace (sortWord (row .sort)) ++ (andSpace (stateWord (row .live)) ++ spaced (numbersOf row f)))
@@ -44,11 +45,11 @@ unfoldable pub standingLines : Book → ℕ → List ℕ
 standingLines b zero = []
 standingLines b (suc n) = standingLines b n ++ standingLine n (rowAt b n) (standingOf b n)
 
--- "`standings`: the closing line, then a line per account"
+-- `standings`: the closing line, then a line per account
 unfoldable pub standingsText : Book → List ℕ
 standingsText b = standingLines b (accounts (b .count))
 
--- "a line per account: number, loss, the four amounts", which stand from number 4 i on
+-- a line per account: number, loss, the four amounts, which stand from number 4 i on
 unfoldable pub lossLine : List ℕ → List ℕ → ℕ → List ℕ
 lossLine losses amounts i =
     spaced (i ∷ getD losses i 0 ∷ getD amounts (4 * i) 0 ∷ getD amounts (4 * i + 1) 0 ∷ getD amounts (4 * i + 2) 0 ∷ getD amounts (4 * i + 3) 0 ∷ [])
@@ -72,7 +73,7 @@ refusedWord = 114 ∷ 101 ∷ 102 ∷ 117 ∷ 115 ∷ 101 ∷ 100 ∷ []
 unfoldable pub wordLine : List ℕ → ℕ → List ℕ
 wordLine word n = andSpace word ++ spaced (n ∷ [])
 
--- "`closeouts`: the closing line, then a line per account ..; then `total N`, or `refused N` alone in their place"
+-- `closeouts`: the closing line, then a line per account ..; then `total N`, or `refused N` alone in their place
 unfoldable pub closeOutText : ℕ → ℕ → List ℕ → List ℕ → List ℕ
 closeOutText zero total losses amounts = lossLines losses amounts (listed losses amounts) ++ wordLine totalWord total
 closeOutText (suc refusal) total losses amounts = wordLine refusedWord (suc refusal)

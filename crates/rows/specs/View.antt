@@ -42,7 +42,7 @@ deemedOf n c = n - blockedOf n c
 abbrev pub freeOf : ℕ → ℕ → ℕ
 freeOf n c = c - blockedOf n c
 
--- "Need: for a client or CP, its margin;": what a client or CP is deemed
+-- what a client or CP is deemed, whose need is its margin
 abbrev pub ownDeemed : View → ℕ → ℕ
 ownDeemed v i = deemedOf (v .margin i) (v .collateral i)
 
@@ -66,7 +66,7 @@ members v f g i = only (isTM v i) (f i) + only (isCP v i) (g i)
 unfoldable pub needCM : View → ℕ
 needCM v = v .margin 0 + sum (v .count) (members v (deemedTM v) (ownDeemed v))
 
--- an account's need, by its sort: the CM, a TM, and otherwise a client or CP
+-- an account's need, by its sort: the CM, a TM, and otherwise "for a client or CP, its margin"
 unfoldable pub need : View → ℕ → ℕ
 need v i = pick (isCM v i) (needCM v) (pick (isTM v i) (needTM v i) (v .margin i))
 

@@ -24,7 +24,7 @@ amended row r =
     (pick (eqb (r .code) 10) (withMargin row (r .margin))
     (withLive row false)))))))  -- 11
 
--- what a record does that no refusal meets: an opened row's TM is the account named (0 for a TM and a CP)
+-- what a record that no refusal meets does: an opened row's TM is the account named (0 for a TM and a CP)
 abbrev pub effectOf : Row → Record → Change
 effectOf row r = pick (isOpening r) (Open (openedRow (r .code) (r .account))) (Put (amended row r))
 
