@@ -11,11 +11,10 @@ use Rattle.rows.specs.Rows.{rowAt, collateral, view}
 use Rattle.book.specs.Sound.{soundB}
 use Rattle.book.specs.Facts.{Sound}
 use Rattle.book.proofs.SoundTest.{sound→}
-use Rattle.closeout.specs.Columns.{four, rowsTo, total}
+use Rattle.closeout.specs.Columns.{isClientOrCP, four, rowsTo, total}
 use Rattle.closeout.specs.Bound.{beyond, cellOf}
 use Rattle.closeout.specs.Closing.{lossAt, closeOutRefusal, closedOf, roomOf}
-use Rattle.closeout.proofs.Payments.{adds}
-use Rattle.closeout.proofs.Fund.{fund-covered}
+use Rattle.closeout.proofs.TwoRounds.{adds-up, pays-own, each-own, in-all}
 use Rattle.closeout.proofs.Cells.{own-cell, fromTM-cell, fromCM-cell, uncovered-cell}
 use Rattle.closeout.proofs.Answers.{refused-sound}
 
@@ -45,8 +44,15 @@ module _ (b : Book) (losses room : List ℕ) (ok : closeOutRefusal b losses room
   carried-room = rw ok
 
   -- "A client or CP pays the lesser of loss and collateral from its own."
-  pub carried-own : (i : ℕ) → i < b .count → cellOf b losses room i 0 ≡ min (lossAt losses i) (collateral (rowAt b i))
-  carried-own i m = rw (add-zero (4 * i), carried-room) (own-cell (view b) (lossAt losses) (b .count) i m)
+  pub carried-own : (i : ℕ) → i < b .count → isClientOrCP (view b) i ≡ true → cellOf b losses room i 0 ≡ min (lossAt losses i) (collateral (rowAt b i))
+  carried-own i m e =
+      rw (add-zero (4 * i), carried-room) (own-cell (view b) (lossAt losses) (b .count) i m ∙ pays-own (view b) (lossAt losses) i e)
+
+  -- K1: each account's uncovered part is at most its own loss beyond its own margin
+  pub carried-each : (i : ℕ) → i < b .count → cellOf b losses room i 3 ≤ beyond (view b) (lossAt losses) i
+  carried-each i m =
+      rw (carried-room, uncovered-cell (view b) (lossAt losses) (b .count) i m)
+      (each-own (view b) (carried-sound .shaped) (lossAt losses) (carried-sound .covered) i m)
 
   -- "They add up to the loss."
   pub carried-adds : (i : ℕ) → i < b .count
@@ -59,17 +65,17 @@ module _ (b : Book) (losses room : List ℕ) (ok : closeOutRefusal b losses room
         fromTM-cell (view b) (lossAt losses) (b .count) i m,
         fromCM-cell (view b) (lossAt losses) (b .count) i m,
         uncovered-cell (view b) (lossAt losses) (b .count) i m,
-        adds (view b) (lossAt losses) i,
+        adds-up (view b) (lossAt losses) i,
       ))
 
--- no other account has a say in what an account pays from its own: two calls that were carried out and agree on account i's
+-- no other account has a say in what a client or CP pays from its own: two calls that were carried out and agree on account i's
 -- loss and collateral put the same amount into its first cell
 pub own-paid-alone : (b c : Book) (losses others room space : List ℕ) → closeOutRefusal b losses room ≡ 0 → closeOutRefusal c others space ≡ 0 → (i : ℕ)
-    → i < b .count → i < c .count → lossAt losses i ≡ lossAt others i → collateral (rowAt b i) ≡ collateral (rowAt c i)
+    → i < b .count → i < c .count → isClientOrCP (view b) i ≡ true → isClientOrCP (view c) i ≡ true → lossAt losses i ≡ lossAt others i → collateral (rowAt b i) ≡ collateral (rowAt c i)
     → cellOf b losses room i 0 ≡ cellOf c others space i 0
-own-paid-alone b c losses others room space p q i m n e f =
-    carried-own b losses room p i m ∙ ap (λ (x : ℕ). min x (collateral (rowAt b i))) e ∙ ap (min (lossAt others i)) f
-    ∙ sym (carried-own c others space q i n)
+own-paid-alone b c losses others room space p q i m n x y e f =
+    carried-own b losses room p i m x ∙ ap (λ (x : ℕ). min x (collateral (rowAt b i))) e ∙ ap (min (lossAt others i)) f
+    ∙ sym (carried-own c others space q i n y)
 
 -- the total given is at most the losses beyond the margins, whatever was asked
 pub total-bound : (b : Book) (losses room : List ℕ) → closedOf b losses room .total ≤ sum (b .count) (beyond (view b) (lossAt losses))
@@ -78,5 +84,5 @@ total-bound b losses room = by (closeOutRefusal b losses room) refl
     by : (n : ℕ) → closeOutRefusal b losses room ≡ n → closedOf b losses room .total ≤ sum (b .count) (beyond (view b) (lossAt losses))
     by zero e =
         let s = carried-sound b losses room e in
-        rw (carried-total b losses room e) (fund-covered (view b) (s .shaped) (lossAt losses) (s .covered))
+        rw (carried-total b losses room e) (in-all (view b) (s .shaped) (lossAt losses) (s .covered))
     by (suc n) e = omega (arith, refused-total b losses room n e)

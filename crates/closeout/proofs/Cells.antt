@@ -9,7 +9,7 @@ use lib.Seq.{getD-append-add}
 use Rattle.sums.specs.Sum.{sum}
 use Rattle.sums.proofs.Sums.{sum-eq}
 use Rattle.rows.specs.View.{View}
-use Rattle.closeout.specs.Columns.{own, fromTM, fromCM, uncovered, four, rowsTo, total}
+use Rattle.closeout.specs.Columns.{ownColumn, tmColumn, cmColumn, uncovered, four, rowsTo, total}
 
 -- rows of four, whatever they are
 module _ (f : ℕ → List ℕ) (of-four : (i : ℕ) → length (f i) ≡ 4) where
@@ -34,15 +34,15 @@ module _ (v : View) (l : ℕ → ℕ) where
   unfolding four
   four-long i = refl
 
-  pub own-cell : (n i : ℕ) → i < n → getD (rowsTo (four v l) n) (4 * i) 0 ≡ own v l i
+  pub own-cell : (n i : ℕ) → i < n → getD (rowsTo (four v l) n) (4 * i) 0 ≡ ownColumn v l i
   unfolding four
   own-cell n i m = ap (λ (k : ℕ). getD (rowsTo (four v l) n) k 0) (omega arith) ∙ cell (four v l) four-long n i 0 m (omega arith)
 
-  pub fromTM-cell : (n i : ℕ) → i < n → getD (rowsTo (four v l) n) (4 * i + 1) 0 ≡ fromTM v l i
+  pub fromTM-cell : (n i : ℕ) → i < n → getD (rowsTo (four v l) n) (4 * i + 1) 0 ≡ tmColumn v l i
   unfolding four
   fromTM-cell n i m = cell (four v l) four-long n i 1 m (omega arith)
 
-  pub fromCM-cell : (n i : ℕ) → i < n → getD (rowsTo (four v l) n) (4 * i + 2) 0 ≡ fromCM v l i
+  pub fromCM-cell : (n i : ℕ) → i < n → getD (rowsTo (four v l) n) (4 * i + 2) 0 ≡ cmColumn v l i
   unfolding four
   fromCM-cell n i m = cell (four v l) four-long n i 2 m (omega arith)
 

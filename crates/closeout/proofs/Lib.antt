@@ -3,6 +3,8 @@ pub mod Payments
 pub mod ZeroColumns
 pub mod Fund
 pub mod Limits
+pub mod RoundOne
+pub mod TwoRounds
 pub mod Cells
 pub mod Steps
 pub mod Rooms

@@ -6,7 +6,7 @@ use native.Mathlib.Omega.{arith}
 use Rattle.sums.specs.Sum.{sum, only}
 use Rattle.rows.specs.View.{View, isClientOf, ofClients}
 use Rattle.book.proofs.BySort.{client-sort, client-tm}
-use Rattle.closeout.specs.Columns.{own, short, leftTM, fromTM, asked, fromCM}
+use Rattle.closeout.specs.Round.{own, short, leftTM, fromTM, askedOfCM, fromCM}
 use Rattle.closeout.proofs.Payments.{fromTM-client}
 
 -- a fund of r pays each want w, in rising order, from what is left: never more than r in all
@@ -32,4 +32,4 @@ module _ (v : View) (l : ℕ → ℕ) where
   -- the CM's own loss and what all others take
   pub CM-pays : own v l 0 + sum (v .count) (fromCM v l) ≤ v .collateral 0
   unfolding fromCM
-  CM-pays = omega (arith, spent (v .count) (asked v l) (fromCM v l) (v .collateral 0 - own v l 0) (λ i m. omega arith))
+  CM-pays = omega (arith, spent (v .count) (askedOfCM v l) (fromCM v l) (v .collateral 0 - own v l 0) (λ i m. omega arith))

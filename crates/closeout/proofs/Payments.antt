@@ -6,7 +6,7 @@ use native.Mathlib.Omega.{arith}
 use Rattle.sums.proofs.Sums.{only-most}
 use Rattle.rows.specs.View.{View, isClient, isClientOf}
 use Rattle.book.proofs.BySort.{client-sort, client-tm}
-use Rattle.closeout.specs.Columns.{own, short, leftTM, fromTM, asked, leftCM, fromCM, uncovered}
+use Rattle.closeout.specs.Round.{own, short, leftTM, fromTM, askedOfCM, leftCM, fromCM, unpaid}
 
 -- what a payer with b in hand leaves of a
 pub over : (a b : ℕ) → a - min a b ≡ a - b
@@ -30,15 +30,15 @@ module _ (v : View) (l : ℕ → ℕ) where
   fromTM-le i = omega (arith, only-most (isClient v i) (min (short v l i) (leftTM v l (v .tm i) i)))
 
   -- what an account other than a client asks of the CM's collateral
-  pub asked-other : (i : ℕ) → isClient v i ≡ false → asked v l i ≡ l i - v .collateral i
-  unfolding asked
+  pub asked-other : (i : ℕ) → isClient v i ≡ false → askedOfCM v l i ≡ l i - v .collateral i
+  unfolding askedOfCM
   asked-other i e = omega (arith, fromTM-other i e)
 
-  pub asked-client : (t i : ℕ) → isClientOf v t i ≡ true → asked v l i ≡ short v l i - leftTM v l t i
-  unfolding asked fromTM
+  pub asked-client : (t i : ℕ) → isClientOf v t i ≡ true → askedOfCM v l i ≡ short v l i - leftTM v l t i
+  unfolding askedOfCM fromTM
   asked-client t i e = rw (← client-tm v t i e) (rw (client-sort v t i e) (over (short v l i) (leftTM v l (v .tm i) i)))
 
   -- "They add up to the loss."
-  pub adds : (i : ℕ) → own v l i + fromTM v l i + fromCM v l i + uncovered v l i ≡ l i
-  unfolding asked fromCM uncovered
+  pub adds : (i : ℕ) → own v l i + fromTM v l i + fromCM v l i + unpaid v l i ≡ l i
+  unfolding askedOfCM fromCM unpaid
   adds i = paid (l i) (v .collateral i) (fromTM v l i) (leftCM v l i) (fromTM-le i)

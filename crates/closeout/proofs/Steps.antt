@@ -1,16 +1,16 @@
 -- One account further: what is left of each collateral after it.
 use mathlib.Core.Path.{_≡_, refl}
 use mathlib.Core.Bool.{Bool, true, false}
-use Prim.Native.Nat.{ℕ, _+_, _-_, _*_, _≤_, _<_, min}
+use Prim.Native.Nat.{ℕ, _+_, _-_, _<_, min}
 use native.Mathlib.Omega.{arith}
 use borrow.Author.Tests.{eqb-true, eq-eqb}
 use Rattle.sums.specs.Sum.{sum, only}
-use Rattle.sums.proofs.Sums.{sum-step, sum-zero, sum-most, only-zero}
+use Rattle.sums.proofs.Sums.{sum-step, sum-zero, only-zero}
 use Rattle.rows.specs.View.{View, isClient, isClientOf}
 use Rattle.rows.specs.Facts.{Shaped}
 use Rattle.book.proofs.BySort.{client-sort, client-tm}
-use Rattle.closeout.specs.Columns.{own, short, leftTM, fromTM, asked, leftCM, fromCM, uncovered}
-use Rattle.closeout.proofs.Payments.{fromTM-other, adds}
+use Rattle.closeout.specs.Round.{own, short, leftTM, fromTM, askedOfCM, leftCM, fromCM}
+use Rattle.closeout.proofs.Payments.{fromTM-other}
 
 spend : (c w a : ℕ) → c - (w + a) ≡ (c - w) - min a (c - w)
 spend c w a = omega arith
@@ -30,7 +30,7 @@ module _ (v : View) (l : ℕ → ℕ) where
   -- the CM's collateral: less what it pays of i's loss
   pub leftCM-step : (i : ℕ) → leftCM v l (i + 1) ≡ leftCM v l i - fromCM v l i
   unfolding fromCM
-  leftCM-step i = rw (sum-step i (asked v l)) (spend (v .collateral 0 - own v l 0) (sum i (asked v l)) (asked v l i))
+  leftCM-step i = rw (sum-step i (askedOfCM v l)) (spend (v .collateral 0 - own v l 0) (sum i (askedOfCM v l)) (askedOfCM v l i))
 
   -- t's collateral after an account that is not its client
   pub leftTM-other : (t i : ℕ) → isClientOf v t i ≡ false → leftTM v l t (i + 1) ≡ leftTM v l t i
@@ -52,10 +52,6 @@ module _ (v : View) (l : ℕ → ℕ) where
       by : (b : Bool) → isClient v i ≡ b → leftTM v l (v .tm i) (i + 1) ≡ leftTM v l (v .tm i) i - fromTM v l i
       by true e = leftTM-client i (eqb-true (v .sort i) 2 e)
       by false e = omega (arith, leftTM-other (v .tm i) i (rw e), fromTM-other v l i e)
-
-  -- what the first i leave uncovered, where no loss passes k
-  pub uncovered-most : (k i : ℕ) → ((j : ℕ) → j < i → l j ≤ k) → sum i (uncovered v l) ≤ i * k
-  uncovered-most k i h = sum-most i k (uncovered v l) (λ j m. omega (arith, adds v l j, h j m))
 
 module _ (v : View) (s : Shaped v) (l : ℕ → ℕ) where
   -- no client comes before its TM

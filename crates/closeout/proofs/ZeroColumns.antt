@@ -4,7 +4,7 @@ use mathlib.Core.Logic.{_⊎_, ⊎-elim}
 use Prim.Native.Nat.{ℕ}
 use native.Mathlib.Omega.{arith}
 use Rattle.rows.specs.View.{View}
-use Rattle.closeout.specs.Columns.{fromTM, asked, fromCM}
+use Rattle.closeout.specs.Round.{fromTM, askedOfCM, fromCM}
 use Rattle.closeout.proofs.Payments.{fromTM-other}
 
 module _ (v : View) (l : ℕ → ℕ) where
@@ -15,5 +15,5 @@ module _ (v : View) (l : ℕ → ℕ) where
 
   -- "the CM's own payment stands in its first column and its third is 0.": its collateral is gone where its own loss isn't paid
   pub CM-third-is-0 : fromCM v l 0 ≡ 0
-  unfolding fromCM asked
+  unfolding fromCM askedOfCM
   CM-third-is-0 = omega arith

@@ -6,7 +6,7 @@ use Rattle.rows.specs.declared.Book.{Book}
 use Rattle.rows.specs.View.{View}
 use Rattle.closeout.specs.Closing.{roomOf}
 
--- a loss beyond the margin ("The bound is 600 + 300 = 900.")
+-- "its own loss beyond its own margin" (K1: "each account's uncovered part is at most" that); "The bound is 600 + 300 = 900."
 abbrev pub beyond : View → (ℕ → ℕ) → ℕ → ℕ
 beyond v l i = l i - v .margin i
 

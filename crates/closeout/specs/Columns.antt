@@ -1,48 +1,68 @@
--- Document 01, 'Close-out': the four amounts of each account, for losses l over a view of a book.
+-- Document 02, K1: "what was blocked for a client is deemed that client's, so a neighbour with a lower number can't use it up." The four
+-- amounts of each account, for losses l over a view of a book: own payment of clients and CPs, and two rounds.
+use mathlib.Core.Bool.{Bool, not, _||_}
 use mathlib.Core.List.{List, [], _∷_, _++_}
-use Prim.Native.Nat.{ℕ, zero, suc, _-_, min}
+use Prim.Native.Nat.{ℕ, zero, suc, _+_, _-_, min}
 use Rattle.sums.specs.Sum.{sum, only}
-use Rattle.rows.specs.View.{View, isClient, isClientOf}
+use Rattle.rows.specs.View.{View, isClient, isCP, free}
+use Rattle.closeout.specs.Round.{own, fromTM, fromCM}
 
--- "A client or CP pays the lesser of loss and collateral from its own. A TM's collateral first pays the TM's own loss"; "The
--- CM's collateral pays the CM's own loss"
-abbrev pub own : View → (ℕ → ℕ) → ℕ → ℕ
-own v l i = min (l i) (v .collateral i)
+abbrev pub isClientOrCP : View → ℕ → Bool
+isClientOrCP v i = isClient v i || isCP v i
 
--- what own collateral couldn't pay
-abbrev pub short : View → (ℕ → ℕ) → ℕ → ℕ
-short v l i = l i - own v l i
+-- "own payment of clients and CPs stays": "A client or CP pays the lesser of loss and collateral from its own."
+abbrev pub ownPayment : View → (ℕ → ℕ) → ℕ → ℕ
+ownPayment v l i = only (isClientOrCP v i) (min (l i) (v .collateral i))
 
--- "then what its clients couldn't, in rising account number, until it is gone": what is left of TM t's collateral for account
--- i, after t's own loss and its clients below i
-abbrev pub leftTM : View → (ℕ → ℕ) → ℕ → ℕ → ℕ
-leftTM v l t i = v .collateral t - own v l t - sum i (λ j. only (isClientOf v t j) (short v l j))
+-- the same accounts, of which a TM and the CM have f to pay with in a round, and a client or CP has nothing more
+abbrev pub withPurses : View → (ℕ → ℕ) → View
+withPurses v f = record {
+  count = v .count;
+  sort = v .sort;
+  tm = v .tm;
+  collateral = λ i. only (not (isClientOrCP v i)) (f i);
+  margin = v .margin;
+}
 
--- from the TM's. "The TM column of a TM, a CP and the CM is 0"
-unfoldable pub fromTM : View → (ℕ → ℕ) → ℕ → ℕ
-fromTM v l i = only (isClient v i) (min (short v l i) (leftTM v l (v .tm i) i))
+-- Round one pays "from the TM's and then the CM's collateral", all of it; the order is Round's. It never takes more than is blocked.
+abbrev pub purses₁ : View → View
+purses₁ v = withPurses v (v .collateral)
 
--- "then what is left of all others": what neither own collateral nor the TM's could pay
-unfoldable pub asked : View → (ℕ → ℕ) → ℕ → ℕ
-asked v l i = short v l i - fromTM v l i
+-- "for each account, the part of its loss within its margin (for a client or CP, less what its own paid, or 0)"
+abbrev pub part₁ : View → (ℕ → ℕ) → ℕ → ℕ
+part₁ v l i = min (l i) (v .margin i) - ownPayment v l i
 
--- "in rising account number": what is left of the CM's collateral for account i, after the CM's own loss and the accounts below
--- i. Account 0 is among them: it asks for something only where its own loss has used its collateral up, and then nothing is left.
-abbrev pub leftCM : View → (ℕ → ℕ) → ℕ → ℕ
-leftCM v l i = v .collateral 0 - own v l 0 - sum i (asked v l)
+-- what round one pays of an account's loss
+unfoldable pub paid₁ : View → (ℕ → ℕ) → ℕ → ℕ
+paid₁ v l i = own (purses₁ v) (part₁ v l) i + fromTM (purses₁ v) (part₁ v l) i + fromCM (purses₁ v) (part₁ v l) i
 
--- from the CM's. "the CM's own payment stands in its first column and its third is 0": either its own collateral paid its loss,
--- or nothing of it is left
-unfoldable pub fromCM : View → (ℕ → ℕ) → ℕ → ℕ
-fromCM v l i = min (asked v l i) (leftCM v l i)
+-- Round two pays "from free collateral only, of the TM and then the CM", free as in a standing; "same order": the same Round.
+abbrev pub purses₂ : View → View
+purses₂ v = withPurses v (free v)
+
+-- "what is left"
+unfoldable pub part₂ : View → (ℕ → ℕ) → ℕ → ℕ
+part₂ v l i = l i - ownPayment v l i - paid₁ v l i
+
+-- From own collateral. What a TM and the CM pay of their own losses stands here in both rounds.
+unfoldable pub ownColumn : View → (ℕ → ℕ) → ℕ → ℕ
+ownColumn v l i = ownPayment v l i + own (purses₁ v) (part₁ v l) i + own (purses₂ v) (part₂ v l) i
+
+-- From the TM's. "The TM column of a TM, a CP and the CM is 0"
+unfoldable pub tmColumn : View → (ℕ → ℕ) → ℕ → ℕ
+tmColumn v l i = fromTM (purses₁ v) (part₁ v l) i + fromTM (purses₂ v) (part₂ v l) i
+
+-- From the CM's. "the CM's own payment stands in its first column and its third is 0"
+unfoldable pub cmColumn : View → (ℕ → ℕ) → ℕ → ℕ
+cmColumn v l i = fromCM (purses₁ v) (part₁ v l) i + fromCM (purses₂ v) (part₂ v l) i
 
 -- "The rest is uncovered."
 unfoldable pub uncovered : View → (ℕ → ℕ) → ℕ → ℕ
-uncovered v l i = asked v l i - leftCM v l i
+uncovered v l i = l i - ownColumn v l i - tmColumn v l i - cmColumn v l i
 
 -- "The four amounts are: from own collateral, from the TM's, from the CM's, uncovered."
 unfoldable pub four : View → (ℕ → ℕ) → ℕ → List ℕ
-four v l i = own v l i ∷ fromTM v l i ∷ fromCM v l i ∷ uncovered v l i ∷ []
+four v l i = ownColumn v l i ∷ tmColumn v l i ∷ cmColumn v l i ∷ uncovered v l i ∷ []
 
 -- account by account, those below n
 unfoldable pub rowsTo : (ℕ → List ℕ) → ℕ → List ℕ

@@ -1,4 +1,5 @@
 -- Only for internal functions: no promise of a public call cites it.
+use mathlib.Core.Bool.{Bool, not, _||_}
 use mathlib.Core.Path.{_≡_}
 use mathlib.Core.List.{List, [], _∷_, _++_}
 use Prim.Native.Nat.{ℕ, _+_, _-_, _*_, _≤_, _<_, min}
@@ -7,47 +8,84 @@ use lib.ListN.{length, take, drop}
 use Rattle.sums.specs.Sum.{only}
 use Rattle.rows.specs.declared.Row.{Row}
 use Rattle.rows.specs.declared.Book.{Book}
-use Rattle.rows.specs.View.{View}
+use Rattle.rows.specs.View.{View, freeOf}
 use Rattle.rows.specs.Rows.{ceiling, collateral}
 use Rattle.book.specs.Facts.{Sound}
 use Rattle.closeout.specs.declared.pays.Paid.{Paid}
-use Rattle.closeout.specs.Columns.{own, fromTM, fromCM, uncovered}
+use Rattle.closeout.specs.declared.pays.Both.{Both}
+use Rattle.closeout.specs.Round.{own, fromTM, fromCM, unpaid}
 use Rattle.closeout.specs.Closing.{lossAt}
 
--- account i's four amounts, and what its collateral keeps after its own loss
+-- what an account pays in one round, and what its purse keeps after its own part
 unfoldable pub paidOf : View → (ℕ → ℕ) → ℕ → Paid
 paidOf v l i = record {
   own = own v l i;
   tm = fromTM v l i;
   cm = fromCM v l i;
-  uncovered = uncovered v l i;
+  unpaid = unpaid v l i;
   kept = v .collateral i - own v l i;
 }
 
--- The same from one row and its loss, where its TM's collateral has tm left, and the CM's has cm.
+-- The same from its sort, its purse and what it is asked for, where its TM's purse has tm left, and the CM's has cm.
 
--- what own collateral can't pay
-abbrev pub shortBy : Row → ℕ → ℕ
-shortBy r loss = loss - min loss (collateral r)
+-- what its own purse can't pay
+abbrev pub shortBy : ℕ → ℕ → ℕ
+shortBy purse ask = ask - min ask purse
 
-abbrev pub tmBy : Row → ℕ → ℕ → ℕ
-tmBy r loss tm = only (eqb (r .sort) 2) (min (shortBy r loss) tm)
+abbrev pub tmBy : ℕ → ℕ → ℕ → ℕ → ℕ
+tmBy sort purse ask tm = only (eqb sort 2) (min (shortBy purse ask) tm)
 
--- what neither own collateral nor the TM's can pay
-abbrev pub askedBy : Row → ℕ → ℕ → ℕ
-askedBy r loss tm = shortBy r loss - tmBy r loss tm
+-- what neither its own purse nor the TM's can pay
+abbrev pub askedBy : ℕ → ℕ → ℕ → ℕ → ℕ
+askedBy sort purse ask tm = shortBy purse ask - tmBy sort purse ask tm
 
-unfoldable pub paidBy : Row → ℕ → ℕ → ℕ → Paid
-paidBy r loss tm cm = record {
-  own = min loss (collateral r);
-  tm = tmBy r loss tm;
-  cm = min (askedBy r loss tm) cm;
-  uncovered = askedBy r loss tm - cm;
-  kept = collateral r - min loss (collateral r);
+unfoldable pub paidBy : ℕ → ℕ → ℕ → ℕ → ℕ → Paid
+paidBy sort purse ask tm cm = record {
+  own = min ask purse;
+  tm = tmBy sort purse ask tm;
+  cm = min (askedBy sort purse ask tm) cm;
+  unpaid = askedBy sort purse ask tm - cm;
+  kept = purse - min ask purse;
 }
 
-abbrev pub fourOf : Paid → List ℕ
-fourOf p = p .own ∷ p .tm ∷ p .cm ∷ p .uncovered ∷ []
+-- what a row with so much deemed under it has for the rounds: own payment, what round one is asked for, and its purse in each
+abbrev pub clientOrCPBy : Row → Bool
+clientOrCPBy r = eqb (r .sort) 2 || eqb (r .sort) 3
+
+abbrev pub ownPaymentBy : Row → ℕ → ℕ
+ownPaymentBy r loss = only (clientOrCPBy r) (min loss (collateral r))
+
+abbrev pub part₁By : Row → ℕ → ℕ
+part₁By r loss = min loss (r .margin) - ownPaymentBy r loss
+
+abbrev pub purseBy : Row → ℕ
+purseBy r = only (not (clientOrCPBy r)) (collateral r)
+
+abbrev pub freeBy : Row → ℕ → ℕ
+freeBy r under = only (not (clientOrCPBy r)) (freeOf (r .margin + under) (collateral r))
+
+-- what round two is asked for after round one paid p
+abbrev pub part₂By : Row → ℕ → Paid → ℕ
+part₂By r loss p = loss - ownPaymentBy r loss - (p .own + p .tm + p .cm)
+
+-- an account's four amounts, from own payment and both rounds
+abbrev pub bothOf : ℕ → Paid → Paid → Both
+bothOf ownPayment p q = record {
+  own = ownPayment + p .own + q .own;
+  tm = p .tm + q .tm;
+  cm = p .cm + q .cm;
+  first = p;
+  second = q;
+}
+
+-- both rounds of a row, where its TM's purse has tm left in round one and tm₂ in round two, and the CM's cm and cm₂
+unfoldable pub roundsBy : Row → ℕ → ℕ → ℕ → ℕ → ℕ → ℕ → Both
+roundsBy r loss under tm cm tm₂ cm₂ =
+    bothOf (ownPaymentBy r loss) (paidBy (r .sort) (purseBy r) (part₁By r loss) tm cm)
+    (paidBy (r .sort) (freeBy r under) (part₂By r loss (paidBy (r .sort) (purseBy r) (part₁By r loss) tm cm)) tm₂ cm₂)
+
+abbrev pub fourOf : Both → List ℕ
+fourOf p = p .own ∷ p .tm ∷ p .cm ∷ p .second .unpaid ∷ []
 
 -- the room with four amounts put in from place at on
 abbrev pub putAt : List ℕ → ℕ → List ℕ → List ℕ

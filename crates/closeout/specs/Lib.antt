@@ -1,3 +1,4 @@
+pub mod Round
 pub mod Columns
 pub mod Closing
 pub mod Bound

@@ -1,4 +1,4 @@
-// What each account pays, in one rising pass: own collateral, the TM's, the CM's, and what is left uncovered.
+// What each account pays, in one rising pass over both rounds: own collateral, the TM's, the CM's, and what is left uncovered.
 ghost use mathlib.Core.Path.{_≡_};
 ghost use Prim.Native.Nat.{_+_, _≤_, min};
 ghost use lib.ListN.{length};
@@ -6,20 +6,32 @@ ghost use Rattle.rows.specs.Rows.{view};
 ghost use Rattle.rows.specs.Facts.{InRange};
 ghost use Rattle.closeout.specs.Columns.{four, rowsTo, total};
 ghost use Rattle.closeout.specs.Closing.{lossAt};
-ghost use Rattle.closeout.specs.Inner.{paidBy, fourOf, putAt, Checked};
+ghost use Rattle.closeout.specs.Inner.{paidBy, roundsBy, fourOf, putAt, Checked};
 use rows::Book;
 use rows::Row;
+use rows::kept::free_with;
+use rows::kept::less;
 use rows::needs::collateral_of;
 use rows::needs::only_if;
+use rows::needs::unders;
 use rows::needs::zeros;
 
-// One account's four amounts, and what its collateral keeps after its own loss.
+// What one account pays in one round, and what its purse keeps after its own part.
 pub(crate) struct Paid {
     own: u64,
     tm: u64,
     cm: u64,
-    uncovered: u64,
+    unpaid: u64,
     kept: u64,
+}
+
+// Both rounds of one account, and its first three amounts; the fourth is what round two leaves.
+pub(crate) struct Both {
+    own: u64,
+    tm: u64,
+    cm: u64,
+    first: Paid,
+    second: Paid,
 }
 
 fn lesser(a: u64, b: u64) -> u64
@@ -28,57 +40,92 @@ fn lesser(a: u64, b: u64) -> u64
     if a < b { a } else { b }
 }
 
-// One account, whose TM's collateral has `tm` left, and the CM's `cm`.
-fn pay(r: Row, loss: u64, tm: u64, cm: u64) -> Paid
-    requires { ⌜ InRange r ⌝ }
-    ensures { λ p. ⌜ p ≡ paidBy r loss tm cm ⌝ }
+// One account in one round, which is asked for `ask`: its TM's purse has `tm` left, and the CM's `cm`.
+fn pay(sort: u8, purse: u64, ask: u64, tm: u64, cm: u64) -> Paid
+    ensures { λ p. ⌜ p ≡ paidBy sort purse ask tm cm ⌝ }
 {
-    let c = collateral_of(r);
-    let own = lesser(loss, c);
-    let short = loss - own;
-    let from_tm = only_if(r.sort == 2, lesser(short, tm));
+    let own = lesser(ask, purse);
+    let short = ask - own;
+    let from_tm = only_if(sort == 2, lesser(short, tm));
     let asked = short - from_tm;
     let from_cm = lesser(asked, cm);
     Paid {
         own: own,
         tm: from_tm,
         cm: from_cm,
-        uncovered: asked - from_cm,
-        kept: c - own,
+        unpaid: asked - from_cm,
+        kept: purse - own,
     }
 }
 
-fn put(room: &mut [u64], at: usize, p: Paid)
+// Both rounds of one account: its TM's purse has `tm` left in round one and `tm2` in round two, and the CM's `cm` and `cm2`. A client
+// or CP has paid from its own before them, and has nothing more to pay with.
+fn rounds(r: Row, loss: u64, under: u64, tm: u64, cm: u64, tm2: u64, cm2: u64) -> Both
+    requires { ⌜ InRange r × (under ≤ 2_560_000_000_000_000) ⌝ }
+    ensures { λ p. ⌜ p ≡ roundsBy r loss under tm cm tm2 cm2 ⌝ }
+{
+    let c = collateral_of(r);
+    let free = free_with(r, under);
+    let client_or_cp = (r.sort == 2) | (r.sort == 3);
+    let own = only_if(client_or_cp, lesser(loss, c));
+    let ask = less(lesser(loss, r.margin), own);
+    let first = pay(r.sort, only_if(!client_or_cp, c), ask, tm, cm);
+    let paid = first.own + first.tm + first.cm;
+    let left = loss - own - paid;
+    let second = pay(r.sort, only_if(!client_or_cp, free), left, tm2, cm2);
+    Both {
+        own: own + first.own + second.own,
+        tm: first.tm + second.tm,
+        cm: first.cm + second.cm,
+        first,
+        second,
+    }
+}
+
+fn put(room: &mut [u64], at: usize, p: Both)
     requires { ⌜ at + 4 ≤ length (now room) ⌝ }
     ensures { λ _. ⌜ now (room .exit) ≡ putAt (now (room .entry)) at (fourOf p) ⌝ }
 {
     room[at] = p.own;
     room[at + 1] = p.tm;
     room[at + 2] = p.cm;
-    room[at + 3] = p.uncovered;
+    room[at + 3] = p.second.unpaid;
 }
 
-// The rows, and the total left uncovered. left[t] is what account t's collateral has left after its own loss and the
-// clients passed: a TM's row comes before its clients'. cm is what the CM's has left after its own loss and the accounts passed.
+// The rows, and the total left uncovered. left[t] is what account t's collateral has left in round one after its own part and the
+// clients passed, free[t] what its free collateral has left in round two: a TM's row comes before its clients'. cm and cm_free are
+// the same of the CM's, after its own parts and the accounts passed.
 pub(crate) fn fill(b: Book, losses: &[u64], room: &mut [u64]) -> u64
     requires { ⌜ Checked b (now losses) (now room) ⌝ }
     ensures { λ x. ⌜ (now (room .exit) ≡ rowsTo (four (view b) (lossAt (now (losses .entry)))) (b .count)) × (x ≡ total (view b) (lossAt (now (losses .entry)))) ⌝ }
 {
+    let under = unders(b);
     let mut left = zeros();
-    let c = collateral_of(b.rows[0]);
-    let mut cm = c - lesser(losses[0], c);
+    let mut free = zeros();
+    let top = b.rows[0];
+    let c = collateral_of(top);
+    let f = free_with(top, under[0]);
+    let loss = losses[0];
+    let own = lesser(lesser(loss, top.margin), c);
+    let mut cm = c - own;
+    let mut cm_free = f - lesser(loss - own, f);
     let mut uncovered: u64 = 0;
     let n = b.count as usize;
     let mut i: usize = 0;
     while i < n {
         let r = b.rows[i];
         let t = r.tm as usize;
-        let p = pay(r, losses[i], left[t], cm);
+        let p = rounds(r, losses[i], under[i], left[t], cm, free[t], cm_free);
         put(room, 4 * i, p);
-        left[t] = left[t] - p.tm;
-        left[i] = p.kept;
-        cm -= p.cm;
-        uncovered += p.uncovered;
+        let first = p.first;
+        let second = p.second;
+        left[t] = left[t] - first.tm;
+        left[i] = first.kept;
+        free[t] = free[t] - second.tm;
+        free[i] = second.kept;
+        cm -= first.cm;
+        cm_free -= second.cm;
+        uncovered += second.unpaid;
         i += 1;
     }
     uncovered

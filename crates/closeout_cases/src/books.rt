@@ -30,14 +30,38 @@ fn retired(sort: u8, tm: u16) -> Row {
     r
 }
 
-// Document 01's P4: CM 1000, TM-1 500, A 300 with margin 600, B 300 with margin 900, in rupees.
-pub(crate) fn annexure() -> Book {
+// The book of 004 Annexure 4: CM 1000, TM-1 500, A 300 and B 300, in rupees.
+fn annexure(margin_a: u64, margin_b: u64) -> Book {
     let mut b = book::fresh();
     b.rows[0] = row(0, 0, 100_000, 0);
     b.rows[1] = row(1, 0, 50_000, 0);
-    b.rows[2] = row(2, 1, 30_000, 60_000);
-    b.rows[3] = row(2, 1, 30_000, 90_000);
+    b.rows[2] = row(2, 1, 30_000, margin_a);
+    b.rows[3] = row(2, 1, 30_000, margin_b);
     b.count = 4;
+    b
+}
+
+// Document 01's P4: A's margin 600, B's 900.
+pub(crate) fn p4() -> Book {
+    annexure(60_000, 90_000)
+}
+
+// A's margin 600, none of B's: 300 of TM-1's collateral are blocked.
+pub(crate) fn margin_of_a() -> Book {
+    annexure(60_000, 0)
+}
+
+// Every account with a margin: CM 100 with margin 10, a TM 50 with 20, its clients 10 and 30 with 25 and 30, a CP 20 with 30, a TM with
+// nothing and margin 5. Blocked: of the first TM's collateral 35, of the CM's 25.
+pub(crate) fn margins() -> Book {
+    let mut b = book::fresh();
+    b.rows[0] = row(0, 0, 100, 10);
+    b.rows[1] = row(1, 0, 50, 20);
+    b.rows[2] = row(2, 1, 10, 25);
+    b.rows[3] = row(2, 1, 30, 30);
+    b.rows[4] = row(3, 0, 20, 30);
+    b.rows[5] = row(1, 0, 0, 5);
+    b.count = 6;
     b
 }
 
@@ -52,6 +76,17 @@ pub(crate) fn mixed() -> Book {
     b.rows[5] = row(2, 4, 30, 0);
     b.rows[6] = row(3, 0, 0, 0);
     b.count = 7;
+    b
+}
+
+// CM 100, a TM, a CP and a client of the TM with nothing.
+pub(crate) fn by_number() -> Book {
+    let mut b = book::fresh();
+    b.rows[0] = row(0, 0, 100, 0);
+    b.rows[1] = row(1, 0, 0, 0);
+    b.rows[2] = row(3, 0, 0, 0);
+    b.rows[3] = row(2, 1, 0, 0);
+    b.count = 4;
     b
 }
 

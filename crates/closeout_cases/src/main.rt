@@ -1,4 +1,4 @@
-// Close-outs worked out and printed: document 01's figures, each refusal with its neighbours, a full book.
+// Close-outs worked out and printed: the documents' figures, the two rounds at their edges, each refusal with its neighbours, a full book.
 use rows::CEILING;
 
 mod books;
@@ -7,7 +7,17 @@ mod show;
 // Document 01's P4 with these losses, and room for its four accounts.
 fn annexure(name: &[u8], losses: &[u64]) {
     let mut room = [7u64; 16];
-    show::case(name, books::annexure(), losses, &mut room);
+    show::case(name, books::p4(), losses, &mut room);
+}
+
+fn margin_of_a(name: &[u8], losses: &[u64]) {
+    let mut room = [7u64; 16];
+    show::case(name, books::margin_of_a(), losses, &mut room);
+}
+
+fn margins(name: &[u8], losses: &[u64]) {
+    let mut room = [7u64; 24];
+    show::case(name, books::margins(), losses, &mut room);
 }
 
 fn mixed(name: &[u8], losses: &[u64]) {
@@ -32,12 +42,34 @@ fn figures() {
     show::case(b"fresh", book::fresh(), &[5], &mut room);
 }
 
+// What is blocked for an account stays for it: losses at the margins, a paisa beyond and a paisa within, and one account's loss alone.
+fn rounds() {
+    annexure(b"P4, all lose", &[40_000, 30_000, 60_000, 90_000]);
+    margin_of_a(b"A's margin, B loses 2000", &[0, 0, 0, 200_000]);
+    margin_of_a(b"A's margin, both lose", &[0, 0, 60_000, 200_000]);
+    margins(b"within margins", &[9, 19, 24, 29, 29, 4]);
+    margins(b"at margins", &[10, 20, 25, 30, 30, 5]);
+    margins(b"a paisa beyond", &[11, 21, 26, 31, 31, 6]);
+    margins(b"far beyond", &[70, 60, 60, 60, 60, 60]);
+    margins(b"the first TM alone", &[0, 60, 0, 0, 0, 0]);
+    margins(b"the CM alone", &[110, 0, 0, 0, 0, 0]);
+    annexure(b"P4, the CM loses 1000", &[100_000, 0, 0, 0]);
+    margins(b"the CP alone", &[0, 0, 0, 0, 200, 0]);
+}
+
 // CPs beside TMs: all others ask the CM's collateral in rising number, after the CM's own loss.
 fn orders() {
     mixed(b"all ask", &[10, 60, 30, 25, 15, 100, 40]);
     mixed(b"TMs pay", &[0, 20, 5, 25, 0, 32, 0]);
     mixed(b"CM gone", &[150, 60, 30, 25, 15, 100, 40]);
     mixed(b"no loss", &[0, 0, 0, 0, 0, 0, 0]);
+    let mut room = [7u64; 16];
+    show::case(
+        b"a CP before a client",
+        books::by_number(),
+        &[0, 0, 80, 80],
+        &mut room,
+    );
 }
 
 fn retired() {
@@ -55,22 +87,12 @@ fn losses_given() {
 
 fn rooms_given() {
     let mut less = [7u64; 15];
-    show::case(
-        b"room one less",
-        books::annexure(),
-        &[0, 0, 1, 1],
-        &mut less,
-    );
+    show::case(b"room one less", books::p4(), &[0, 0, 1, 1], &mut less);
     let mut more = [7u64; 17];
-    show::case(
-        b"room one more",
-        books::annexure(),
-        &[0, 0, 1, 1],
-        &mut more,
-    );
+    show::case(b"room one more", books::p4(), &[0, 0, 1, 1], &mut more);
     show::case(
         b"room one more, loss past the ceiling",
-        books::annexure(),
+        books::p4(),
         &[0, 0, CEILING + 1, 1],
         &mut more,
     );
@@ -105,6 +127,7 @@ fn full() {
 
 fn main() {
     figures();
+    rounds();
     orders();
     retired();
     losses_given();

@@ -22,7 +22,8 @@ use Rattle.desk.specs.declared.Next.{Next}
 use Rattle.desk.specs.Answers.{nobody}
 use Rattle.desk.specs.Steps.{stepOf, onFound, nextOf}
 use Rattle.desk.proofs.Doing.{sound-next}
-use Rattle.closeout.specs.Columns.{fromTM, asked, fromCM, uncovered, four, rowsTo}
+use Rattle.closeout.specs.Round.{fromTM, askedOfCM, fromCM, unpaid}
+use Rattle.closeout.specs.Columns.{paid₁, part₂, ownColumn, tmColumn, cmColumn, uncovered, four, rowsTo}
 use Rattle.closeout.specs.Closing.{closedOf, roomOf}
 use Rattle.promises.specs.Sequences.{afterAll}
 use Rattle.promises.specs.Figures.{cases, casesByTheRules, expected}
@@ -68,7 +69,7 @@ same-cases i =
     (λ rs losses room. room-same rs losses room i)
 
 quickly : casesQuickly ≡ expected
-unfolding casesQuickly cases expected quickAll changeBy amended refusalBy first pick sum all needTM needCM need hasLiveClient freshBook faultOf foundAt foundFrom recordOf number got past ones onesIn rowsTo four fromTM asked fromCM uncovered
+unfolding casesQuickly cases expected quickAll changeBy amended refusalBy first pick sum all needTM needCM need hasLiveClient freshBook faultOf foundAt foundFrom recordOf number got past ones onesIn rowsTo four paid₁ part₂ ownColumn tmColumn cmColumn uncovered fromTM askedOfCM fromCM unpaid
 quickly = refl
 
 -- document 01's figures, by the rules

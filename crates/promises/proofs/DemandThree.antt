@@ -9,7 +9,7 @@ use native.Mathlib.Omega.{arith}
 use Rattle.sums.specs.Sum.{sum, only}
 use Rattle.sums.proofs.Sums.{sum-zero, only-zero}
 use Rattle.rows.specs.declared.Book.{Book}
-use Rattle.rows.specs.View.{isClientOf, ofClients}
+use Rattle.rows.specs.View.{isClientOf, ofClients, blocked}
 use Rattle.rows.specs.Rows.{rowAt, collateral, view, freshBook}
 use Rattle.book.specs.Sound.{soundB}
 use Rattle.book.specs.Facts.{Sound}
@@ -20,12 +20,13 @@ use Rattle.dayfile.specs.declared.Record.{Record}
 use Rattle.desk.specs.Steps.{stepOf, nextOf}
 use Rattle.run.specs.Runs.{ranOf}
 use Rattle.run.proofs.SoundRun.{step-sound, next-sound, ran-keeps}
-use Rattle.closeout.specs.Columns.{own, fromTM, fromCM}
+use Rattle.closeout.specs.Round.{own, fromTM, fromCM}
+use Rattle.closeout.specs.Columns.{isClientOrCP, purses₁, part₁, ownColumn, tmColumn, cmColumn}
 use Rattle.closeout.specs.Bound.{beyond, cellOf}
 use Rattle.closeout.specs.Closing.{lossAt, closeOutRefusal, closedOf}
-use Rattle.closeout.proofs.Fund.{fund-within}
-use Rattle.closeout.proofs.Limits.{TM-pays, CM-pays}
-use Rattle.closeout.proofs.Carried.{carried-sound, carried-total, carried-own, own-paid-alone, total-bound}
+use Rattle.closeout.proofs.RoundOne.{TM-blocked, CM-blocked}
+use Rattle.closeout.proofs.TwoRounds.{TM-has, CM-has, none-within}
+use Rattle.closeout.proofs.Carried.{carried-sound, carried-total, carried-own, carried-each, own-paid-alone, total-bound}
 use Rattle.promises.specs.Sequences.{afterAll}
 use Rattle.promises.proofs.Quick.{all-sound}
 
@@ -49,20 +50,29 @@ every-sequence rs = sound← (afterAll freshBook rs) (all-sound freshBook rs fre
 pub any-bytes : (piece : List ℕ) (most : ℕ) → soundB (ranOf freshBook piece most .book) ≡ true
 any-bytes piece most = sound← (ranOf freshBook piece most .book) (ran-keeps freshBook piece most fresh-sound)
 
+client-or-CP : (b : Book) (i : ℕ) → (rowAt b i .sort ≡ 2) ⊎ (rowAt b i .sort ≡ 3) → isClientOrCP (view b) i ≡ true
+client-or-CP b i (inl e) = rw e
+client-or-CP b i (inr e) = rw e
+
 module _ (b : Book) (losses room : List ℕ) (carried : closeOutRefusal b losses room ≡ 0) where
-  -- Every account, so each client and CP, pays for its own loss exactly the lesser of that loss and its own collateral (the first
-  -- of its four amounts).
-  pub pays-the-lesser : (i : ℕ) → i < b .count → cellOf b losses room i 0 ≡ min (lossAt losses i) (collateral (rowAt b i))
-  pays-the-lesser = carried-own b losses room carried
+  -- A client (sort 2) and a CP (sort 3) pay for their own loss exactly the lesser of that loss and their own collateral (the first of their
+  -- four amounts).
+  pub pays-the-lesser : (i : ℕ) → i < b .count → (rowAt b i .sort ≡ 2) ⊎ (rowAt b i .sort ≡ 3)
+      → cellOf b losses room i 0 ≡ min (lossAt losses i) (collateral (rowAt b i))
+  pays-the-lesser i m s = carried-own b losses room carried i m (client-or-CP b i s)
+
+  -- Each account's uncovered part (the fourth amount) is at most its own loss beyond its own margin.
+  pub each-at-most-its-own : (i : ℕ) → i < b .count → cellOf b losses room i 3 ≤ beyond (view b) (lossAt losses) i
+  each-at-most-its-own = carried-each b losses room carried
 
   -- Nobody else's loss is paid from the collateral of a client (sort 2) or a CP (sort 3): losses of others are paid from a TM's,
   -- where they are its clients' (the second amount, stated here), and from the CM's (the third, by `leftCM` out of account 0's). So
   -- a client or CP pays exactly that lesser and nothing else.
   pub nobody-takes-from-a-client-or-CP : (i : ℕ) → (rowAt b i .sort ≡ 2) ⊎ (rowAt b i .sort ≡ 3)
-      → ofClients (view b) i (fromTM (view b) (lossAt losses)) ≡ 0
+      → ofClients (view b) i (tmColumn (view b) (lossAt losses)) ≡ 0
   nobody-takes-from-a-client-or-CP i s =
-      sum-zero (b .count) (λ j. only (isClientOf (view b) i j) (fromTM (view b) (lossAt losses) j))
-      (λ j l. only-zero (isClientOf (view b) i j) (fromTM (view b) (lossAt losses) j) (λ q. absurd (no-client j l q s)))
+      sum-zero (b .count) (λ j. only (isClientOf (view b) i j) (tmColumn (view b) (lossAt losses) j))
+      (λ j l. only-zero (isClientOf (view b) i j) (tmColumn (view b) (lossAt losses) j) (λ q. absurd (no-client j l q s)))
     where
       no-client : (j : ℕ) → j < b .count → isClientOf (view b) i j ≡ true → (rowAt b i .sort ≡ 2) ⊎ (rowAt b i .sort ≡ 3) → ⊥
       no-client j l q s =
@@ -78,24 +88,36 @@ module _ (b : Book) (losses room : List ℕ) (carried : closeOutRefusal b losses
   pub within-margins-the-fund-pays-nothing : ((i : ℕ) → i < b .count → lossAt losses i ≤ rowAt b i .margin) → closedOf b losses room .total ≡ 0
   within-margins-the-fund-pays-nothing h =
       let s = carried-sound b losses room carried in
-      rw (carried-total b losses room carried) (fund-within (view b) (s .shaped) (lossAt losses) (s .covered) h)
+      rw (carried-total b losses room carried) (none-within (view b) (s .shaped) (lossAt losses) (s .covered) h)
 
--- However others stand: two close-outs that agree on one account's loss and collateral have it pay the same for its own loss (the
+-- However others stand: two close-outs that agree on one client's or CP's loss and collateral have it pay the same for its own loss (the
 -- first amount).
 pub however-others-stand : (b b′ : Book) (losses losses′ room room′ : List ℕ) → closeOutRefusal b losses room ≡ 0 → closeOutRefusal b′ losses′ room′ ≡ 0
-    → (i : ℕ) → i < b .count → i < b′ .count → lossAt losses i ≡ lossAt losses′ i → collateral (rowAt b i) ≡ collateral (rowAt b′ i)
+    → (i : ℕ) → i < b .count → i < b′ .count → (rowAt b i .sort ≡ 2) ⊎ (rowAt b i .sort ≡ 3) → (rowAt b′ i .sort ≡ 2) ⊎ (rowAt b′ i .sort ≡ 3)
+    → lossAt losses i ≡ lossAt losses′ i → collateral (rowAt b i) ≡ collateral (rowAt b′ i)
     → cellOf b losses room i 0 ≡ cellOf b′ losses′ room′ i 0
-however-others-stand = own-paid-alone
+however-others-stand b b′ losses losses′ room room′ p q i m n s s′ =
+    own-paid-alone b b′ losses losses′ room room′ p q i m n (client-or-CP b i s) (client-or-CP b′ i s′)
 
--- Nobody's collateral pays more than there is, for any book and any losses: a TM's pays its own loss and its clients', ..
-pub TM-pays-what-it-has : (b : Book) (losses : List ℕ) (t : ℕ)
-    → own (view b) (lossAt losses) t + ofClients (view b) t (fromTM (view b) (lossAt losses)) ≤ collateral (rowAt b t)
-TM-pays-what-it-has b losses t = TM-pays (view b) (lossAt losses) t
+-- Nobody's collateral pays more than there is, whatever the losses: a TM's pays its own loss and its clients' in both rounds, ..
+pub TM-pays-what-it-has : (b : Book) (losses : List ℕ) → Sound b → (t : ℕ) → rowAt b t .sort ≡ 1
+    → ownColumn (view b) (lossAt losses) t + ofClients (view b) t (tmColumn (view b) (lossAt losses)) ≤ collateral (rowAt b t)
+TM-pays-what-it-has b losses s t e = TM-has (view b) (s .shaped) (lossAt losses) t e
 
 -- .. and the CM's pays its own loss and all others'.
-pub CM-pays-what-it-has : (b : Book) (losses : List ℕ)
-    → own (view b) (lossAt losses) 0 + sum (b .count) (fromCM (view b) (lossAt losses)) ≤ collateral (rowAt b 0)
-CM-pays-what-it-has b losses = CM-pays (view b) (lossAt losses)
+pub CM-pays-what-it-has : (b : Book) (losses : List ℕ) → Sound b
+    → ownColumn (view b) (lossAt losses) 0 + sum (b .count) (cmColumn (view b) (lossAt losses)) ≤ collateral (rowAt b 0)
+CM-pays-what-it-has b losses s = CM-has (view b) (s .shaped) (lossAt losses)
+
+-- Round one takes no more than is blocked of a TM's collateral, so that what is free stays for round two, ..
+pub round-one-within-the-TM's-blocked : (b : Book) (losses : List ℕ) → Sound b → (t : ℕ) → rowAt b t .sort ≡ 1
+    → own (purses₁ (view b)) (part₁ (view b) (lossAt losses)) t + ofClients (view b) t (fromTM (purses₁ (view b)) (part₁ (view b) (lossAt losses))) ≤ blocked (view b) t
+round-one-within-the-TM's-blocked b losses s t e = TM-blocked (view b) (s .shaped) (lossAt losses) t e
+
+-- .. and of the CM's.
+pub round-one-within-the-CM's-blocked : (b : Book) (losses : List ℕ) → Sound b
+    → own (purses₁ (view b)) (part₁ (view b) (lossAt losses)) 0 + sum (b .count) (fromCM (purses₁ (view b)) (part₁ (view b) (lossAt losses))) ≤ blocked (view b) 0
+round-one-within-the-CM's-blocked b losses s = CM-blocked (view b) (s .shaped) (lossAt losses)
 
 -- What is left uncovered, which the fund pays, is at most the losses beyond the margins, added up account by account.
 pub the-fund-pays-at-most : (b : Book) (losses room : List ℕ) → closedOf b losses room .total ≤ sum (b .count) (beyond (view b) (lossAt losses))

@@ -2,7 +2,7 @@
 -- file's round trip and its one written form; numbers and retired accounts.
 use mathlib.Core.List.{List, [], _∷_, _++_}
 use mathlib.Core.Bool.{Bool, true, false}
-use mathlib.Core.Logic.{_⊎_}
+use mathlib.Core.Logic.{_⊎_, ⊎-elim}
 use mathlib.Core.Path.{_≡_, refl, sym, ap, _∙_}
 use Prim.Native.Nat.{ℕ, suc, _+_, _-_, _≤_, _<_, min}
 use native.Mathlib.Omega.{arith}
@@ -39,10 +39,10 @@ use Rattle.desk.proofs.Rows.{named-after, new-after, opened-keeps, sort-stays}
 use Rattle.run.specs.Runs.{runOf, ranOf}
 use Rattle.run.specs.Told.{answersOf, carriedOf}
 use Rattle.run.proofs.SoundRun.{run-by-next, ran-counts}
-use Rattle.closeout.specs.Columns.{fromTM, fromCM, four, rowsTo}
+use Rattle.closeout.specs.Columns.{tmColumn, cmColumn, four, rowsTo}
 use Rattle.closeout.specs.Bound.{cellOf}
 use Rattle.closeout.specs.Closing.{lossAt, closeOutRefusal, roomOf}
-use Rattle.closeout.proofs.ZeroColumns.{TM-column-is-0, CM-third-is-0}
+use Rattle.closeout.proofs.TwoRounds.{no-TM, CM's-third}
 use Rattle.closeout.proofs.Carried.{carried-room, carried-adds}
 use Rattle.promises.specs.Sequences.{afterAll}
 
@@ -229,12 +229,12 @@ module _ (b : Book) (losses room : List ℕ) (carried : closeOutRefusal b losses
 
 module _ (v : View) (loss : ℕ → ℕ) where
   -- The second amount (from the TM's) of a TM, a CP and the CM is 0.
-  pub no-TM-above : (i : ℕ) → (v .sort i ≡ 1) ⊎ ((v .sort i ≡ 3) ⊎ (v .sort i ≡ 0)) → fromTM v loss i ≡ 0
-  no-TM-above = TM-column-is-0 v loss
+  pub no-TM-above : (i : ℕ) → (v .sort i ≡ 1) ⊎ ((v .sort i ≡ 3) ⊎ (v .sort i ≡ 0)) → tmColumn v loss i ≡ 0
+  no-TM-above i = ⊎-elim (λ e. no-TM v loss i (rw e)) (⊎-elim (λ e. no-TM v loss i (rw e)) (λ e. no-TM v loss i (rw e)))
 
   -- The CM's third amount (from the CM's) is 0: what it pays for itself stands in its first.
-  pub CM's-third-is-0 : fromCM v loss 0 ≡ 0
-  CM's-third-is-0 = CM-third-is-0 v loss
+  pub CM's-third-is-0 : cmColumn v loss 0 ≡ 0
+  CM's-third-is-0 = CM's-third v loss
 
 -- What was written reads back, at any place and whatever follows.
 pub reads-back : (r : Record) → faultOf r ≡ 0 → WordsFit r → (before after : List ℕ)

@@ -1,4 +1,4 @@
--- Document 01, 'Figures to hold against it': P1 to P11, in paise, by records carried out from a fresh book.
+-- Document 01, 'Figures to hold against it': P1 to P11, P8 as K1 of document 02 has it, in paise, by records carried out from a fresh book.
 use mathlib.Core.List.{List, [], _∷_, _++_}
 use Prim.Native.Nat.{ℕ, _+_}
 use lib.ListN.{replicate, take, drop}
@@ -139,7 +139,7 @@ expected =
     ∷ (100000 ∷ 50000 ∷ 30000 ∷ 30000 ∷ [])  -- P5: CM blocked 1000
     ∷ (13 ∷ [])  -- P6: B's 1500.01 instead: 13
     ∷ (0 ∷ 30000 ∷ 30000 ∷ 0 ∷ 0 ∷ 30000 ∷ 20000 ∷ 40000 ∷ 0 ∷ 0 ∷ 0 ∷ [])  -- P7: not refused; A 300, 300, 0, 0; B 300, 200, 400, 0
-    ∷ (0 ∷ 30000 ∷ 50000 ∷ 40000 ∷ 0 ∷ 30000 ∷ 0 ∷ 60000 ∷ 30000 ∷ 30000 ∷ 90000 ∷ [])  -- P8: A 300, 500, 400, 0; B 300, 0, 600, 300; total 300, bound 900
+    ∷ (0 ∷ 30000 ∷ 30000 ∷ 60000 ∷ 0 ∷ 30000 ∷ 20000 ∷ 40000 ∷ 30000 ∷ 30000 ∷ 90000 ∷ [])  -- P8: A 300, 300, 600, 0; B 300, 200, 400, 300; total 300, bound 900
     ∷ (0 ∷ [])  -- P9: B may release 200
     ∷ (12 ∷ [])  -- P9: and not 200.01
     ∷ (0 ∷ [])  -- P10: margin 0 where it is 0 already: carried out

@@ -1,42 +1,53 @@
 -- `closeout::pays::fill` meets its contract. The invariant: the pass stands at account i.
-use mathlib.Core.Path.{ap}
+use mathlib.Core.Path.{_≡_, ap, _∙_, sym}
 use mathlib.Core.List.{List}
 use Prim.Native.Nat.{ℕ, _+_, _-_, _≤_, _<_}
 use native.Mathlib.Omega.{arith}
 use lib.ListN.{length, getD, set}
 use borrow.Author.Needs.{needs}
 use Rattle.rows.specs.declared.Book.{Book}
-use Rattle.rows.specs.Rows.{rowAt}
-use Rattle.closeout.specs.declared.pays.Paid.{Paid}
+use Rattle.rows.specs.View.{freeOf}
+use Rattle.rows.specs.Rows.{rowAt, collateral}
+use Rattle.book.proofs.KeptSums.{KeptUnder, kept-first, under-most}
+use Rattle.closeout.specs.declared.pays.Both.{Both}
 use Rattle.closeout.specs.Inner.{Checked}
-use Rattle.closeout.proofs.Pass.{Passed, start, finish, sum-fits, tm-has, cm-has, named-low, turn}
+use Rattle.closeout.proofs.Pass.{Passed, start, finish, sum-fits, tm-has, tm-has₂, cm-has, cm-has₂, named-low, turn}
 use Rattle.closeout.proofs.pays.fill.Statement.{statement}
 use Rattle.closeout.proofs.pays.fill.Tie as tie
 
 abbrev Inv-loop : tie.InvT-loop
-Inv-loop losses room₀ b left₀ c cm₀ uncovered₀ n i₀ room left cm uncovered i = Passed b losses room₀ room left cm uncovered i × (i ≤ b .count)
+Inv-loop losses room₀ b under left₀ free₀ c f loss own cm₀ cm-free₀ uncovered₀ n i₀ room left free cm cm-free unpaid i =
+    Passed b losses room₀ room left free cm cm-free unpaid i × KeptUnder b under × (i ≤ b .count)
 
 abbrev μ-loop : tie.MeasureT-loop
-μ-loop losses room₀ b left₀ c cm₀ uncovered₀ n i₀ room left cm uncovered i = b .count - i
+μ-loop losses room₀ b under left₀ free₀ c f loss own cm₀ cm-free₀ uncovered₀ n i₀ room left free cm cm-free unpaid i =
+    b .count - i
 
 -- in a turn: what the checks say, where the pass stands, and which accounts are there
 abbrev Turn : Type 0
 Turn = tie.In-loop Inv-loop μ-loop
 
 abbrev Bk : Turn → Book
-Bk c = c .before .before .before .before .before .before .before .before .before .args .t1
+Bk c = c .before .before .before .before .before .before .before .before .before .before .before .before .before .before .args .t1
 
 abbrev Ls : Turn → List ℕ
-Ls c = c .before .before .before .before .before .before .before .before .before .args .losses .now
+Ls c = c .before .before .before .before .before .before .before .before .before .before .before .before .before .before .args .losses .now
 
 abbrev R₀ : Turn → List ℕ
-R₀ c = c .before .before .before .before .before .before .before .before .before .args .room .now
+R₀ c = c .before .before .before .before .before .before .before .before .before .before .before .before .before .before .args .room .now
+
+abbrev Un : Turn → List ℕ
+Un c = c .before .before .before .before .before .before .before .before .before .before .before .unders .result
 
 checked : (c : Turn) → Checked (Bk c) (Ls c) (R₀ c)
-checked c = c .before .before .before .before .before .before .before .before .before .pre
+checked c = c .before .before .before .before .before .before .before .before .before .before .before .before .before .before .pre
 
-here : (c : Turn) → Passed (Bk c) (Ls c) (R₀ c) (c .before .loop .room) (c .before .loop .left) (c .before .loop .cm) (c .before .loop .uncovered) (c .before .loop .i)
+here : (c : Turn) → Passed (Bk c) (Ls c) (R₀ c) (c .before .loop .room) (c .before .loop .left) (c .before .loop .free) (c .before .loop .cm) (c .before .loop .cm-free)
+    (c .before .loop .uncovered) (c .before .loop .i)
 here c = c .before .loop .inv .0
+
+owed : (c : Turn) → KeptUnder (Bk c) (Un c)
+owed c = c .before .loop .inv .1
 
 inside : (c : Turn) → c .before .loop .i < Bk c .count
 inside c = omega arith
@@ -44,31 +55,66 @@ inside c = omega arith
 low : (c : Turn) → rowAt (Bk c) (c .before .loop .i) .tm < 256
 low c = omega (arith, checked c .sound .most, inside c, named-low (Bk c) (checked c .sound) (c .before .loop .i) (inside c))
 
+here-low : (c : Turn) → c .before .loop .i < 256
+here-low c = omega (arith, checked c .sound .most, inside c)
+
+unders-requires : tie.Need-unders-requires Inv-loop μ-loop
+unders-requires c κs = let h = c .before .before .pre .sound in record { table = h .table; most = h .most; ranges = h .ranges }
+
 zeros-requires : tie.Need-zeros-requires Inv-loop μ-loop
 zeros-requires c κs = search needs
 
-element-copy-out-collateral-of : tie.Need-element-copy-out-collateral-of Inv-loop μ-loop
-element-copy-out-collateral-of c = omega arith
+zeros-requires-2 : tie.Need-zeros-requires-2 Inv-loop μ-loop
+zeros-requires-2 c κs = search needs
+
+element-copy-out-top : tie.Need-element-copy-out-top Inv-loop μ-loop
+element-copy-out-top c = omega arith
 
 collateral-of-requires : tie.Need-collateral-of-requires Inv-loop μ-loop
-collateral-of-requires c κs = let pre = c .before .before .before .before .pre in pre .sound .ranges 0 (pre .sound .shaped .some)
+collateral-of-requires c κs = let pre = c .before .before .before .before .before .before .pre in pre .sound .ranges 0 (pre .sound .shaped .some)
 
-shared-slice-read-lesser : tie.Need-shared-slice-read-lesser Inv-loop μ-loop
-shared-slice-read-lesser c = let pre = c .before .before .before .before .before .before .pre in omega (arith, pre .each, pre .sound .shaped .some)
+array-read-free-with : tie.Need-array-read-free-with Inv-loop μ-loop
+array-read-free-with c = omega arith
+
+free-with-requires : tie.Need-free-with-requires Inv-loop μ-loop
+free-with-requires c κs =
+    let pre = c .before .before .before .before .before .before .before .pre in
+    (pre .sound .ranges 0 (pre .sound .shaped .some), under-most _ (pre .sound) _ (kept-first _ (pre .sound) _ (c .before .before .before .before .unders .ensures)) 0)
+
+shared-slice-read-loss : tie.Need-shared-slice-read-loss Inv-loop μ-loop
+shared-slice-read-loss c = let pre = c .before .before .before .before .before .before .before .before .before .pre in omega (arith, pre .each, pre .sound .shaped .some)
 
 lesser-requires : tie.Need-lesser-requires Inv-loop μ-loop
 lesser-requires c κs = search needs
 
+lesser-requires-2 : tie.Need-lesser-requires-2 Inv-loop μ-loop
+lesser-requires-2 c κs = search needs
+
 sub-cm : tie.Need-sub-cm Inv-loop μ-loop
-sub-cm c = omega (arith, c .lesser .ensures)
+sub-cm c = omega (arith, c .lesser2 .ensures)
+
+sub-lesser : tie.Need-sub-lesser Inv-loop μ-loop
+sub-lesser c = omega (arith, c .lesser2 .ensures, c .before .lesser .ensures)
+
+lesser-requires-3 : tie.Need-lesser-requires-3 Inv-loop μ-loop
+lesser-requires-3 c κs = search needs
+
+sub-cm-free : tie.Need-sub-cm-free Inv-loop μ-loop
+sub-cm-free c = omega (arith, c .lesser3 .ensures)
 
 cast-n : tie.Need-cast-n Inv-loop μ-loop
 cast-n c = omega arith
 
 loop-holds : tie.Need-loop-holds Inv-loop μ-loop
 loop-holds c =
-    let first = c .before .before in
-    (start _ _ _ _ (ap length (first .before .before .zeros .ensures)) (first .collateral-of .ensures) (c .lesser .ensures), omega arith)
+    let under = c .before .before .before .before .before .before .before .before .before in
+    let pre = under .before .before .before .pre in
+    let kept = kept-first _ (pre .sound) _ (under .unders .ensures) in (
+      start _ _ _ _ _ (pre .sound) (ap length (c .before .before .before .before .before .before .before .before .zeros .ensures)) (ap length (c .before .before .before .before .before .before .before .zeros2 .ensures)) (c .before .before .before .before .before .collateral-of .ensures)
+          (c .before .before .before .before .free-with .ensures ∙ sym (ap (λ n. freeOf n (collateral (rowAt (c .before .before .before .before .before .before .before .before .before .before .before .before .args .t1) 0))) (kept .each 0 (pre .sound .shaped .some)))) (c .before .before .lesser .ensures) (c .before .lesser2 .ensures) (c .lesser3 .ensures),
+      kept,
+      omega arith,
+    )
 
 mul-r : tie.Need-mul-r Inv-loop μ-loop
 mul-r c = omega arith
@@ -79,23 +125,35 @@ element-copy-out-r c = omega (arith, checked c .sound .most)
 cast-t : tie.Need-cast-t Inv-loop μ-loop
 cast-t c = omega arith
 
-mul-pay : tie.Need-mul-pay Inv-loop μ-loop
-mul-pay c = omega arith
+mul-rounds : tie.Need-mul-rounds Inv-loop μ-loop
+mul-rounds c = omega arith
 
-shared-slice-read-pay : tie.Need-shared-slice-read-pay Inv-loop μ-loop
-shared-slice-read-pay c = omega (arith, checked (c .before .before .before) .each)
+shared-slice-read-rounds : tie.Need-shared-slice-read-rounds Inv-loop μ-loop
+shared-slice-read-rounds c = omega (arith, checked (c .before .before .before) .each)
 
-mul-pay-2 : tie.Need-mul-pay-2 Inv-loop μ-loop
-mul-pay-2 c = omega arith
+mul-rounds-2 : tie.Need-mul-rounds-2 Inv-loop μ-loop
+mul-rounds-2 c = omega arith
 
-array-read-pay : tie.Need-array-read-pay Inv-loop μ-loop
-array-read-pay c = omega (arith, low (c .before .before .before))
+array-read-rounds : tie.Need-array-read-rounds Inv-loop μ-loop
+array-read-rounds c = omega (arith, here-low (c .before .before .before))
 
-pay-requires : tie.Need-pay-requires Inv-loop μ-loop
-pay-requires c κs = let at = c .before .before .before in checked at .sound .ranges _ (inside at)
+mul-rounds-3 : tie.Need-mul-rounds-3 Inv-loop μ-loop
+mul-rounds-3 c = omega arith
+
+array-read-rounds-2 : tie.Need-array-read-rounds-2 Inv-loop μ-loop
+array-read-rounds-2 c = omega (arith, low (c .before .before .before))
+
+mul-rounds-4 : tie.Need-mul-rounds-4 Inv-loop μ-loop
+mul-rounds-4 c = omega arith
+
+array-read-rounds-3 : tie.Need-array-read-rounds-3 Inv-loop μ-loop
+array-read-rounds-3 c = omega (arith, low (c .before .before .before))
+
+rounds-requires : tie.Need-rounds-requires Inv-loop μ-loop
+rounds-requires c κs = let at = c .before .before .before in (checked at .sound .ranges _ (inside at), under-most _ (checked at .sound) _ (owed at) _)
 
 mul-put : tie.Need-mul-put Inv-loop μ-loop
-mul-put c = omega arith
+mul-put c = omega (arith, here-low (c .before .before .before .before .before))
 
 put-requires : tie.Need-put-requires Inv-loop μ-loop
 put-requires c κs = omega (arith, checked (c .before .before .before .before .before) .wide, here (c .before .before .before .before .before) .wide)
@@ -104,61 +162,87 @@ mul-left : tie.Need-mul-left Inv-loop μ-loop
 mul-left c = omega arith
 
 array-read-left : tie.Need-array-read-left Inv-loop μ-loop
-array-read-left c = omega (arith, low (c .before .before .before .before .before .before .before .before))
+array-read-left c = omega (arith, low (c .before .before .before .before .before .before .before .before .before .before))
 
 sub-left : tie.Need-sub-left Inv-loop μ-loop
-sub-left c = tm-has _ _ _ _ (c .before .before .before .before .before .pay .ensures)
+sub-left c = tm-has _ _ _ _ _ _ _ (c .before .before .before .before .before .before .before .rounds .ensures)
 
 mul-left-2 : tie.Need-mul-left-2 Inv-loop μ-loop
 mul-left-2 c = omega arith
 
 array-write-left : tie.Need-array-write-left Inv-loop μ-loop
-array-write-left c = omega (arith, low (c .before .before .before .before .before .before .before .before .before))
+array-write-left c = omega (arith, low (c .before .before .before .before .before .before .before .before .before .before .before))
 
 mul-left-3 : tie.Need-mul-left-3 Inv-loop μ-loop
-mul-left-3 c = let at = c .before .before .before .before .before .before .before .before .before in omega (arith, checked at .sound .most, inside at)
+mul-left-3 c = omega (arith, here-low (c .before .before .before .before .before .before .before .before .before .before .before))
 
 array-write-left-2 : tie.Need-array-write-left-2 Inv-loop μ-loop
-array-write-left-2 c = let at = c .before .before .before .before .before .before .before .before .before in omega (arith, checked at .sound .most, inside at)
+array-write-left-2 c = omega (arith, here-low (c .before .before .before .before .before .before .before .before .before .before .before))
+
+mul-free : tie.Need-mul-free Inv-loop μ-loop
+mul-free c = omega arith
+
+array-read-free : tie.Need-array-read-free Inv-loop μ-loop
+array-read-free c = omega (arith, low (c .before .before .before .before .before .before .before .before .before .before .before))
+
+sub-free : tie.Need-sub-free Inv-loop μ-loop
+sub-free c = tm-has₂ _ _ _ _ _ _ _ (c .before .before .before .before .before .before .before .before .rounds .ensures)
+
+mul-free-2 : tie.Need-mul-free-2 Inv-loop μ-loop
+mul-free-2 c = omega arith
+
+array-write-free : tie.Need-array-write-free Inv-loop μ-loop
+array-write-free c = omega (arith, low (c .before .before .before .before .before .before .before .before .before .before .before .before))
+
+mul-free-3 : tie.Need-mul-free-3 Inv-loop μ-loop
+mul-free-3 c = omega (arith, here-low (c .before .before .before .before .before .before .before .before .before .before .before .before))
+
+array-write-free-2 : tie.Need-array-write-free-2 Inv-loop μ-loop
+array-write-free-2 c = omega (arith, here-low (c .before .before .before .before .before .before .before .before .before .before .before .before))
 
 sub-cm-2 : tie.Need-sub-cm-2 Inv-loop μ-loop
-sub-cm-2 c = cm-has _ _ _ _ (c .before .before .before .before .before .before .pay .ensures)
+sub-cm-2 c = cm-has _ _ _ _ _ _ _ (c .before .before .before .before .before .before .before .before .before .rounds .ensures)
+
+sub-cm-free-2 : tie.Need-sub-cm-free-2 Inv-loop μ-loop
+sub-cm-free-2 c = cm-has₂ _ _ _ _ _ _ _ (c .before .before .before .before .before .before .before .before .before .before .rounds .ensures)
 
 -- at the end of a turn
 abbrev End : Type 0
-End = tie.After-struct-known4 Inv-loop μ-loop
+End = tie.After-struct-known6 Inv-loop μ-loop
 
 abbrev of : End → Turn
-of c = c .before .before .before .before .before .before .before .before .before .before .before
+of c = c .before .before .before .before .before .before .before .before .before .before .before .before .before .before .before
 
 abbrev named : End → ℕ
 named c = rowAt (Bk (of c)) (of c .before .loop .i) .tm
 
-abbrev paid : End → Paid
-paid c = c .before .before .before .before .before .before .before .pay .result
+abbrev paid : End → Both
+paid c = c .before .before .before .before .before .before .before .before .before .before .before .rounds .result
 
-next : (c : End) → Passed (Bk (of c)) (Ls (of c)) (R₀ (of c)) (c .before .before .before .before .before .put .last .0)
-    (set (set (of c .before .loop .left) (named c) (getD (of c .before .loop .left) (named c) 0 - paid c .tm)) (of c .before .loop .i) (paid c .kept))
-    (of c .before .loop .cm - paid c .cm) (of c .before .loop .uncovered + paid c .uncovered) (of c .before .loop .i + 1)
-next c = turn (checked (of c) .sound) (inside (of c)) (here (of c)) (c .before .before .before .before .before .before .before .pay .ensures) (c .before .before .before .before .before .put .ensures) (c .before .before .before .before .before .put .kept .0)
+next : (c : End) → Passed (Bk (of c)) (Ls (of c)) (R₀ (of c)) (c .before .before .before .before .before .before .before .before .before .put .last .0)
+    (set (set (of c .before .loop .left) (named c) (getD (of c .before .loop .left) (named c) 0 - paid c .first .tm)) (of c .before .loop .i) (paid c .first .kept))
+    (set (set (of c .before .loop .free) (named c) (getD (of c .before .loop .free) (named c) 0 - paid c .second .tm)) (of c .before .loop .i) (paid c .second .kept))
+    (of c .before .loop .cm - paid c .first .cm) (of c .before .loop .cm-free - paid c .second .cm) (of c .before .loop .uncovered + paid c .second .unpaid) (of c .before .loop .i + 1)
+next c =
+    turn (checked (of c) .sound) (inside (of c)) (here (of c)) _ (owed (of c) .each _ (inside (of c))) (c .before .before .before .before .before .before .before .before .before .before .before .rounds .ensures) (c .before .before .before .before .before .before .before .before .before .put .ensures) (c .before .before .before .before .before .before .before .before .before .put .kept .0)
 
 add-uncovered : tie.Need-add-uncovered Inv-loop μ-loop
-add-uncovered c = omega (arith, checked (of c) .sound .most, inside (of c), sum-fits (next c) (checked (of c) .small) (omega (arith, inside (of c))))
+add-uncovered c = omega (arith, here-low (of c), sum-fits (next c) (checked (of c) .small) (omega (arith, inside (of c))))
 
 add-i : tie.Need-add-i Inv-loop μ-loop
-add-i c = omega (arith, checked (of c) .sound .most, inside (of c))
+add-i c = omega (arith, here-low (of c))
 
 loop-less : tie.Need-loop-less Inv-loop μ-loop
 loop-less c = omega (arith, inside (of c))
 
 loop-again : tie.Need-loop-again Inv-loop μ-loop
-loop-again c = (next c, omega (arith, inside (of c)))
+loop-again c = (next c, owed (of c), omega (arith, inside (of c)))
 
 same-length : tie.Need-same-length Inv-loop μ-loop
 same-length c = c .before .loop .inv .0 .wide
 
 returns : tie.Need-returns Inv-loop μ-loop
-returns c = finish (c .before .loop .inv .0) (omega arith) (c .before .before .before .before .before .before .before .before .before .pre .wide)
+returns c = finish (c .before .loop .inv .0) (omega arith) (c .before .before .before .before .before .before .before .before .before .before .before .before .before .before .pre .wide)
 
 pub fill-spec : {M : Type 1} → statement M
 fill-spec =
@@ -166,22 +250,34 @@ fill-spec =
     (tie.spec
     Inv-loop
     μ-loop
+    unders-requires
     zeros-requires
-    element-copy-out-collateral-of
+    zeros-requires-2
+    element-copy-out-top
     collateral-of-requires
-    shared-slice-read-lesser
+    array-read-free-with
+    free-with-requires
+    shared-slice-read-loss
     lesser-requires
+    lesser-requires-2
     sub-cm
+    sub-lesser
+    lesser-requires-3
+    sub-cm-free
     cast-n
     loop-holds
     mul-r
     element-copy-out-r
     cast-t
-    mul-pay
-    shared-slice-read-pay
-    mul-pay-2
-    array-read-pay
-    pay-requires
+    mul-rounds
+    shared-slice-read-rounds
+    mul-rounds-2
+    array-read-rounds
+    mul-rounds-3
+    array-read-rounds-2
+    mul-rounds-4
+    array-read-rounds-3
+    rounds-requires
     mul-put
     put-requires
     mul-left
@@ -191,7 +287,15 @@ fill-spec =
     array-write-left
     mul-left-3
     array-write-left-2
+    mul-free
+    array-read-free
+    sub-free
+    mul-free-2
+    array-write-free
+    mul-free-3
+    array-write-free-2
     sub-cm-2
+    sub-cm-free-2
     add-uncovered
     add-i
     loop-less

@@ -7,9 +7,6 @@ use borrow.Author.Needs.{needs}
 use Rattle.closeout.proofs.pays.pay.Statement.{statement}
 use Rattle.closeout.proofs.pays.pay.Tie as tie
 
-collateral-of-requires : tie.Need-collateral-of-requires
-collateral-of-requires c κs = search needs
-
 lesser-requires : tie.Need-lesser-requires
 lesser-requires c κs = search needs
 
@@ -24,8 +21,8 @@ only-if-requires c κs = search needs
 
 sub-asked : tie.Need-sub-asked
 sub-asked c =
-    let r = c .before .before .before .before .before .args .r in
-    omega (arith, c .only-if .ensures, c .before .lesser2 .ensures, only-most (eqb (r .sort) 2) (c .before .lesser2 .result))
+    let sort = c .before .before .before .args .sort in
+    omega (arith, c .only-if .ensures, c .before .lesser2 .ensures, only-most (eqb sort 2) (c .before .lesser2 .result))
 
 lesser-requires-3 : tie.Need-lesser-requires-3
 lesser-requires-3 c κs = search needs
@@ -38,14 +35,13 @@ sub-t13 c = search needs
 
 returns : tie.Need-returns
 returns c =
-    let short = c .before .before .before .before in
-    by-steps _ _ _ _ (short .before .collateral-of .ensures) (short .lesser .ensures) (c .before .before .lesser2 .ensures) (c .before .only-if .ensures) (c .lesser3 .ensures)
+    let short = c .before .before .before in
+    by-steps _ _ _ _ _ (short .lesser .ensures) (c .before .before .lesser2 .ensures) (c .before .only-if .ensures) (c .lesser3 .ensures)
 
 pub pay-spec : {M : Type 1} → statement M
 pay-spec =
     tie.close
     (tie.spec
-    collateral-of-requires
     lesser-requires
     sub-short
     lesser-requires-2
