@@ -124,10 +124,13 @@ fn one_day(programs: &Programs, made: &Made, tally: &mut Tally) -> Result<(), St
             got,
         )?;
     }
-    match programs.closeouts {
-        Some(program) => one_close_out(programs, program, made, &book, tally),
-        None => Ok(()),
+    if let Some(program) = programs.closeouts {
+        for seed in losses::seeds(made.kind, made.seed) {
+            let losses = losses_for(&book, seed);
+            one_close_out(programs, program, made, &book, &losses, tally)?;
+        }
     }
+    Ok(())
 }
 
 /// This program's own answer, with the book's soundness asserted besides.
@@ -161,11 +164,11 @@ fn one_close_out(
     program: &str,
     made: &Made,
     book: &Book,
+    losses: &Losses,
     tally: &mut Tally,
 ) -> Result<(), String> {
-    let losses = losses_for(made, book);
     let path = programs.folder.join("losses");
-    let (argument, given) = match &losses {
+    let (argument, given) = match losses {
         Losses::File(bytes) => {
             fs::write(&path, bytes).map_err(|error| error.to_string())?;
             (Some(path), Some(bytes.as_slice()))
@@ -188,12 +191,12 @@ fn one_close_out(
 }
 
 /// Now and then the file can't be read at all.
-fn losses_for(made: &Made, book: &Book) -> Losses {
-    match made.seed % 61 {
+fn losses_for(book: &Book, seed: u64) -> Losses {
+    match seed % 61 {
         7 => Losses::Missing,
         23 => Losses::Folder,
         41 => Losses::NoArgument,
-        _ => Losses::File(losses::make(book, made.seed)),
+        _ => Losses::File(losses::make(book, seed)),
     }
 }
 

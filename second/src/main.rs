@@ -1,6 +1,6 @@
 //! An independent second program for the collateral book of one clearing
-//! member, written from document 01 and the decisions on its open points, and made to be compared with the
-//! first.
+//! member, written from documents 01 and 02 and the decisions on their open
+//! points, and made to be compared with the first.
 
 mod book;
 mod bundle;
@@ -29,7 +29,7 @@ second day [--check] < DAYFILE           a line per record, then end, cut or lon
 second standings < DAYFILE               the closing line, then every account's five figures
 second closeouts LOSSFILE < DAYFILE      the closing line, then what each loss is paid from
 second make KIND SEED > DAYFILE          a made-up day: busy hostile bent bounds cuts serials
-                                         openings retire mixed million
+                                         openings retire shared spent mixed million
 second losses SEED < DAYFILE > LOSSFILE  made-up losses for the book at that day's end
 second compare --day P --standings P --closeouts P
                [--days N] [--seed S] [--millions K] [--trickle]

@@ -2,6 +2,7 @@
 //! so that it can steer at the edges of the rules.
 
 mod bend;
+mod deemed;
 mod lengths;
 mod lives;
 pub mod losses;
@@ -16,7 +17,9 @@ use crate::rng::Rng;
 type Kind = (&'static str, fn(&mut Maker));
 
 /// The kinds that a comparison goes round. `million` stands apart for its size.
-pub const ROUND: [Kind; 9] = [
+/// An odd number, so that days fed in small pieces (one in four) are of every
+/// kind.
+pub const ROUND: [Kind; 11] = [
     ("busy", steer::busy),
     ("hostile", bend::hostile),
     ("bent", bend::bent),
@@ -25,6 +28,8 @@ pub const ROUND: [Kind; 9] = [
     ("serials", lengths::serials),
     ("openings", lives::openings),
     ("retire", lives::retire),
+    ("shared", deemed::shared),
+    ("spent", deemed::spent),
     ("mixed", mixed::mixed),
 ];
 

@@ -39,6 +39,11 @@ impl Rng {
         self.next() as u8
     }
 
+    /// One less, the bound itself or one more.
+    pub fn beside(&mut self, bound: u64) -> u64 {
+        bound.saturating_add(self.below(3)).saturating_sub(1)
+    }
+
     /// The bound itself, one less, one more, or anything up to it.
     pub fn near(&mut self, bound: u64) -> u64 {
         match self.below(7) {

@@ -1,5 +1,5 @@
-//! Document 01, "The program" and "Figures to hold against it". Rupees there,
-//! paise here.
+//! Document 01, "The program" and "Figures to hold against it", with K1's
+//! figures of document 02. Rupees there, paise here.
 
 use super::*;
 use crate::closeout::{close_out, CloseOut, Payment};
@@ -112,9 +112,31 @@ fn p8() {
     let answer = closed(&at(4), [0, 0, 120_000, 120_000]);
     assert_eq!(answer.payments[0], paid(0, 0, 0, 0));
     assert_eq!(answer.payments[1], paid(0, 0, 0, 0));
-    assert_eq!(answer.payments[2], paid(30_000, 50_000, 40_000, 0));
-    assert_eq!(answer.payments[3], paid(30_000, 0, 60_000, 30_000));
+    assert_eq!(answer.payments[2], paid(30_000, 30_000, 60_000, 0));
+    assert_eq!(answer.payments[3], paid(30_000, 20_000, 40_000, 30_000));
     assert_eq!(answer.total, 30_000);
+}
+
+/// "From free collateral only": TM-1's 300 blocked for A stay where they are,
+/// though A has no loss.
+#[test]
+fn blocked_for_another() {
+    let said = format!("{BOOK}margin 2 60000\n");
+    let answer = closed(&said, [0, 0, 0, 200_000]);
+    assert_eq!(answer.payments[3], paid(30_000, 20_000, 100_000, 50_000));
+    assert_eq!(answer.total, 50_000);
+}
+
+/// Members have no payment ahead: beyond their margins, here 0, they are owners
+/// of what is free and no more.
+#[test]
+fn members_with_losses() {
+    let answer = closed(&at(4), [40_000, 30_000, 60_000, 90_000]);
+    assert_eq!(answer.payments[0], paid(40_000, 0, 0, 0));
+    assert_eq!(answer.payments[1], paid(0, 0, 20_000, 10_000));
+    assert_eq!(answer.payments[2], paid(30_000, 30_000, 0, 0));
+    assert_eq!(answer.payments[3], paid(30_000, 20_000, 40_000, 0));
+    assert_eq!(answer.total, 10_000);
 }
 
 #[test]
@@ -160,7 +182,8 @@ fn no_lending_between_clients() {
     assert_eq!(blocked(&said), [0, 10_000, 0, 30_000]);
 }
 
-/// TM and CM pay their own losses first, then one order over all others.
+/// Without margins everything is free: TM and CM pay their own losses first,
+/// then one order over all others.
 #[test]
 fn close_out_order() {
     let said = "tm\nclient 1\ncp\ntm\npledge 0 100\npledge 1 50\npledge 2 10\npledge 3 10";

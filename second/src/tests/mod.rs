@@ -1,7 +1,8 @@
-//! Document 01's own figures, each refusal with its neighbour just allowed,
-//! and made-up days held against the rules by the letter.
+//! The documents' own figures, each refusal with its neighbour just allowed,
+//! and made-up days and close-outs held against the rules by the letter.
 
 mod bytes;
+mod closeouts;
 mod days;
 mod figures;
 mod forms;
