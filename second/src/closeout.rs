@@ -2,8 +2,8 @@
 //! changes the book.
 
 use crate::book::{Book, Row, Sort, CEILING};
-use crate::carry::Refusal;
 use crate::dayfile::numbers;
+use crate::refusal::Refusal;
 
 /// From own collateral, from the TM's, from the CM's, uncovered.
 #[derive(Clone, Copy, PartialEq, Eq, Default, Debug)]

@@ -1,14 +1,16 @@
 //! Other programs against this one, byte for byte, on many made-up days.
 
 use crate::book::Book;
-use crate::carry::{Answer, Refusal};
+use crate::carry::Answer;
 use crate::child::{ask, Pace};
 use crate::closeout::close_out_bytes;
 use crate::day::Closing;
 use crate::difference::settle;
+use crate::made::Made;
 use crate::make::{losses, make, MILLION_KIND, NO_LIMIT, ROUND};
 use crate::options::Options;
 use crate::print;
+use crate::refusal::Refusal;
 use std::fs;
 use std::path::PathBuf;
 
@@ -27,13 +29,6 @@ struct Tally {
     days: u64,
     records: u64,
     refusals: [u64; 17],
-}
-
-pub struct Made {
-    pub kind: &'static str,
-    pub seed: u64,
-    pub bytes: Vec<u8>,
-    pub pace: Pace,
 }
 
 /// Where the closeouts program is to find the losses.

@@ -2,7 +2,7 @@
 //! refusals 2, 4, 5 and 6.
 
 use crate::book::CEILING;
-use crate::carry::Refusal;
+use crate::refusal::Refusal;
 
 /// Mark, serial and account number.
 pub const HEAD: usize = 6;

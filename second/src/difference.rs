@@ -2,8 +2,8 @@
 //! follow it up.
 
 use crate::child::Pace;
-use crate::compare::Made;
 use crate::dayfile::{Next, Reader};
+use crate::made::Made;
 use crate::text;
 use std::fs;
 use std::path::Path;

@@ -11,9 +11,11 @@ mod compare;
 mod day;
 mod dayfile;
 mod difference;
+mod made;
 mod make;
 mod options;
 mod print;
+mod refusal;
 mod rng;
 #[cfg(test)]
 mod tests;

@@ -1,7 +1,7 @@
 //! Days of bytes without sense, bent records and amounts at the edges.
 
+use super::maker::Maker;
 use super::steer::{begin, busy, open_any, step};
-use super::Maker;
 use crate::book::CEILING;
 use crate::dayfile::*;
 

@@ -2,8 +2,8 @@
 //! with margins past their collateral, so that TMs and the CM answer for many
 //! at once.
 
+use super::maker::Maker;
 use super::steer::fund_account;
-use super::Maker;
 use crate::book::{Sort, CEILING};
 use crate::dayfile::*;
 

@@ -1,7 +1,7 @@
 //! Days that are cut, go round the serials or reach a million records.
 
+use super::maker::Maker;
 use super::steer::{any_good_record, begin, busy, step};
-use super::Maker;
 use crate::book::MOST_ACCOUNTS;
 use crate::day::MILLION;
 use crate::dayfile::*;

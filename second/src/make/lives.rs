@@ -1,9 +1,9 @@
 //! Days of openings and retirings.
 
+use super::maker::Maker;
 use super::steer::{
     any_good_record, fund_account, open_any, step, stranger, wind_down, wind_down_account,
 };
-use super::Maker;
 use crate::book::{Sort, MOST_ACCOUNTS};
 use crate::dayfile::*;
 

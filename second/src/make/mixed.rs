@@ -3,8 +3,8 @@
 use super::bend::{bent_record, edge_record, random_bytes};
 use super::lengths::wrong_serial;
 use super::lives::retire_step;
+use super::maker::Maker;
 use super::steer::{begin, step, stranger};
-use super::Maker;
 use crate::book::MOST_ACCOUNTS;
 
 pub fn mixed(maker: &mut Maker) {

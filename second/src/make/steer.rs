@@ -1,7 +1,7 @@
 //! Busy days: steps that aim at the edges of refusals 7 to 14, exactly at
 //! them, one over and one under.
 
-use super::Maker;
+use super::maker::Maker;
 use crate::book::{Sort, CEILING, MOST_ACCOUNTS};
 use crate::dayfile::*;
 

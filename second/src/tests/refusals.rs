@@ -1,8 +1,8 @@
 //! Each refusal with the neighbour just allowed, and the order of checking.
 
 use super::*;
-use crate::carry::Refusal;
 use crate::closeout::{close_out, close_out_bytes};
+use crate::refusal::Refusal;
 
 const CEILING: u64 = 10_000_000_000_000;
 

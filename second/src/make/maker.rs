@@ -1,0 +1,143 @@
+//! A seeded maker of a day. It keeps a model book beside the bytes, so that it
+//! can steer at the edges of the rules.
+
+use crate::book::{Book, Sort};
+use crate::carry::{carry, Outcome};
+use crate::dayfile::*;
+use crate::rng::Rng;
+
+pub struct Maker {
+    pub seed: u64,
+    pub rng: Rng,
+    pub book: Book,
+    pub bytes: Vec<u8>,
+    /// How far the model has read.
+    place: usize,
+    /// How many bytes the day may have.
+    pub room: usize,
+    /// The usual size of an amount on this day.
+    pub scale: u64,
+    /// How many accounts the day works up to.
+    pub wanted: usize,
+    /// Work goes to accounts from this number on.
+    pub lowest: u16,
+}
+
+impl Maker {
+    pub fn new(seed: u64, stream: u64, room: usize) -> Maker {
+        let mut rng = Rng::new(seed, stream);
+        let scale = rng.pick(&[10, 1_000, 1_000_000, 5_000_000_000, 2_000_000_000_000]);
+        Maker {
+            seed,
+            rng,
+            book: Book::fresh(),
+            bytes: Vec::new(),
+            place: 0,
+            room,
+            scale,
+            wanted: 8,
+            lowest: 0,
+        }
+    }
+
+    pub fn full(&self) -> bool {
+        self.bytes.len() + LONGEST > self.room
+    }
+
+    pub fn put(&mut self, code: u8, mark: u8, serial: u16, account: u16, amounts: &[u64]) -> bool {
+        if self.full() {
+            return false;
+        }
+        lay(&mut self.bytes, code, mark, serial, account, amounts);
+        self.catch_up()
+    }
+
+    /// The model reads the bytes as anyone would and so stays in step with
+    /// bent records too. Gives whether the last record was carried out.
+    fn catch_up(&mut self) -> bool {
+        let mut carried_out = false;
+        let mut reader = Reader::new(&self.bytes[self.place..]);
+        while let Next::Record(record) = reader.next() {
+            let answer = carry(&mut self.book, &record);
+            carried_out = !matches!(answer.outcome, Outcome::Refused(_));
+        }
+        self.place += reader.place();
+        carried_out
+    }
+
+    /// Random bytes, and zeros up to where a record ends, so that the day
+    /// goes on in step.
+    pub fn put_garbage(&mut self, many: u64) {
+        for _ in 0..many {
+            let byte = self.rng.byte();
+            self.bytes.push(byte);
+        }
+        self.catch_up();
+        while self.place < self.bytes.len() {
+            self.bytes.push(0);
+            self.catch_up();
+        }
+    }
+
+    /// A record with the serial that the book waits for.
+    pub fn say(&mut self, code: u8, mark: u8, account: u16, amounts: &[u64]) -> bool {
+        self.put(code, mark, self.book.serial, account, amounts)
+    }
+
+    /// Names the kinds whose amount isn't 0.
+    pub fn say_kinds(&mut self, code: u8, account: u16, kinds: [u64; 4]) -> bool {
+        let mark = (0..4)
+            .filter(|&kind| kinds[kind] != 0)
+            .map(|kind| 1u8 << kind)
+            .sum();
+        let named: Vec<u64> = kinds.into_iter().filter(|&amount| amount != 0).collect();
+        !named.is_empty() && self.say(code, mark, account, &named)
+    }
+
+    pub fn say_pledge(&mut self, code: u8, account: u16, amount: u64) -> bool {
+        self.say(code, 1 << PLEDGED, account, &[amount.max(1)])
+    }
+
+    pub fn say_margin(&mut self, account: u16, amount: u64) -> bool {
+        self.say(SET_MARGIN, 1 << MARGIN, account, &[amount])
+    }
+
+    pub fn amount(&mut self) -> u64 {
+        let most = self.scale;
+        self.rng.between(1, most)
+    }
+
+    /// A live account if one is found soon, else the CM.
+    pub fn live(&mut self) -> u16 {
+        let span = self.book.count as u64 - u64::from(self.lowest).min(self.book.count as u64 - 1);
+        for _ in 0..8 {
+            let account = (self.book.count as u64 - 1 - self.rng.below(span)) as u16;
+            if self.book.is_live(account) {
+                return account;
+            }
+        }
+        0
+    }
+
+    pub fn live_of(&mut self, sort: Sort) -> Option<u16> {
+        let rows = &self.book.rows[..self.book.count];
+        let fitting: Vec<u16> = (0..rows.len() as u16)
+            .filter(|&account| rows[usize::from(account)].live)
+            .filter(|&account| rows[usize::from(account)].sort == sort)
+            .collect();
+        if fitting.is_empty() {
+            None
+        } else {
+            Some(self.rng.pick(&fitting))
+        }
+    }
+
+    /// Mostly some hundreds of records, now and then a few thousand.
+    pub fn usual_length(&mut self) -> u64 {
+        if self.rng.one_in(20) {
+            self.rng.between(1_000, 4_000)
+        } else {
+            self.rng.between(10, 500)
+        }
+    }
+}

@@ -1,0 +1,23 @@
+//! Document 01's refusal numbers.
+
+/// 1 is missing: a book changed by `carry` alone stays sound, and `--check`
+/// tests that it does.
+#[derive(Clone, Copy, PartialEq, Eq, Debug)]
+#[repr(u8)]
+pub enum Refusal {
+    Cut = 2,
+    WrongSerial = 3,
+    UnknownCode = 4,
+    UnsuitedMark = 5,
+    OutOfRange = 6,
+    NotLive = 7,
+    WrongSort = 8,
+    NoNumberLeft = 9,
+    PastCeiling = 10,
+    MoreThanThere = 11,
+    MoreThanFree = 12,
+    MarginUncovered = 13,
+    NotEmpty = 14,
+    WrongLength = 15,
+    BadLoss = 16,
+}
