@@ -52,8 +52,8 @@ struct Sheet<'a> {
     rng: Rng,
     /// What is left of the free collateral of each TM and the CM.
     free: Vec<u64>,
-    /// One in so many has no loss, in the ways that leave some out.
-    quiet: u64,
+    /// One in so many does what the others don't, in the ways that part them.
+    few: u64,
     /// The one that may pass its margin, where all others keep to theirs.
     odd: usize,
     /// One less than what is free (0), all of it (1) or one more (2).
@@ -64,7 +64,7 @@ struct Sheet<'a> {
 
 impl Sheet<'_> {
     fn new(book: &Book, mut rng: Rng) -> Sheet<'_> {
-        let quiet = rng.between(2, 6);
+        let few = rng.between(2, 6);
         let odd = rng.below(book.count as u64) as usize;
         let fashion = rng.below(3);
         let through = rng.one_in(2);
@@ -72,7 +72,7 @@ impl Sheet<'_> {
             book,
             rng,
             free: (0..book.count).map(|account| book.free(account)).collect(),
-            quiet,
+            few,
             odd,
             fashion,
             through,
@@ -101,8 +101,8 @@ impl Sheet<'_> {
         self.book.rows[account].margin
     }
 
-    fn is_quiet(&mut self) -> bool {
-        self.rng.one_in(self.quiet)
+    fn is_one_of_few(&mut self) -> bool {
+        self.rng.one_in(self.few)
     }
 
     /// A loss up to here asks for no free collateral of others.
@@ -139,7 +139,7 @@ fn at_margin(sheet: &mut Sheet, account: usize) -> u64 {
     let less = margin.saturating_sub(1);
     if account == sheet.odd {
         sheet.rng.pick(&[less, less, margin + 1, CEILING])
-    } else if sheet.rng.one_in(8 * sheet.quiet) {
+    } else if sheet.rng.one_in(8 * sheet.few) {
         less
     } else {
         margin
@@ -162,7 +162,7 @@ fn far_or_at_margin(sheet: &mut Sheet, account: usize) -> u64 {
 
 /// What is blocked for those without a loss stays where it is.
 fn far_or_nothing(sheet: &mut Sheet, account: usize) -> u64 {
-    if sheet.is_quiet() {
+    if sheet.is_one_of_few() {
         far(sheet, account)
     } else {
         0
@@ -177,7 +177,7 @@ fn far(sheet: &mut Sheet, account: usize) -> u64 {
 }
 
 fn near_own(sheet: &mut Sheet, account: usize) -> u64 {
-    if sheet.is_quiet() {
+    if sheet.is_one_of_few() {
         return 0;
     }
     let own = sheet.own(account);
@@ -189,7 +189,7 @@ fn near_own(sheet: &mut Sheet, account: usize) -> u64 {
 /// paisa stays, or goes, or is one too few.
 fn near_free(sheet: &mut Sheet, account: usize) -> u64 {
     let before = sheet.before_free(account);
-    if !sheet.is_quiet() {
+    if !sheet.is_one_of_few() {
         return before - sheet.rng.below(2).min(before);
     }
     let asked = match sheet.tm(account) {
@@ -201,7 +201,7 @@ fn near_free(sheet: &mut Sheet, account: usize) -> u64 {
 }
 
 fn anything(sheet: &mut Sheet, account: usize) -> u64 {
-    if sheet.is_quiet() {
+    if sheet.is_one_of_few() {
         return 0;
     }
     let own = sheet.own(account);
