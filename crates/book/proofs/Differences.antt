@@ -5,7 +5,6 @@ use Prim.Native.Nat.{ℕ, _+_, _<_}
 use native.Mathlib.Omega.{arith}
 use native.Mathlib.Decide.{ℕ-discrete}
 use lib.Dec.{eqb}
-use lib.ListN.{length}
 use borrow.Author.Tests.{ne-eqb}
 use Rattle.sums.specs.Sum.{sum, only}
 use Rattle.sums.proofs.Sums.{sum-one}
@@ -13,8 +12,8 @@ use Rattle.rows.specs.declared.Row.{Row}
 use Rattle.rows.specs.declared.Book.{Book}
 use Rattle.rows.specs.View.{View, isClientOf, members, ofClients, ownDeemed, needTM, deemedTM, needCM}
 use Rattle.rows.specs.Facts.{Shaped}
-use Rattle.rows.specs.Rows.{rowAt, collateral, view, withRow}
-use Rattle.book.proofs.BySort.{client-of}
+use Rattle.rows.specs.Rows.{rowAt, places, collateral, view, withRow}
+use Rattle.rows.proofs.BySort.{client-of}
 use Rattle.book.proofs.OneRow.{at-all, same-sort, same-tm}
 
 -- the same accounts, with the same amounts but those of row k
@@ -26,7 +25,7 @@ pub record RowChanged (v w : View) (k : ℕ) : Type 0 where
   pub margin : (i : ℕ) → (i ≡ k → ⊥) → w .margin i ≡ v .margin i
   pub collateral : (i : ℕ) → (i ≡ k → ⊥) → w .collateral i ≡ v .collateral i
 
-pub row-changed : (b : Book) (k : ℕ) (r : Row) → k < length (b .rows) → k < b .count → r .sort ≡ rowAt b k .sort → r .tm ≡ rowAt b k .tm
+pub row-changed : (b : Book) (k : ℕ) (r : Row) → k < places b → k < b .count → r .sort ≡ rowAt b k .sort → r .tm ≡ rowAt b k .tm
     → RowChanged (view b) (view (withRow b k r)) k
 row-changed b k r l m ec et = record {
   count = refl;

@@ -6,7 +6,7 @@ use Rattle.sums.specs.Sum.{sum, only}
 use Rattle.sums.proofs.Sums.{sum-le, only-le}
 use Rattle.rows.specs.View.{View, isClientOf, members, ownDeemed, needTM, deemedTM, needCM, blocked}
 use Rattle.rows.specs.Facts.{Covered}
-use Rattle.book.proofs.BySort.{need-CM, need-TM, need-client, need-CP, client-sort, members-le}
+use Rattle.rows.proofs.BySort.{need-CM, need-TM, need-client, need-CP, client-sort, members-le}
 
 -- the same accounts; margins did not rise, and no collateral fell below what was blocked of it
 pub record Kept (v w : View) : Type 0 where

@@ -1,10 +1,9 @@
-pub mod BySort
 pub mod Differences
 pub mod FreshSound
 pub mod Keeps
-pub mod KeptSums
-pub mod KeptPut
-pub mod KeptOpen
+pub mod UnderPut
+pub mod UnderOpen
+pub mod UnderMost
 pub mod LiveClients
 pub mod OneRow
 pub mod Opens

@@ -1,27 +1,20 @@
--- What a change of one row, and a row more, do to a book's rows and to its view.
+-- What a change of one row, and a row more, do to a book's view.
 use mathlib.Core.Path.{_≡_, refl, sym, _∙_, ap}
 use mathlib.Core.Logic.{_⊎_}
 use Prim.Native.Nat.{ℕ, _≤_, _<_}
 use native.Mathlib.Omega.{arith}
 use native.Mathlib.Decide.{ℕ-discrete}
-use lib.ListN.{length}
-use lib.Seq.{getD-set-same, getD-set-other}
 use Rattle.rows.specs.declared.Row.{Row}
 use Rattle.rows.specs.declared.Book.{Book}
 use Rattle.rows.specs.View.{blocked}
 use Rattle.rows.specs.Facts.{Shaped}
-use Rattle.rows.specs.Rows.{noRow, rowAt, collateral, view, withRow, withNew}
+use Rattle.rows.specs.Rows.{rowAt, places, collateral, view, withRow, withNew}
+use Rattle.rows.proofs.RowPut.{row-same, row-other, new, below}
 use Rattle.book.proofs.Keeps.{Kept}
 use Rattle.book.proofs.Opens.{Opened}
 
-pub row-same : (b : Book) (i : ℕ) (r : Row) → i < length (b .rows) → rowAt (withRow b i r) i ≡ r
-row-same b i r l = getD-set-same (b .rows) i r noRow l
-
-pub row-other : (b : Book) (i j : ℕ) (r : Row) → (j ≡ i → ⊥) → rowAt (withRow b i r) j ≡ rowAt b j
-row-other b i j r ne = getD-set-other (b .rows) i j r noRow ne
-
 -- what holds of the new row and the old, and of any row and itself, holds of all rows of the two books
-pub at-all : (P : ℕ → Row → Row → Type 0) (b : Book) (i : ℕ) (r : Row) → i < length (b .rows)
+pub at-all : (P : ℕ → Row → Row → Type 0) (b : Book) (i : ℕ) (r : Row) → i < places b
     → P i r (rowAt b i) → ((j : ℕ) → P j (rowAt b j) (rowAt b j)) → (j : ℕ) → P j (rowAt (withRow b i r) j) (rowAt b j)
 at-all P b i r l p q j = by (ℕ-discrete j i)
   where
@@ -29,7 +22,7 @@ at-all P b i r l p q j = by (ℕ-discrete j i)
     by (yes e) = rw e (rw (row-same b i r l) p)
     by (no e) = rw (row-other b i j r e) (q j)
 
-module _ (b : Book) (i : ℕ) (r : Row) (l : i < length (b .rows)) (ec : r .sort ≡ rowAt b i .sort) (et : r .tm ≡ rowAt b i .tm) where
+module _ (b : Book) (i : ℕ) (r : Row) (l : i < places b) (ec : r .sort ≡ rowAt b i .sort) (et : r .tm ≡ rowAt b i .tm) where
   pub same-sort : (j : ℕ) → rowAt (withRow b i r) j .sort ≡ rowAt b j .sort
   same-sort = at-all (λ j x y. x .sort ≡ y .sort) b i r l ec (λ j. refl)
 
@@ -56,25 +49,16 @@ module _ (b : Book) (i : ℕ) (r : Row) (l : i < length (b .rows)) (ec : r .sort
   }
 
 -- an opening, where the table has room
-module _ (b : Book) (r : Row) (room : b .count < length (b .rows)) where
-  pub new : rowAt (withNew b r) (b .count) ≡ r
-  new = getD-set-same (b .rows) (b .count) r noRow room
-
-  pub below : (i : ℕ) → i < b .count → rowAt (withNew b r) i ≡ rowAt b i
-  below i q = getD-set-other (b .rows) (b .count) i r noRow (λ e. omega arith)
-
-  pub above : (i : ℕ) → b .count < i → rowAt (withNew b r) i ≡ rowAt b i
-  above i q = getD-set-other (b .rows) (b .count) i r noRow (λ e. omega arith)
-
+module _ (b : Book) (r : Row) (room : b .count < places b) where
   pub row-opened : r .margin ≡ 0 → (r .sort ≡ 1) ⊎ ((r .sort ≡ 2) ⊎ (r .sort ≡ 3))
       → (r .sort ≡ 2 → (r .tm < b .count) × (rowAt b (r .tm) .sort ≡ 1)) → Opened (view b) (view (withNew b r))
   row-opened m k t = record {
     count = refl;
-    sort = λ i q. ap (λ x. x .sort) (below i q);
-    tm = λ i q. ap (λ x. x .tm) (below i q);
-    margin = λ i q. ap (λ x. x .margin) (below i q);
-    collateral = λ i q. ap collateral (below i q);
-    no-margin = rw new m;
-    new-sort = rw new k;
-    its-tm = rw new t;
+    sort = λ i q. ap (λ x. x .sort) (below b r room i q);
+    tm = λ i q. ap (λ x. x .tm) (below b r room i q);
+    margin = λ i q. ap (λ x. x .margin) (below b r room i q);
+    collateral = λ i q. ap collateral (below b r room i q);
+    no-margin = rw (new b r room) m;
+    new-sort = rw (new b r room) k;
+    its-tm = rw (new b r room) t;
   }

@@ -8,7 +8,7 @@ use Rattle.sums.specs.Sum.{sum, only}
 use Rattle.sums.proofs.Sums.{sum-step, sum-eq, sum-zero, only-zero}
 use Rattle.rows.specs.View.{View, isTM, isCP, isClientOf, members, ofClients, ownDeemed, needTM, deemedTM, needCM}
 use Rattle.rows.specs.Facts.{Shaped, Covered}
-use Rattle.book.proofs.BySort.{client-sort, client-tm}
+use Rattle.rows.proofs.BySort.{client-sort, client-tm}
 
 -- w is v with one account more, whose margin is 0 and which is a TM, a CP or a client of one of v's TMs
 pub record Opened (v w : View) : Type 0 where

@@ -5,7 +5,6 @@ use Prim.Native.Nat.{ℕ, _≤_, _<_}
 use native.Mathlib.Omega.{arith}
 use native.Mathlib.Decide.{decLt}
 use lib.Dec.{eqb, ltb, leb}
-use lib.ListN.{length}
 use borrow.Author.Tests.{lt-ltb, le-ltb, leb-true, eqb-true}
 use Rattle.sums.specs.Sum.{all}
 use Rattle.sums.specs.Choice.{pick}
@@ -14,11 +13,10 @@ use Rattle.sums.proofs.Choices.{pick-yes, and-split}
 use Rattle.rows.specs.declared.Kinds.{Kinds}
 use Rattle.rows.specs.declared.Row.{Row}
 use Rattle.rows.specs.declared.Book.{Book}
-use Rattle.rows.specs.View.{needCM}
-use Rattle.rows.specs.Rows.{ceiling, rowAt, collateral, view}
+use Rattle.rows.specs.Rows.{ceiling, rowAt, places}
 use Rattle.rows.specs.Ranges.{kindsCapped, kindsWithin, inRange, ceilings}
 use Rattle.rows.specs.Facts.{KindsWithin, InRange}
-use Rattle.book.specs.Sound.{isBlank, isTop, goodClient, goodSort, goodRetired, goodRow, rowSound, soundB}
+use Rattle.book.specs.Sound.{isBlank, isTop, goodClient, goodSort, goodRetired, goodRow, rowSound, formedB, coveredB, soundB}
 use Rattle.book.specs.Facts.{Sound}
 use Rattle.rows.specs.Inner.{Ranged, Slot}
 
@@ -34,7 +32,7 @@ client-out : (i : ℕ) (r t : Row) → i ≤ r .tm → goodClient i r t ≡ fals
 client-out i r t l = simp (le-ltb (r .tm) i l, and-false)
 
 -- where a row names no place of the table, the row that is taken for its TM does not matter
-pub row-slot : (b : Book) (i s : ℕ) → i < 256 → Slot (rowAt b i) s → goodRow (b .count) i (rowAt b i) (rowAt b s) ≡ rowSound b i
+pub row-slot : (b : Book) (i s : ℕ) → i < 256 → Slot (rowAt b i .tm) s → goodRow (b .count) i (rowAt b i) (rowAt b s) ≡ rowSound b i
 unfolding rowSound goodRow
 row-slot b i s l slot = by (decLt (rowAt b i .tm) 256)
   where
@@ -69,7 +67,7 @@ row-range n i r t l h =
     in-range r (and-split placed (inRange r) (sym (pick-yes (ltb i n) (placed && inRange r) (isBlank r) (lt-ltb i n l)) ∙ h) .1)
 
 -- past the tests of the number and of the rows, no sum can pass a word
-pub rows-ranged : (b : Book) → length (b .rows) ≡ 256 → b .count ≤ 256 → all 256 (rowSound b) ≡ true → Ranged b
+pub rows-ranged : (b : Book) → places b ≡ 256 → b .count ≤ 256 → all 256 (rowSound b) ≡ true → Ranged b
 unfolding rowSound
 rows-ranged b table most h =
     record {
@@ -79,14 +77,10 @@ rows-ranged b table most h =
     }
 
 pub sound-test-ranged : (b : Book) → soundB b ≡ true → Ranged b
-unfolding soundB
+unfolding soundB formedB
 sound-test-ranged b h =
-    let n = b .count in
-    let rows = all 256 (rowSound b) in
-    let covered = leb (needCM (view b)) (collateral (rowAt b 0)) in
-    let k = and-split (leb 1 n && leb n 256 && rows && covered) (eqb (length (b .rows)) 256) h in
-    let j = and-four (leb 1 n) (leb n 256) rows covered (k .0) in
-    rows-ranged b (eqb-true _ _ (k .1)) (leb-true _ _ (j .1)) (j .2)
+    let j = and-four (leb 1 (b .count)) (leb (b .count) 256) (all 256 (rowSound b)) (eqb (places b) 256) (and-split (formedB b) (coveredB b) h .0) in
+    rows-ranged b (eqb-true _ _ (j .3)) (leb-true _ _ (j .1)) (j .2)
 
 pub sound-ranged : (b : Book) → Sound b → Ranged b
 sound-ranged b s = record { table = s .table; most = s .most; ranges = s .ranges }

@@ -5,7 +5,6 @@ use mathlib.Core.Logic.{_⊎_}
 use Prim.Native.Nat.{ℕ, _+_, _-_, _≤_, _<_}
 use native.Mathlib.Omega.{arith}
 use native.Mathlib.Decide.{ℕ-discrete}
-use lib.ListN.{length, length-set}
 use Rattle.sums.proofs.Choices.{clash}
 use Rattle.rows.specs.declared.Kinds.{Kinds}
 use Rattle.rows.specs.declared.Row.{Row}
@@ -13,14 +12,15 @@ use Rattle.rows.specs.declared.Book.{Book}
 use Rattle.rows.specs.View.{blocked, free}
 use Rattle.rows.specs.Facts.{Covered, KindsWithin, InRange}
 use Rattle.rows.specs.Ranges.{ceilings, noAmounts}
-use Rattle.rows.specs.Rows.{ceiling, rowAt, addedUp, collateral, view, openedRow, plusKinds, lessKinds, withReceived, withAllocated, withPledged, withMargin, withLive, withRow, withNew}
+use Rattle.rows.specs.Rows.{ceiling, rowAt, addedUp, collateral, view, openedRow, plusKinds, lessKinds, withReceived, withAllocated, withPledged, withMargin, withLive, places, withSerial, withRow, withNew}
 use Rattle.book.specs.Facts.{Sound}
+use Rattle.rows.proofs.RowPut.{row-other, row-places, new-places, new, below, above}
 use Rattle.book.proofs.Keeps.{kept-covered}
 use Rattle.book.proofs.Opens.{Opened, opened-covered, opened-shaped}
-use Rattle.book.proofs.OneRow.{row-other, at-all, same-sort, same-tm, row-kept, row-shaped, new, below, above, row-opened}
+use Rattle.book.proofs.OneRow.{at-all, same-sort, same-tm, row-kept, row-shaped, row-opened}
 
 -- soundness doesn't look at the serial
-pub serial-sound : (b : Book) (n : ℕ) → Sound b → Sound (record { count = b .count; serial = n; rows = b .rows })
+pub serial-sound : (b : Book) (n : ℕ) → Sound b → Sound (withSerial b n)
 serial-sound b n s = record {
   table = s .table;
   most = s .most;
@@ -35,7 +35,7 @@ serial-sound b n s = record {
 }
 
 -- an account's row is in the table
-pub in-table : (b : Book) → Sound b → (i : ℕ) → i < b .count → i < length (b .rows)
+pub in-table : (b : Book) → Sound b → (i : ℕ) → i < b .count → i < places b
 in-table b s i m = omega (arith, s .table, s .most)
 
 -- row i changes, keeps sort and TM, and is in range; a client that is live after it has a live TM
@@ -44,7 +44,7 @@ module _ (b : Book) (s : Sound b) (i : ℕ) (m : i < b .count) (r : Row) (ec : r
       → ((j : ℕ) → j < b .count → rowAt b j .sort ≡ 2 → rowAt (withRow b i r) j .live ≡ true → rowAt (withRow b i r) (rowAt b j .tm) .live ≡ true)
       → Covered (view (withRow b i r)) → Sound (withRow b i r)
   row-sound ranges retired top tms c = record {
-    table = length-set (b .rows) i r ∙ s .table;
+    table = row-places b i r ∙ s .table;
     most = s .most;
     top-live = top;
     blank = λ j h. row-other b i j r (λ e. omega arith) ∙ s .blank j h;
@@ -57,7 +57,7 @@ module _ (b : Book) (s : Sound b) (i : ℕ) (m : i < b .count) (r : Row) (ec : r
     covered = c;
   }
     where
-      l : i < length (b .rows)
+      l : i < places b
       l = in-table b s i m
 
       sort : (j : ℕ) → rowAt (withRow b i r) j .sort ≡ rowAt b j .sort
@@ -147,7 +147,7 @@ module _ (b : Book) (s : Sound b) (c t : ℕ) (room : b .count < 256) (sort : (c
   abbrev opened : Book
   opened = withNew b (openedRow c t)
 
-  space : b .count < length (b .rows)
+  space : b .count < places b
   space = omega (arith, s .table)
 
   one-more : Opened (view b) (view opened)
@@ -166,7 +166,7 @@ module _ (b : Book) (s : Sound b) (c t : ℕ) (room : b .count < 256) (sort : (c
 
   pub open-sound : Sound (withNew b (openedRow c t))
   open-sound = record {
-    table = length-set (b .rows) (b .count) (openedRow c t) ∙ s .table;
+    table = new-places b (openedRow c t) ∙ s .table;
     most = omega arith;
     top-live = still-live 0 (s .shaped .some) (s .top-live);
     blank = λ j h. above b (openedRow c t) space j (omega arith) ∙ s .blank j (omega arith);

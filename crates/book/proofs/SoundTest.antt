@@ -6,18 +6,18 @@ use Prim.Native.Nat.{ℕ, _≤_, _<_}
 use native.Mathlib.Omega.{arith}
 use native.Mathlib.Decide.{ℕ-discrete, decLt}
 use lib.Dec.{eqb, ltb}
-use lib.ListN.{length, List·getD-eq-default}
 use borrow.Author.Tests.{eqb-true, eq-eqb, ne-eqb, leb-true, le-leb, ltb-true, lt-ltb, le-ltb, not-false}
 use Rattle.sums.specs.Choice.{pick}
 use Rattle.sums.proofs.Sums.{all-at, all-from}
 use Rattle.sums.proofs.Choices.{pick-yes, pick-no, and-left, and-right, and-join, or-split, or-else, or-from, or-left, or-right}
 use Rattle.rows.specs.declared.Row.{Row}
 use Rattle.rows.specs.declared.Book.{Book}
-use Rattle.rows.specs.Rows.{noRow, rowAt}
+use Rattle.rows.specs.Rows.{noRow, rowAt, places}
 use Rattle.rows.specs.Ranges.{noAmounts, inRange}
 use Rattle.rows.specs.Facts.{InRange}
-use Rattle.book.specs.Sound.{isBlank, isTop, goodClient, goodSort, goodRetired, goodRow, rowSound, soundB}
+use Rattle.book.specs.Sound.{isBlank, isTop, goodClient, goodSort, goodRetired, goodRow, rowSound, formedB, coveredB, soundB}
 use Rattle.book.specs.Facts.{Sound}
+use Rattle.rows.proofs.RowPut.{row-far}
 use Rattle.book.proofs.RowFacts.{range→, range←, blank→, blank←}
 
 -- "a client whose TM is a lower-numbered TM row. A live client's TM is live."
@@ -118,7 +118,7 @@ module _ (b : Book) (i : ℕ) where
       by (no l) = pick-no (ltb i (b .count)) _ (isBlank r) (le-ltb i (b .count) (omega arith)) ∙ blank← r (s .blank i (omega arith))
 
 pub sound→ : (b : Book) → soundB b ≡ true → Sound b
-unfolding soundB
+unfolding soundB formedB coveredB
 sound→ b e = record {
   table = table;
   most = most;
@@ -137,7 +137,7 @@ sound→ b e = record {
   covered = search (and-left, and-right, leb-true);
 }
   where
-    table : length (b .rows) ≡ 256
+    table : places b ≡ 256
     table = search (and-left, and-right, eqb-true)
 
     most : b .count ≤ 256
@@ -154,7 +154,7 @@ sound→ b e = record {
 
     beyond : (i : ℕ) → b .count ≤ i → Dec (i < 256) → rowAt b i ≡ noRow
     beyond i h (yes l) = row-beyond b i (row i l) h
-    beyond i h (no l) = List·getD-eq-default (b .rows) noRow (omega (arith, table))
+    beyond i h (no l) = row-far b i (omega (arith, table))
 
     good : (i : ℕ) → i < b .count → (i ≡ 0 → ⊥) → GoodSort i (rowAt b i) (rowAt b (rowAt b i .tm))
     good i l z = row-sort b i (row i (omega (arith, most))) l z
@@ -185,7 +185,7 @@ sound→ b e = record {
     no-tm i l ne (no z) = plain ne (good i l z)
 
 pub sound← : (b : Book) → Sound b → soundB b ≡ true
-unfolding soundB
+unfolding soundB formedB coveredB
 sound← b s =
     and-join (and-join (and-join (and-join (le-leb _ _ (s .shaped .some)) (le-leb _ _ (s .most)))
-    (all-from 256 (rowSound b) (λ i l. row← b i s))) (le-leb _ _ (s .covered))) (eq-eqb _ _ (s .table))
+    (all-from 256 (rowSound b) (λ i l. row← b i s))) (eq-eqb _ _ (s .table))) (le-leb _ _ (s .covered))

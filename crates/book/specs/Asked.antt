@@ -7,16 +7,16 @@ use Rattle.sums.specs.Table.{Line, _when_, first}
 use Rattle.rows.specs.declared.Book.{Book}
 use Rattle.book.specs.declared.Figures.{Figures}
 use Rattle.rows.specs.View.{View, need, blocked, deemed, free}
-use Rattle.rows.specs.Rows.{view, isLive}
+use Rattle.rows.specs.Rows.{placeOf, view, isLive}
 use Rattle.book.specs.Sound.{soundB}
 
 -- "1: the book isn't sound"; "7: the account is not live, or its number was never given"
 abbrev pub standingRefusals : Book → ℕ → List Line
-standingRefusals b i = (1 when not (soundB b)) ∷ (7 when not (isLive b i)) ∷ []
+standingRefusals b number = (1 when not (soundB b)) ∷ (7 when not (isLive b number)) ∷ []
 
 -- the first that applies, or 0
 unfoldable pub standingRefusal : Book → ℕ → ℕ
-standingRefusal b i = first (standingRefusals b i)
+standingRefusal b number = first (standingRefusals b number)
 
 -- "A standing gives these five: collateral, need, blocked, deemed, free."
 abbrev pub figuresOf : View → ℕ → Figures
@@ -28,4 +28,4 @@ noFigures n = record { refusal = n; collateral = 0; need = 0; blocked = 0; deeme
 
 -- what a standing gives
 unfoldable pub standingOf : Book → ℕ → Figures
-standingOf b i = unlessRefused (standingRefusal b i) (figuresOf (view b) i) noFigures
+standingOf b number = unlessRefused (standingRefusal b number) (figuresOf (view b) (placeOf b number)) noFigures

@@ -2,13 +2,12 @@
 use mathlib.Core.Bool.{Bool, not, _&&_, _||_}
 use Prim.Native.Nat.{ℕ}
 use lib.Dec.{eqb, ltb, leb}
-use lib.ListN.{length}
 use Rattle.sums.specs.Sum.{all}
 use Rattle.sums.specs.Choice.{pick}
 use Rattle.rows.specs.declared.Row.{Row}
 use Rattle.rows.specs.declared.Book.{Book}
 use Rattle.rows.specs.View.{needCM}
-use Rattle.rows.specs.Rows.{rowAt, collateral, view}
+use Rattle.rows.specs.Rows.{rowAt, places, collateral, view}
 use Rattle.rows.specs.Ranges.{noAmounts, inRange}
 
 -- "rows beyond the number are all zero"
@@ -39,8 +38,14 @@ goodRow n i r t = pick (ltb i n) (pick (eqb i 0) (isTop r) (goodSort i r t) && g
 unfoldable pub rowSound : Book → ℕ → Bool
 rowSound b i = goodRow (b .count) i (rowAt b i) (rowAt b (rowAt b i .tm))
 
--- "The number of accounts is 1 to 256"; every row; "The CM's need .. is at most the CM's collateral." A value of the type
--- has 256 rows: the last test holds of each.
+-- "The number of accounts is 1 to 256"; every row. A value of the type has 256 rows: the last test holds of each.
+unfoldable pub formedB : Book → Bool
+formedB b = leb 1 (b .count) && leb (b .count) 256 && all 256 (rowSound b) && eqb (places b) 256
+
+-- "The CM's need, defined below, is at most the CM's collateral."
+unfoldable pub coveredB : Book → Bool
+coveredB b = leb (needCM (view b)) (collateral (rowAt b 0))
+
+-- 'A sound book': well formed, and covered
 unfoldable pub soundB : Book → Bool
-soundB b =
-    leb 1 (b .count) && leb (b .count) 256 && all 256 (rowSound b) && leb (needCM (view b)) (collateral (rowAt b 0)) && eqb (length (b .rows)) 256
+soundB b = formedB b && coveredB b

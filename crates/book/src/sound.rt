@@ -53,7 +53,7 @@ pub(crate) fn rows_sound(b: Book) -> bool
     let mut i: usize = 0;
     while i < 256 {
         let r = b.rows[i];
-        let s = slot(r);
+        let s = slot(r.tm);
         ok = ok & good_row(n, i, r, b.rows[s]);
         i += 1;
     }

@@ -7,7 +7,7 @@ use Rattle.sums.specs.Sum.{sum, only}
 use Rattle.sums.proofs.Sums.{sum-le, sum-eq, sum-zero, sum-add, only-add, waterfall}
 use Rattle.rows.specs.View.{View, isTM, isCP, isClientOf, members, ofClients, ownDeemed, needTM, deemedTM, needCM}
 use Rattle.rows.specs.Facts.{Shaped, Covered}
-use Rattle.book.proofs.BySort.{members-le}
+use Rattle.rows.proofs.BySort.{members-le}
 use Rattle.closeout.specs.Round.{own, short, leftTM, askedOfCM, unpaid}
 use Rattle.closeout.specs.Bound.{beyond}
 use Rattle.closeout.proofs.Groups.{group, regroup}

@@ -5,7 +5,7 @@ use Prim.Native.Nat.{ℕ, zero, suc, _+_, _-_, _≤_, _<_, min}
 use native.Mathlib.Omega.{arith}
 use Rattle.sums.specs.Sum.{sum, only}
 use Rattle.rows.specs.View.{View, isClientOf, ofClients}
-use Rattle.book.proofs.BySort.{client-sort, client-tm}
+use Rattle.rows.proofs.BySort.{client-sort, client-tm}
 use Rattle.closeout.specs.Round.{own, short, leftTM, fromTM, askedOfCM, fromCM}
 use Rattle.closeout.proofs.Payments.{fromTM-client}
 

@@ -5,7 +5,7 @@ use Prim.Native.Nat.{ℕ, _+_, _-_, _≤_, min}
 use native.Mathlib.Omega.{arith}
 use Rattle.sums.proofs.Sums.{only-most}
 use Rattle.rows.specs.View.{View, isClient, isClientOf}
-use Rattle.book.proofs.BySort.{client-sort, client-tm}
+use Rattle.rows.proofs.BySort.{client-sort, client-tm}
 use Rattle.closeout.specs.Round.{own, short, leftTM, fromTM, askedOfCM, leftCM, fromCM, unpaid}
 
 -- what a payer with b in hand leaves of a

@@ -11,7 +11,7 @@ use Rattle.sums.specs.Sum.{sum, only}
 use Rattle.sums.proofs.Sums.{sum-eq, sum-le, sum-zero, sum-term, only-le}
 use Rattle.rows.specs.View.{View, isClient, isCP, isClientOf, ofClients, ownDeemed, needTM, needCM, need, blocked}
 use Rattle.rows.specs.Facts.{Shaped, Covered}
-use Rattle.book.proofs.BySort.{client-sort, client-tm, need-CM, need-TM}
+use Rattle.rows.proofs.BySort.{client-sort, client-tm, need-CM, need-TM}
 use Rattle.closeout.specs.Round.{own, short, leftTM, fromTM, askedOfCM, leftCM, fromCM, unpaid}
 use Rattle.closeout.specs.Bound.{beyond}
 use Rattle.closeout.proofs.Payments.{adds, fromTM-client, fromTM-other}

@@ -8,7 +8,7 @@ use Rattle.sums.specs.Sum.{sum, only}
 use Rattle.sums.proofs.Sums.{sum-step, sum-zero, only-zero}
 use Rattle.rows.specs.View.{View, isClient, isClientOf}
 use Rattle.rows.specs.Facts.{Shaped}
-use Rattle.book.proofs.BySort.{client-sort, client-tm}
+use Rattle.rows.proofs.BySort.{client-sort, client-tm}
 use Rattle.closeout.specs.Round.{own, short, leftTM, fromTM, askedOfCM, leftCM, fromCM}
 use Rattle.closeout.proofs.Payments.{fromTM-other}
 

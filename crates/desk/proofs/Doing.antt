@@ -11,6 +11,7 @@ use Rattle.sums.proofs.Choices.{pass, stop}
 use Rattle.sums.proofs.Tables.{first-here}
 use Rattle.rows.specs.declared.Row.{Row}
 use Rattle.rows.specs.declared.Book.{Book}
+use Rattle.rows.specs.Rows.{withSerial, withRow, withNew, placeOf}
 use Rattle.book.specs.Sound.{soundB}
 use Rattle.book.specs.Facts.{Sound}
 use Rattle.dayfile.specs.declared.Record.{Record}
@@ -50,25 +51,25 @@ refused-step b r s n a after e ea eb = (λ j. record { answer = answer j; book =
 -- a row put anew, and one opened, with the serial moved on
 module _ (b : Book) (r : Record) (row : Row) (next : ℕ) (d : Done) where
   pub put-step : changeOf b r ≡ Put row → next ≡ nextSerial (b .serial)
-      → d ≡ record { answer = ofRecord r CarriedOut; book = record { count = b .count; serial = next; rows = set (b .rows) (r .account) row } }
+      → d ≡ record { answer = ofRecord r CarriedOut; book = withSerial (withRow b (r .account) row) next }
       → d ≡ stepOf b r
   put-step e n h =
       h
-      ∙ ap (λ (x : ℕ). record { answer = ofRecord r CarriedOut; book = record { count = b .count; serial = x; rows = set (b .rows) (r .account) row } }) n
+      ∙ ap (λ (x : ℕ). record { answer = ofRecord r CarriedOut; book = withSerial (withRow b (r .account) row) x }) n
       ∙ step-by b r (Put row) e
 
   pub open-step : changeOf b r ≡ Open row → next ≡ nextSerial (b .serial)
-      → d ≡ record { answer = ofRecord r (Opened (b .count)); book = record { count = b .count + 1; serial = next; rows = set (b .rows) (b .count) row } }
+      → d ≡ record { answer = ofRecord r (Opened (b .count)); book = withSerial (withNew b row) next }
       → d ≡ stepOf b r
   open-step e n h =
       h
-      ∙ ap (λ (x : ℕ). record { answer = ofRecord r (Opened (b .count)); book = record { count = b .count + 1; serial = x; rows = set (b .rows) (b .count) row } }) n
+      ∙ ap (λ (x : ℕ). record { answer = ofRecord r (Opened (b .count)); book = withSerial (withNew b row) x }) n
       ∙ step-by b r (Open row) e
 
 -- "1: the book isn't sound"
 pub unsound-step : (b : Book) (r : Record) → soundB b ≡ false → _≡_ {A = Done} (record { answer = nobody (Refused 1); book = b }) (stepOf b r)
 unfolding changeOf refusalOf pick
-unsound-step b r e = step-by b r (Refuse 1) (ap (λ n. unlessRefused n (effectOf (namedRow b r) r) Refuse) (first-here 1 (not (soundB b)) _ (ap not e)))
+unsound-step b r e = step-by b r (Refuse 1) (ap (λ n. unlessRefused n (effectOf (namedRow b r) (placeOf b (r .account)) r) Refuse) (first-here 1 (not (soundB b)) _ (ap not e)))
 
 module _ (b : Book) (s : List ℕ) (at : ℕ) where
   pub unsound-next : soundB b ≡ false → _≡_ {A = Next} (record { answer = nobody (Refused 1); book = b; place = at }) (nextOf b s at)

@@ -10,7 +10,7 @@ use Rattle.sums.specs.Table.{Given, NoneHolds}
 use Rattle.sums.proofs.Choices.{pick-yes, pick-no}
 use Rattle.sums.proofs.Tables.{given-first, first-given, none-gives-0, gives-0-none, first-upto}
 use Rattle.rows.specs.declared.Book.{Book}
-use Rattle.rows.specs.Rows.{openedRow}
+use Rattle.rows.specs.Rows.{placeOf, openedRow}
 use Rattle.dayfile.specs.declared.Record.{Record}
 use Rattle.rules.specs.declared.Change.the-variants.{Refuse, Put, Open}
 use Rattle.rules.specs.Refusals.{isOpening, namedRow, refusals, refusalOf}
@@ -22,15 +22,15 @@ use Rattle.desk.proofs.Doing.{step-by}
 
 module _ (b : Book) (r : Record) where
   -- the change, by the number that the table gives
-  change-at : (n : ℕ) → refusalOf b r ≡ n → changeOf b r ≡ unlessRefused n (effectOf (namedRow b r) r) Refuse
+  change-at : (n : ℕ) → refusalOf b r ≡ n → changeOf b r ≡ unlessRefused n (effectOf (namedRow b r) (placeOf b (r .account)) r) Refuse
   unfolding changeOf
-  change-at n e = ap (λ m. unlessRefused m (effectOf (namedRow b r) r) Refuse) e
+  change-at n e = ap (λ m. unlessRefused m (effectOf (namedRow b r) (placeOf b (r .account)) r) Refuse) e
 
   refused-as : (n : ℕ) → refusalOf b r ≡ suc n → stepOf b r ≡ doneBy b r (Refuse (suc n))
   refused-as n e = sym (step-by b r (Refuse (suc n)) (change-at (suc n) e))
 
   -- a record that no refusal meets does what its code says
-  pub passed-as : refusalOf b r ≡ 0 → stepOf b r ≡ doneBy b r (effectOf (namedRow b r) r)
+  pub passed-as : refusalOf b r ≡ 0 → stepOf b r ≡ doneBy b r (effectOf (namedRow b r) (placeOf b (r .account)) r)
   passed-as e = sym (step-by b r _ (change-at 0 e))
 
   -- the answer names the number that the table gives

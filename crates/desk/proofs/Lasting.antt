@@ -10,8 +10,8 @@ use borrow.Author.Tests.{leb-false}
 use Rattle.sums.specs.Choice.{pick}
 use Rattle.sums.proofs.Choices.{clash}
 use Rattle.rows.specs.declared.Book.{Book}
-use Rattle.rows.specs.Rows.{rowAt, openedRow}
-use Rattle.book.proofs.OneRow.{row-other, below}
+use Rattle.rows.specs.Rows.{places, rowAt, openedRow}
+use Rattle.rows.proofs.RowPut.{row-other, below}
 use Rattle.dayfile.specs.declared.Record.{Record}
 use Rattle.rules.specs.declared.Change.{Change}
 use Rattle.rules.specs.declared.Change.the-variants.{Refuse, Put, Open}
@@ -25,15 +25,15 @@ use Rattle.desk.proofs.Effect.{early-refusal, later-refusal, passed-as}
 
 module _ (b : Book) (r : Record) where
   -- "A refusal changes no amount"
-  pub refusal-keeps : 0 < refusalOf b r → (stepOf b r .book .rows ≡ b .rows) × (stepOf b r .book .count ≡ b .count)
+  pub refusal-keeps : 0 < refusalOf b r → ((i : ℕ) → rowAt (stepOf b r .book) i ≡ rowAt b i) × (stepOf b r .book .count ≡ b .count)
   refusal-keeps p = by (decLe (refusalOf b r) 3)
     where
-      by : Dec (refusalOf b r ≤ 3) → (stepOf b r .book .rows ≡ b .rows) × (stepOf b r .book .count ≡ b .count)
-      by (yes q) = let e = early-refusal b r p q in (ap (λ x. x .rows) e, ap (λ x. x .count) e)
-      by (no q) = let e = later-refusal b r (omega arith) in (ap (λ x. x .rows) e, ap (λ x. x .count) e)
+      by : Dec (refusalOf b r ≤ 3) → ((i : ℕ) → rowAt (stepOf b r .book) i ≡ rowAt b i) × (stepOf b r .book .count ≡ b .count)
+      by (yes q) = let e = early-refusal b r p q in (λ i. ap (λ x. rowAt x i) e, ap (λ x. x .count) e)
+      by (no q) = let e = later-refusal b r (omega arith) in (λ i. ap (λ x. rowAt x i) e, ap (λ x. x .count) e)
 
   -- where the record is an opening there is a number left
-  pub room-left : Passes b r → isOpening r ≡ true → b .count < length (b .rows)
+  pub room-left : Passes b r → isOpening r ≡ true → b .count < places b
   room-left p e = let n : leb 256 (b .count) ≡ false = rw e at (p .number) in omega (arith, leb-false 256 (b .count) n, p .sound .table)
 
   after : Bool → Book
@@ -54,7 +54,7 @@ module _ (b : Book) (r : Record) where
 
       by : (n : ℕ) → refusalOf b r ≡ n → rowAt (stepOf b r .book) i ≡ rowAt b i
       by zero e = ap (λ x. rowAt x i) (passed-book e) ∙ passing (passes-all b r e) (isOpening r) refl
-      by (suc n) e = ap (λ rows. rowAt (record { count = 0; serial = 0; rows = rows }) i) (refusal-keeps (omega (arith, e)) .0)
+      by (suc n) e = refusal-keeps (omega (arith, e)) .0 i
 
   -- "A retired account keeps its row and number": its row never changes again
   pub retired-stays : (i : ℕ) → i < b .count → rowAt b i .live ≡ false → rowAt (stepOf b r .book) i ≡ rowAt b i
@@ -63,7 +63,7 @@ module _ (b : Book) (r : Record) where
       by : Dec (i ≡ r .account) → Dec (refusalOf b r ≡ 0) → rowAt (stepOf b r .book) i ≡ rowAt b i
       by (no ne) q = others-stay i l ne
       by (yes e) (yes z) = clash (ap (λ k. rowAt b k .live) e ∙ passes-all b r z .live) dead
-      by (yes e) (no z) = ap (λ rows. rowAt (record { count = 0; serial = 0; rows = rows }) i) (refusal-keeps (omega arith) .0)
+      by (yes e) (no z) = refusal-keeps (omega arith) .0 i
 
   -- the number of accounts never falls
   pub count-stays : b .count ≤ stepOf b r .book .count

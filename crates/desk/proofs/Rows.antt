@@ -8,7 +8,7 @@ use Rattle.sums.proofs.Choices.{pick-yes, pick-no}
 use Rattle.rows.specs.declared.Row.{Row}
 use Rattle.rows.specs.declared.Book.{Book}
 use Rattle.rows.specs.Rows.{rowAt, openedRow, withRow, withNew}
-use Rattle.book.proofs.OneRow.{row-same, new, below}
+use Rattle.rows.proofs.RowPut.{row-same, new, below}
 use Rattle.dayfile.specs.declared.Record.{Record}
 use Rattle.rules.specs.Refusals.{isOpening, namedRow, refusalOf}
 use Rattle.rules.specs.Effects.{amended, movedOn}
@@ -72,7 +72,7 @@ module _ (b : Book) (r : Record) where
           → (rowAt (stepOf b r .book) i .sort ≡ rowAt b i .sort) × (rowAt (stepOf b r .book) i .tm ≡ rowAt b i .tm)
       by (no ne) q t o = same _ (others-stay b r i l ne) (refl, refl)
       by (yes e) (no z) t o =
-          same _ (ap (λ rows. rowAt (record { count = 0; serial = 0; rows = rows }) i) (refusal-keeps b r (omega arith) .0)) (refl, refl)
+          same _ (refusal-keeps b r (omega arith) .0 i) (refl, refl)
       by (yes e) (yes z) true o = same _ (open-keeps z o i l) (refl, refl)
       by (yes e) (yes z) false o =
           let k = amended-same (namedRow b r) r in

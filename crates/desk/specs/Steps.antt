@@ -3,6 +3,7 @@ use mathlib.Core.List.{List}
 use Prim.Native.Nat.{ℕ}
 use Rattle.sums.specs.Choice.{pick}
 use Rattle.rows.specs.declared.Book.{Book}
+use Rattle.rows.specs.Rows.{placeOf}
 use Rattle.book.specs.Sound.{soundB}
 use Rattle.dayfile.specs.declared.Record.{Record}
 use Rattle.dayfile.specs.declared.Found.{Found}
@@ -17,7 +18,7 @@ use Rattle.desk.specs.Answers.{nobody, answerOf}
 
 -- the answer and the book after a change that the record makes
 abbrev pub doneBy : Book → Record → Change → Done
-doneBy b r c = record { answer = answerOf (b .count) r c; book = bookAfter b (r .account) c }
+doneBy b r c = record { answer = answerOf (b .count) r c; book = bookAfter b (placeOf b (r .account)) c }
 
 -- "A record handed over as values is checked as one that was read"
 unfoldable pub stepOf : Book → Record → Done

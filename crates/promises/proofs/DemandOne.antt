@@ -49,7 +49,7 @@ a-number-of-the-table = number-most
 
 -- A refused record changes no amount and no account.
 pub a-refusal-changes-no-amount : (b : Book) (r : Record) → 0 < refusalOf b r
-    → (stepOf b r .book .rows ≡ b .rows) × (stepOf b r .book .count ≡ b .count)
+    → ((i : ℕ) → rowAt (stepOf b r .book) i ≡ rowAt b i) × (stepOf b r .book .count ≡ b .count)
 a-refusal-changes-no-amount = refusal-keeps
 
 -- Refusals 1 and 3 change nothing at all.

@@ -13,7 +13,7 @@ use Rattle.rows.specs.View.{isClientOf, ofClients, blocked}
 use Rattle.rows.specs.Rows.{rowAt, collateral, view, freshBook}
 use Rattle.book.specs.Sound.{soundB}
 use Rattle.book.specs.Facts.{Sound}
-use Rattle.book.proofs.BySort.{client-sort, client-tm}
+use Rattle.rows.proofs.BySort.{client-sort, client-tm}
 use Rattle.book.proofs.FreshSound.{fresh-sound}
 use Rattle.book.proofs.SoundTest.{sound→, sound←}
 use Rattle.dayfile.specs.declared.Record.{Record}

@@ -14,9 +14,9 @@ use Rattle.sums.proofs.Sums.{sum-eq}
 use Rattle.rows.specs.declared.Row.{Row}
 use Rattle.rows.specs.declared.Book.{Book}
 use Rattle.rows.specs.View.{View, isTM, isCP, isClientOf, ofClients, members, ownDeemed, deemedTM, needTM, needCM, need, blocked, deemed}
-use Rattle.rows.specs.Rows.{rowAt, openedRow, withLive, withReceived, withAllocated, withPledged, withMargin, plusKinds, lessKinds, view}
+use Rattle.rows.specs.Rows.{placeOf, rowAt, openedRow, withLive, withReceived, withAllocated, withPledged, withMargin, plusKinds, lessKinds, view}
 use Rattle.book.specs.Sound.{soundB}
-use Rattle.book.proofs.BySort.{need-client, need-CP, need-TM, need-CM, deemed-client, deemed-TM, deemed-CP, client-sort}
+use Rattle.rows.proofs.BySort.{need-client, need-CP, need-TM, need-CM, deemed-client, deemed-TM, deemed-CP, client-sort}
 use Rattle.book.proofs.SoundTest.{sound→}
 use Rattle.dayfile.specs.declared.Record.{Record}
 use Rattle.dayfile.specs.declared.Found.the-variants.{Whole}
@@ -105,7 +105,7 @@ module _ (b : Book) (r : Record) where
   carried-out-exactly-when = (carried-exactly b r, exactly-carried b r)
 
   -- What a record that is carried out does: the row named is put anew or one is opened, and the serial moves on.
-  pub carried-out-does : refusalOf b r ≡ 0 → stepOf b r ≡ doneBy b r (effectOf (namedRow b r) r)
+  pub carried-out-does : refusalOf b r ≡ 0 → stepOf b r ≡ doneBy b r (effectOf (namedRow b r) (placeOf b (r .account)) r)
   carried-out-does = passed-as b r
 
 -- Code by code, what a record that is carried out does. `row` is the row of the account named before it, `after i` is account i's

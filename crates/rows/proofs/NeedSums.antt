@@ -12,12 +12,12 @@ use borrow.Author.Tests.{eq-eqb, ne-eqb, lt-ltb, le-ltb}
 use Rattle.sums.specs.Sum.{sum, only}
 use Rattle.sums.proofs.Choices.{pick-no}
 use Rattle.sums.proofs.Sums.{sum-step, sum-most, only-most}
-use Rattle.rows.specs.declared.Row.{Row}
+use Rattle.rows.specs.declared.Account.{Account}
 use Rattle.rows.specs.declared.Book.{Book}
 use Rattle.rows.specs.View.{View, isCM, isTM, isClientOf, ownDeemed, deemedOf, freeOf, deemedTM, needTM, needCM, need, members, free}
-use Rattle.rows.specs.Rows.{ceiling, collateral, rowAt, view}
-use Rattle.rows.specs.Facts.{InRange}
-use Rattle.rows.specs.Inner.{Ranged, Slot, clientDue, memberDue, clientsBelow, membersBelow, underTM, underCM}
+use Rattle.rows.specs.Rows.{ceiling, rowAt, view}
+use Rattle.rows.specs.Under.{accountAt, clientDue, memberDue, underTM, underCM}
+use Rattle.rows.specs.Inner.{Ranged, Slot, clientsBelow, membersBelow}
 
 pub clients-none : (v : View) (t : ℕ) → clientsBelow v t 0 ≡ 0
 unfolding clientsBelow sum
@@ -32,30 +32,27 @@ unfolding membersBelow sum
 members-none v = refl
 
 -- a TM's clients come in by the sum of those below the number of accounts
-pub members-step : (b : Book) (n : ℕ)
-    → membersBelow (view b) (n + 1) ≡ membersBelow (view b) n + memberDue (rowAt b n) (clientsBelow (view b) n (b .count))
+pub members-step : (v : View) (n : ℕ) → membersBelow v (n + 1) ≡ membersBelow v n + memberDue (accountAt v n) (clientsBelow v n (v .count))
 unfolding membersBelow clientsBelow needTM
-members-step b n = sum-step n (members (view b) (deemedTM (view b)) (ownDeemed (view b)))
+members-step v n = sum-step n (members v (deemedTM v) (ownDeemed v))
 
-pub due-most : (r : Row) → InRange r → clientDue r ≤ ceiling
-due-most r h = omega (arith, only-most (eqb (r .sort) 2 && ltb (r .tm) 256) (deemedOf (r .margin) (collateral r)), h .margin)
+-- no more than the margin
+pub due-most : (a : Account) → clientDue a ≤ a .margin
+due-most a = omega (arith, only-most (eqb (a .sort) 2 && ltb (a .tm) 256) (deemedOf (a .margin) (a .collateral)))
 
--- of a row in range, no more than its margin twice and what its clients are deemed
-pub member-most : (r : Row) (d : ℕ) → InRange r → memberDue r d ≤ 2 * ceiling + d
-member-most r d h =
+-- no more than the margin twice and what is under it
+pub member-most : (a : Account) (d : ℕ) → memberDue a d ≤ 2 * a .margin + d
+member-most a d =
     omega (
       arith,
-      only-most (eqb (r .sort) 1) (deemedOf (r .margin + d) (collateral r)),
-      only-most (eqb (r .sort) 3) (deemedOf (r .margin) (collateral r)),
-      h .margin,
+      only-most (eqb (a .sort) 1) (deemedOf (a .margin + d) (a .collateral)),
+      only-most (eqb (a .sort) 3) (deemedOf (a .margin) (a .collateral)),
     )
 
--- what is deemed under the CM after a change stays far from a word's end
-pub under-cm-most : (row new tm : Row) (under owed all : ℕ) → InRange new → InRange tm
-    → under ≤ 2_560_000_000_000_000 → owed ≤ 2_560_000_000_000_000 → all ≤ 2_560_000_000_000_000
-    → underCM row new under tm owed all ≤ 8_000_000_000_000_000
-under-cm-most row new tm under owed all n t a b c =
-    omega (arith, member-most new under n, member-most tm (underTM row new owed) t, due-most new n)
+-- what is deemed under the CM after a change
+pub under-cm-most : (old new tm : Account) (under owed all : ℕ)
+    → underCM old new under tm owed all ≤ all + owed + under + 3 * new .margin + 2 * tm .margin
+under-cm-most old new tm under owed all = omega (arith, member-most new under, member-most tm (underTM old new owed), due-most new)
 
 module _ (b : Book) (h : Ranged b) where
   pub clients-most : (t n : ℕ) → n ≤ b .count → clientsBelow (view b) t n ≤ n * ceiling
@@ -72,19 +69,19 @@ module _ (b : Book) (h : Ranged b) where
   unfolding membersBelow clientsBelow needTM
   members-most n l =
       sum-most n 2_580_000_000_000_000 (members (view b) (deemedTM (view b)) (ownDeemed (view b)))
-      (λ i m. omega (arith, member-most (rowAt b i) (clientsBelow (view b) i (b .count)) (h .ranges i (omega arith)), clients-top i))
+      (λ i m. omega (arith, member-most (accountAt (view b) i) (clientsBelow (view b) i (b .count)), h .ranges i (omega arith) .margin, clients-top i))
 
   -- the sum behind the CM's need is below 2 ^ 60
   pub members-top : membersBelow (view b) (b .count) ≤ 660_480_000_000_000_000
   members-top = omega (arith, members-most (b .count) (omega arith), h .most)
 
-pub need-cm-sum : (b : Book) → needCM (view b) ≡ rowAt b 0 .margin + membersBelow (view b) (b .count)
+pub need-cm-sum : (v : View) → needCM v ≡ v .margin 0 + membersBelow v (v .count)
 unfolding needCM membersBelow
-need-cm-sum b = refl
+need-cm-sum v = refl
 
-pub need-tm-sum : (b : Book) (t : ℕ) → needTM (view b) t ≡ rowAt b t .margin + clientsBelow (view b) t (b .count)
+pub need-tm-sum : (v : View) (t : ℕ) → needTM v t ≡ v .margin t + clientsBelow v t (v .count)
 unfolding needTM clientsBelow
-need-tm-sum b t = refl
+need-tm-sum v t = refl
 
 -- "for a client or CP, its margin"
 pub need-own : (v : View) (i : ℕ) → 1 < v .sort i → need v i ≡ v .margin i
@@ -107,13 +104,13 @@ only-none : (t : Bool) → only t 0 ≡ 0
 only-none true = refl
 only-none false = refl
 
--- at each place of the table, what a client of it is deemed is what the row adds there
-pub due-at : (r : Row) (s t : ℕ) → t < 256 → Slot r s
-    → only (eqb (r .sort) 2 && eqb (r .tm) t) (deemedOf (r .margin) (collateral r)) ≡ only (eqb s t) (clientDue r)
+-- at each place of the table, what a client of it is deemed is what the account adds there
+pub due-at : (r : Account) (s t : ℕ) → t < 256 → Slot (r .tm) s
+    → only (eqb (r .sort) 2 && eqb (r .tm) t) (deemedOf (r .margin) (r .collateral)) ≡ only (eqb s t) (clientDue r)
 due-at r s t l slot = by (decLt (r .tm) 256)
   where
     x : ℕ
-    x = deemedOf (r .margin) (collateral r)
+    x = deemedOf (r .margin) (r .collateral)
 
     apart : (a : Bool) → only (a && eqb (r .tm) t) x ≡ only (eqb (r .tm) t) (only (a && true) x)
     apart true = refl

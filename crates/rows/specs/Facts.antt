@@ -15,6 +15,10 @@ pub record Shaped (v : View) : Type 0 where
   pub sorts : (i : ℕ) → 0 < i → i < v .count → (v .sort i ≡ 1) ⊎ ((v .sort i ≡ 2) ⊎ (v .sort i ≡ 3))
   pub tms : (i : ℕ) → i < v .count → v .sort i ≡ 2 → (v .tm i < i) × (v .sort (v .tm i) ≡ 1)
 
+-- the TM word of an account that is no client is 0
+abbrev pub NoTM : View → Type 0
+NoTM v = (i : ℕ) → i < v .count → (v .sort i ≡ 2 → ⊥) → v .tm i ≡ 0
+
 -- "The CM's need, defined below, is at most the CM's collateral."
 abbrev pub Covered : View → Type 0
 Covered v = needCM v ≤ v .collateral 0

@@ -2,4 +2,5 @@ pub mod View
 pub mod Rows
 pub mod Ranges
 pub mod Facts
+pub mod Under
 pub mod Inner

@@ -3,10 +3,11 @@ use mathlib.Core.Bool.{Bool, true, false, _&&_}
 use mathlib.Core.List.{_∷_}
 use Prim.Native.Nat.{ℕ, _+_, _-_}
 use lib.Dec.{ltb}
-use lib.ListN.{getD, set, replicate}
+use lib.ListN.{length, getD, set, replicate}
 use Rattle.sums.specs.Sum.{any}
 use Rattle.rows.specs.declared.Kinds.{Kinds}
 use Rattle.rows.specs.declared.Row.{Row}
+use Rattle.rows.specs.declared.Account.{Account}
 use Rattle.rows.specs.declared.Book.{Book}
 use Rattle.rows.specs.View.{View, isClientOf}
 
@@ -44,9 +45,17 @@ lessKinds a b = record {
   securities = a .securities - b .securities;
 }
 
--- account i's row
+-- the row at place i
 abbrev pub rowAt : Book → ℕ → Row
 rowAt b i = getD (b .rows) i noRow
+
+-- how many places the table has: 256, by its type
+abbrev pub places : Book → ℕ
+places b = length (b .rows)
+
+-- "A retired account keeps its row and number": the place of the row that an account's number names is the number itself
+abbrev pub placeOf : Book → ℕ → ℕ
+placeOf b number = number
 
 -- the kinds added up
 abbrev pub addedUp : Kinds → ℕ
@@ -55,6 +64,10 @@ addedUp k = k .cash + k .deposits + k .guarantees + k .securities
 -- "Collateral is the sum of the four allocated amounts and pledged."
 abbrev pub collateral : Row → ℕ
 collateral r = addedUp (r .allocated) + r .pledged
+
+-- what needs and the close-out see of a row
+abbrev pub accountOf : Row → Account
+accountOf r = record { sort = r .sort; tm = r .tm; margin = r .margin; collateral = collateral r }
 
 -- a book as needs and the close-out see it
 abbrev pub view : Book → View
@@ -91,13 +104,17 @@ withMargin r x = record { sort = r .sort; live = r .live; tm = r .tm; received =
 abbrev pub withRow : Book → ℕ → Row → Book
 withRow b i r = record { count = b .count; serial = b .serial; rows = set (b .rows) i r }
 
+-- the book with another next serial
+abbrev pub withSerial : Book → ℕ → Book
+withSerial b n = record { count = b .count; serial = n; rows = b .rows }
+
 -- the book with one account more
 abbrev pub withNew : Book → Row → Book
 withNew b r = record { count = b .count + 1; serial = b .serial; rows = set (b .rows) (b .count) r }
 
 -- the account's number was given, and it is live
 abbrev pub isLive : Book → ℕ → Bool
-isLive b i = ltb i (b .count) && rowAt b i .live
+isLive b number = ltb (placeOf b number) (b .count) && rowAt b (placeOf b number) .live
 
 -- account i is a live client of account t
 abbrev pub isLiveClientOf : Book → ℕ → ℕ → Bool

@@ -5,7 +5,8 @@ use lib.Dec.{eqb}
 use Rattle.sums.specs.Sum.{sum, only}
 use Rattle.sums.specs.Choice.{pick}
 
--- What needs and the close-out see of a book: how many accounts, and each one's sort, TM, collateral and margin.
+-- What needs and the close-out see of a book: how many accounts, and each one's sort, TM, collateral and margin, by the place of its row. A
+-- TM is told by its place.
 pub record View : Type 0 where
   pub count : ℕ
   pub sort : ℕ → ℕ

@@ -26,6 +26,14 @@ pub struct Row {
     pub margin: u64,
 }
 
+// What needs and the close-out see of an account.
+pub struct Account {
+    pub sort: u8,
+    pub tm: u16,
+    pub margin: u64,
+    pub collateral: u64,
+}
+
 pub struct Book {
     pub count: u16,
     pub serial: u16,

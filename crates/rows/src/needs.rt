@@ -4,9 +4,11 @@ ghost use Prim.Native.Nat.{_≤_, _<_};
 ghost use lib.ListN.{replicate};
 ghost use Rattle.sums.specs.Sum.{only};
 ghost use Rattle.rows.specs.View.{blockedOf, deemedOf, needCM, need};
-ghost use Rattle.rows.specs.Rows.{collateral, view};
-ghost use Rattle.rows.specs.Facts.{InRange};
-ghost use Rattle.rows.specs.Inner.{Ranged, Slot, Owed, Unders, clientDue, memberDue, membersBelow};
+ghost use Rattle.rows.specs.Rows.{collateral, accountOf, view};
+ghost use Rattle.rows.specs.Facts.{Shaped, InRange};
+ghost use Rattle.rows.specs.Under.{Under, clientDue, memberDue};
+ghost use Rattle.rows.specs.Inner.{Ranged, Slot, ClientSums, membersBelow};
+use super::Account;
 use super::Book;
 use super::Row;
 
@@ -40,29 +42,40 @@ pub fn collateral_of(r: Row) -> u64
     a.cash + a.deposits + a.guarantees + a.securities + r.pledged
 }
 
-pub(crate) fn client_due(r: Row) -> u64
+pub fn account_of(r: Row) -> Account
     requires { ⌜ InRange r ⌝ }
-    ensures { λ x. ⌜ x ≡ clientDue r ⌝ }
+    ensures { λ x. ⌜ x ≡ accountOf r ⌝ }
+{
+    Account {
+        sort: r.sort,
+        tm: r.tm,
+        margin: r.margin,
+        collateral: collateral_of(r),
+    }
+}
+
+pub(crate) fn client_due(a: Account) -> u64
+    ensures { λ x. ⌜ x ≡ clientDue a ⌝ }
 {
     only_if(
-        (r.sort == 2) & (r.tm < 256),
-        deemed(r.margin, collateral_of(r)),
+        (a.sort == 2) & (a.tm < 256),
+        deemed(a.margin, a.collateral),
     )
 }
 
-pub(crate) fn member_due(r: Row, d: u64) -> u64
-    requires { ⌜ InRange r × (d ≤ 2_570_000_000_000_000) ⌝ }
-    ensures { λ x. ⌜ x ≡ memberDue r d ⌝ }
+pub(crate) fn member_due(a: Account, d: u64) -> u64
+    requires { ⌜ (a .margin ≤ 100_000_000_000_000) × (d ≤ 30_000_000_000_000_000) ⌝ }
+    ensures { λ x. ⌜ x ≡ memberDue a d ⌝ }
 {
-    let c = collateral_of(r);
-    only_if(r.sort == 1, deemed(r.margin + d, c)) + only_if(r.sort == 3, deemed(r.margin, c))
+    only_if(a.sort == 1, deemed(a.margin + d, a.collateral))
+        + only_if(a.sort == 3, deemed(a.margin, a.collateral))
 }
 
-// The place of the TM that the row names; any place serves where the book has no such row.
-pub fn slot(r: Row) -> usize
-    ensures { λ x. ⌜ Slot r x ⌝ }
+// The place of a TM; any place serves where the table has no such row.
+pub fn slot(tm: u16) -> usize
+    ensures { λ x. ⌜ Slot tm x ⌝ }
 {
-    if r.tm < 256 { r.tm as usize } else { 0 }
+    if tm < 256 { tm as usize } else { 0 }
 }
 
 pub fn zeros() -> [u64; 256]
@@ -74,15 +87,16 @@ pub fn zeros() -> [u64; 256]
 // What each account's clients are deemed, together.
 fn client_sums(b: Book) -> [u64; 256]
     requires { ⌜ Ranged b ⌝ }
-    ensures { λ x. ⌜ Owed b x ⌝ }
+    ensures { λ x. ⌜ ClientSums (view b) x ⌝ }
 {
     let mut owed = zeros();
     let n = b.count as usize;
     let mut i: usize = 0;
     while i < n {
         let r = b.rows[i];
-        let t = slot(r);
-        let d = client_due(r);
+        let a = account_of(r);
+        let t = slot(a.tm);
+        let d = client_due(a);
         owed[t] = owed[t] + d;
         i += 1;
     }
@@ -91,14 +105,16 @@ fn client_sums(b: Book) -> [u64; 256]
 
 // What the TMs and CPs are deemed, together.
 fn members_sum(b: Book, owed: [u64; 256]) -> u64
-    requires { ⌜ Ranged b × Owed b owed ⌝ }
+    requires { ⌜ Ranged b × ClientSums (view b) owed ⌝ }
     ensures { λ x. ⌜ x ≡ membersBelow (view b) (b .count) ⌝ }
 {
     let mut sum: u64 = 0;
     let n = b.count as usize;
     let mut i: usize = 0;
     while i < n {
-        sum += member_due(b.rows[i], owed[i]);
+        let r = b.rows[i];
+        let a = account_of(r);
+        sum += member_due(a, owed[i]);
         i += 1;
     }
     sum
@@ -106,8 +122,8 @@ fn members_sum(b: Book, owed: [u64; 256]) -> u64
 
 // What is deemed directly under each account: at the CM's place what the TMs and CPs are, at any other what its clients are.
 pub fn unders(b: Book) -> [u64; 256]
-    requires { ⌜ Ranged b ⌝ }
-    ensures { λ x. ⌜ Unders b x ⌝ }
+    requires { ⌜ Ranged b × Shaped (view b) ⌝ }
+    ensures { λ x. ⌜ Under (view b) x ⌝ }
 {
     let mut owed = client_sums(b);
     let all = members_sum(b, owed);

@@ -23,9 +23,9 @@ module _ (row : Row) (count serial : ℕ) (seen : Seen) (r : Record) where
   unfolding changeBy
   refused n e h = ap Refuse e ∙ refused-by (refusalBy row count serial seen r) _ Refuse (λ z. h (e ∙ z))
 
-  pub passed : refusalBy row count serial seen r ≡ 0 → effectOf row r ≡ changeBy row count serial seen r
+  pub passed : refusalBy row count serial seen r ≡ 0 → effectOf row (r .account) r ≡ changeBy row count serial seen r
   unfolding changeBy
-  passed e = sym (ap (λ n. unlessRefused n (effectOf row r) Refuse) e)
+  passed e = sym (ap (λ n. unlessRefused n (effectOf row (r .account) r) Refuse) e)
 
   pub no-refusal-fault : refusalBy row count serial seen r ≡ 0 → faultOf r ≡ 0
   unfolding refusalBy faultOf

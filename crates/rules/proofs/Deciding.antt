@@ -5,7 +5,7 @@ use mathlib.Core.Logic.{_⊎_, inl, inr}
 use mathlib.Core.Path.{_≡_, refl, sym, ap, _∙_}
 use Prim.Native.Nat.{ℕ, zero, suc, _≤_, _<_}
 use native.Mathlib.Omega.{arith}
-use lib.ListN.{List·getD-eq-default}
+use Rattle.rows.proofs.RowPut.{row-far}
 use borrow.Author.Tests.{leb-false}
 use Rattle.sums.specs.Choice.{pick, unlessRefused}
 use Rattle.sums.specs.Table.{Line, first}
@@ -13,7 +13,7 @@ use Rattle.sums.proofs.Choices.{pick-no}
 use Rattle.sums.proofs.Tables.{From, first-from, first-later}
 use Rattle.rows.specs.declared.Row.{Row}
 use Rattle.rows.specs.declared.Book.{Book}
-use Rattle.rows.specs.Rows.{noRow, openedRow}
+use Rattle.rows.specs.Rows.{placeOf, noRow, openedRow}
 use Rattle.book.specs.Facts.{Sound}
 use Rattle.book.proofs.SoundTest.{sound←}
 use Rattle.dayfile.specs.declared.Record.{Record}
@@ -35,7 +35,7 @@ no-refusal : (b : Book) (r : Record) → isRefusal (changeOf b r) ≡ 0 → refu
 unfolding changeOf
 no-refusal b r = by (refusalOf b r)
   where
-    by : (n : ℕ) → isRefusal (unlessRefused n (effectOf (namedRow b r) r) Refuse) ≡ 0 → n ≡ 0
+    by : (n : ℕ) → isRefusal (unlessRefused n (effectOf (namedRow b r) (placeOf b (r .account)) r) Refuse) ≡ 0 → n ≡ 0
     by zero h = refl
     by (suc n) h = absurd (omega arith)
 
@@ -55,9 +55,9 @@ module _ (b : Book) (r : Record) (x : Row) where
   put-below e = let p = put-passes e in omega (arith, p .account, p .sound .most)
 
   -- what is made where no refusal applies
-  pub passes-as : Passes b r → refusalOf b r ≡ 0 → changeOf b r ≡ effectOf (namedRow b r) r
+  pub passes-as : Passes b r → refusalOf b r ≡ 0 → changeOf b r ≡ effectOf (namedRow b r) (placeOf b (r .account)) r
   unfolding changeOf
-  passes-as p e = ap (λ n. unlessRefused n (effectOf (namedRow b r) r) Refuse) e
+  passes-as p e = ap (λ n. unlessRefused n (effectOf (namedRow b r) (placeOf b (r .account)) r) Refuse) e
 
   -- an account is opened where there is a number left
   pub open-below : changeOf b r ≡ Open x → b .count < 256
@@ -73,7 +73,7 @@ module _ (b : Book) (r : Record) (x : Row) where
           apart : Open x ≡ Put (amended (namedRow b r) r) → ⊥
           apart h = let z : _≡_ {A = ℕ} 0 1 = cc in omega arith
 
-          other : isOpening r ≡ false → effectOf (namedRow b r) r ≡ Put (amended (namedRow b r) r)
+          other : isOpening r ≡ false → effectOf (namedRow b r) (placeOf b (r .account)) r ≡ Put (amended (namedRow b r) r)
           other h = pick-no (isOpening r) _ _ h
 
 -- the row that is put, or opened
@@ -95,7 +95,7 @@ module _ (b : Book) (r : Record) (x : Row) where
       by false h = let z : _≡_ {A = ℕ} 0 1 = cc in absurd (omega arith)
 
 pub named-beyond : (b : Book) (r : Record) → Sound b → 256 ≤ r .account → noRow ≡ namedRow b r
-named-beyond b r s l = sym (List·getD-eq-default (b .rows) noRow (omega (arith, s .table)))
+named-beyond b r s l = sym (row-far b (r .account) (omega (arith, s .table)))
 
 -- a sound book never meets refusal 1
 pub never-one : (b : Book) (r : Record) → Sound b → refusalOf b r ≡ 1 → ⊥
@@ -135,7 +135,7 @@ pub refuse-number : (b : Book) (r : Record) (n : ℕ) → changeOf b r ≡ Refus
 unfolding changeOf pick
 refuse-number b r n = by (refusalOf b r)
   where
-    by : (m : ℕ) → unlessRefused m (effectOf (namedRow b r) r) Refuse ≡ Refuse n → m ≡ n
+    by : (m : ℕ) → unlessRefused m (effectOf (namedRow b r) (placeOf b (r .account)) r) Refuse ≡ Refuse n → m ≡ n
     by zero h = absurd (passes-not (isOpening r) h)
       where
         passes-not : (t : Bool) → pick t (Open (openedRow (r .code) (r .account))) (Put (amended (namedRow b r) r)) ≡ Refuse n → ⊥

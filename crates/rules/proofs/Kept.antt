@@ -1,29 +1,33 @@
 -- What is seen without the table is right where the list of what is deemed under each account is kept, and a change keeps it.
 use mathlib.Core.Bool.{Bool, true, false, not, _&&_}
 use mathlib.Core.List.{List}
-use mathlib.Core.Path.{_≡_, refl, sym, ap, _∙_}
+use mathlib.Core.Path.{_≡_, refl, sym, ap, subst, _∙_}
 use Prim.Native.Nat.{ℕ, _+_, _≤_, _<_}
 use native.Mathlib.Omega.{arith}
 use lib.Dec.{ltb, eqb}
-use lib.ListN.{length, getD, set}
+use lib.ListN.{getD, set}
 use borrow.Author.Tests.{eq-eqb, ne-eqb}
 use Rattle.sums.specs.Sum.{only}
 use Rattle.sums.specs.Choice.{pick}
 use Rattle.sums.proofs.Choices.{and-join, clash}
 use Rattle.rows.specs.declared.Row.{Row}
+use Rattle.rows.specs.declared.Account.{Account}
 use Rattle.rows.specs.declared.Book.{Book}
 use Rattle.rows.specs.View.{freeOf, blockedOf, needCM}
-use Rattle.rows.specs.Rows.{ceiling, rowAt, collateral, view, withMargin, withNew, hasLiveClient}
+use Rattle.rows.specs.Rows.{ceiling, rowAt, places, collateral, accountOf, view, withMargin, withRow, withNew, hasLiveClient}
 use Rattle.rows.specs.Facts.{InRange}
-use Rattle.rows.specs.Inner.{Slot, underTM, underCM}
+use Rattle.rows.specs.Under.{Under, accountAt, atMargin, underTM, underCM}
+use Rattle.rows.specs.Inner.{Slot}
+use Rattle.rows.proofs.BySort.{Sort, cm, tm, client, cp, sort-of}
+use Rattle.rows.proofs.RowPut.{row-same, row-other, below, new}
 use Rattle.book.specs.Facts.{Sound}
-use Rattle.book.proofs.OneRow.{row-same, row-other, below, new, row-opened}
+use Rattle.book.proofs.OneRow.{row-opened}
+use Rattle.book.proofs.Differences.{RowChanged, row-changed}
 use Rattle.book.proofs.Opens.{Opened}
 use Rattle.book.proofs.LiveClients.{no-TM-none-live}
 use Rattle.book.proofs.SoundAfter.{in-table}
-use Rattle.book.proofs.KeptSums.{KeptUnder, Sort, cm, tm, client, cp, sort-of}
-use Rattle.book.proofs.KeptPut.{cm-after, kept-put}
-use Rattle.book.proofs.KeptOpen.{kept-open}
+use Rattle.book.proofs.UnderPut.{cm-after, under-put}
+use Rattle.book.proofs.UnderOpen.{under-open}
 use Rattle.dayfile.specs.declared.Record.{Record}
 use Rattle.rules.specs.declared.Seen.{Seen}
 use Rattle.rules.specs.declared.Change.the-variants.{Put, Open}
@@ -41,23 +45,29 @@ left-zero : (n : ℕ) → 0 + n ≡ n
 left-zero n = omega arith
 
 -- what is seen, part by part
-pub seen-made : (row : Row) (under : ℕ) (its : Row) (owed : ℕ) (top : Row) (all : ℕ) (t : Bool) (r : Record) (m : ℕ) (new : Row) (x y z c f : ℕ)
-    → m ≡ blockedOf (r .margin) ceiling → new ≡ withMargin row m → x ≡ only (eqb (row .sort) 0) m → y ≡ only (not (eqb (row .sort) 0)) (top .margin)
-    → z ≡ underCM row new under its owed all → c ≡ collateral top → f ≡ freeOf (row .margin + under) (collateral row)
-    → _≡_ {A = Seen} (record { free = f; over = ltb c (x + y + z); tied = t }) (seenWith row under its owed top all t r)
-seen-made row under its owed top all t r m new x y z c f em en ex ey ez ec ef = rw (ef, ec, ez, ey, ex, en, em)
+pub seen-made : (a : Account) (under : ℕ) (its : Account) (owed : ℕ) (top : Account) (all : ℕ) (t : Bool) (r : Record) (m x y z f : ℕ)
+    → m ≡ blockedOf (r .margin) ceiling → x ≡ only (eqb (a .sort) 0) m → y ≡ only (not (eqb (a .sort) 0)) (top .margin)
+    → z ≡ underCM a (atMargin a m) under its owed all → f ≡ freeOf (a .margin + under) (a .collateral)
+    → _≡_ {A = Seen} (record { free = f; over = ltb (top .collateral) (x + y + z); tied = t }) (seenWith a under its owed top all t r)
+seen-made a under its owed top all t r m x y z f em ex ey ez ef = rw (ef, ez, ey, ex, em)
 
 -- only a TM has clients to look for
 pub tied-none : (b : Book) (r : Record) → Sound b → (eqb (r .code) 11 && eqb (namedRow b r .sort) 1) ≡ false → r .code ≡ 11 → false ≡ hasLiveClient b (r .account)
 tied-none b r s f e =
     sym (no-TM-none-live b (r .account) s (λ q. clash (and-join (eq-eqb (r .code) 11 e) (eq-eqb (namedRow b r .sort) 1 q)) f))
 
-module _ (b : Book) (s : Sound b) (owed : List ℕ) (h : KeptUnder b owed) (r : Record) (p : ℕ) (sl : Slot (namedRow b r) p) where
+module _ (b : Book) (s : Sound b) (owed : List ℕ) (h : Under (view b) owed) (r : Record) (p : ℕ) (sl : Slot (namedRow b r .tm) p) where
   abbrev row : Row
   row = namedRow b r
 
-  top-margin : r .account < b .count → topMargin row (rowAt b 0) (r .margin) ≡ rowAt (newMargin b r) 0 .margin
-  top-margin l = by (sort-of b (s .shaped) (r .account) l)
+  abbrev a : Account
+  a = accountOf (namedRow b r)
+
+  abbrev top : Account
+  top = accountOf (rowAt b 0)
+
+  top-margin : r .account < b .count → topMargin a top (r .margin) ≡ rowAt (newMargin b r) 0 .margin
+  top-margin l = by (sort-of (view b) (s .shaped) (r .account) l)
     where
       there : r .account ≡ 0 → rowAt (newMargin b r) 0 .margin ≡ r .margin
       there e = ap (λ j. rowAt (newMargin b r) j .margin) (sym e) ∙ ap (λ x. x .margin) (row-same b (r .account) (withMargin row (r .margin)) (in-table b s (r .account) l))
@@ -65,33 +75,44 @@ module _ (b : Book) (s : Sound b) (owed : List ℕ) (h : KeptUnder b owed) (r : 
       other : 0 < r .account → rowAt (newMargin b r) 0 .margin ≡ rowAt b 0 .margin
       other q = ap (λ x. x .margin) (row-other b (r .account) 0 (withMargin row (r .margin)) (λ e. omega arith))
 
-      set-here : row .sort ≡ 0 → topMargin row (rowAt b 0) (r .margin) ≡ r .margin
+      set-here : row .sort ≡ 0 → topMargin a top (r .margin) ≡ r .margin
       set-here c = ap (λ z. only z (r .margin) + only (not z) (rowAt b 0 .margin)) (eq-eqb (row .sort) 0 c) ∙ right-zero (r .margin)
 
-      left-there : (row .sort ≡ 0 → ⊥) → topMargin row (rowAt b 0) (r .margin) ≡ rowAt b 0 .margin
+      left-there : (row .sort ≡ 0 → ⊥) → topMargin a top (r .margin) ≡ rowAt b 0 .margin
       left-there ne = ap (λ z. only z (r .margin) + only (not z) (rowAt b 0 .margin)) (ne-eqb (row .sort) 0 ne) ∙ left-zero (rowAt b 0 .margin)
 
-      by : Sort b (r .account) → topMargin row (rowAt b 0) (r .margin) ≡ rowAt (newMargin b r) 0 .margin
+      by : Sort (view b) (r .account) → topMargin a top (r .margin) ≡ rowAt (newMargin b r) 0 .margin
       by (cm e c) = set-here c ∙ sym (there e)
       by (tm q c) = left-there (λ e. omega arith) ∙ sym (other q)
       by (client q c) = left-there (λ e. omega arith) ∙ sym (other q)
       by (cp q c) = left-there (λ e. omega arith) ∙ sym (other q)
 
   abbrev y : ℕ → ℕ
-  y m = underCM row (withMargin row m) (getD owed (r .account) 0) (rowAt b p) (getD owed p 0) (getD owed 0 0)
+  y m = underCM a (atMargin a m) (getD owed (r .account) 0) (accountOf (rowAt b p)) (getD owed p 0) (getD owed 0 0)
+
+  changed : r .account < b .count → RowChanged (view b) (view (newMargin b r)) (r .account)
+  changed l = row-changed b (r .account) (withMargin row (r .margin)) (in-table b s (r .account) l) l refl refl
+
+  is-new : r .account < b .count → accountAt (view (newMargin b r)) (r .account) ≡ atMargin a (r .margin)
+  is-new l = ap accountOf (row-same b (r .account) (withMargin row (r .margin)) (in-table b s (r .account) l))
+
+  need-after : r .account < b .count → needCM (view (newMargin b r)) ≡ rowAt (newMargin b r) 0 .margin + y (r .margin)
+  need-after l =
+      cm-after (view b) (view (newMargin b r)) (r .account) (changed l) (s .shaped) (s .no-tm) (s .most) owed h p sl
+      ∙ ap (λ x. rowAt (newMargin b r) 0 .margin + underCM a x (getD owed (r .account) 0) (accountOf (rowAt b p)) (getD owed p 0) (getD owed 0 0)) (is-new l)
 
   covers : r .account < b .count → r .margin ≤ ceiling
-      → ltb (collateral (rowAt b 0)) (topMargin row (rowAt b 0) (blockedOf (r .margin) ceiling) + y (blockedOf (r .margin) ceiling))
+      → ltb (collateral (rowAt b 0)) (topMargin a top (blockedOf (r .margin) ceiling) + y (blockedOf (r .margin) ceiling))
       ≡ needOver (view (newMargin b r))
   covers l m =
       let e : blockedOf (r .margin) ceiling ≡ r .margin = omega arith in
-      ap (λ z. ltb (collateral (rowAt b 0)) (topMargin row (rowAt b 0) z + y z)) e
+      ap (λ z. ltb (collateral (rowAt b 0)) (topMargin a top z + y z)) e
       ∙ ap (λ z. ltb (collateral (rowAt b 0)) (z + y (r .margin))) (top-margin l)
-      ∙ ap (ltb (collateral (rowAt b 0))) (sym (cm-after b s owed h (r .account) l (withMargin row (r .margin)) refl refl p sl))
+      ∙ ap (ltb (collateral (rowAt b 0))) (sym (need-after l))
       ∙ ap (λ z. ltb z (needCM (view (newMargin b r)))) (sym (same-collateral b r s l))
 
   pub sees-kept : (t : Bool) → (r .code ≡ 11 → t ≡ hasLiveClient b (r .account))
-      → SeenOf b r (seenWith row (getD owed (r .account) 0) (rowAt b p) (getD owed p 0) (rowAt b 0) (getD owed 0 0) t r)
+      → SeenOf b r (seenWith a (getD owed (r .account) 0) (accountOf (rowAt b p)) (getD owed p 0) top (getD owed 0 0) t r)
   sees-kept t k = record {
     free-kinds = λ e l. sym (ap (λ n. freeOf n (collateral row)) (h .each (r .account) l));
     free-pledge = λ e l. sym (ap (λ n. freeOf n (collateral row)) (h .each (r .account) l));
@@ -122,23 +143,26 @@ module _ (b : Book) (r : Record) (x : Row) (s : Sound b) (e : changeOf b r ≡ P
       let t : Sound (bookAfter b (r .account) (Put x)) = rw e at (change-sound b r s) in
       rw (row-same b (r .account) x (in-table b s (r .account) l)) at (t .ranges (r .account) l)
 
-  pub put-keeps : (owed : List ℕ) → KeptUnder b owed → (p : ℕ) → Slot (namedRow b r) p → (n : ℕ)
-      → KeptUnder (record { count = b .count; serial = n; rows = set (b .rows) (r .account) x })
-      (set (set owed p (underTM (namedRow b r) x (getD owed p 0))) 0
-      (underCM (namedRow b r) x (getD owed (r .account) 0) (rowAt b p) (getD owed p 0) (getD owed 0 0)))
-  put-keeps owed h p sl n =
+  pub put-keeps : (owed : List ℕ) → Under (view b) owed → (p : ℕ) → Slot (namedRow b r .tm) p
+      → Under (view (withRow b (r .account) x))
+      (set (set owed p (underTM (accountOf (namedRow b r)) (accountOf x) (getD owed p 0))) 0
+      (underCM (accountOf (namedRow b r)) (accountOf x) (getD owed (r .account) 0) (accountOf (rowAt b p)) (getD owed p 0) (getD owed 0 0)))
+  put-keeps owed h p sl =
       let l = put-passes b r x e .account in
       let a = amended-same (namedRow b r) r in
       let q = made-put b r x e in
-      let k = kept-put b s owed h (r .account) l x (ap (λ z. z .sort) q ∙ a .0) (ap (λ z. z .tm) q ∙ a .1) p sl in
-      record { size = k .size; each = k .each; beyond = k .beyond }
+      let o = row-changed b (r .account) x (in-table b s (r .account) l) l (ap (λ z. z .sort) q ∙ a .0) (ap (λ z. z .tm) q ∙ a .1) in
+      let is-new : accountAt (view (withRow b (r .account) x)) (r .account) ≡ accountOf x = ap accountOf (row-same b (r .account) x (in-table b s (r .account) l)) in
+      subst (λ (y : Account). Under (view (withRow b (r .account) x)) (set (set owed p (underTM (accountOf (namedRow b r)) y (getD owed p 0))) 0
+      (underCM (accountOf (namedRow b r)) y (getD owed (r .account) 0) (accountOf (rowAt b p)) (getD owed p 0) (getD owed 0 0)))) is-new
+      (under-put (view b) (view (withRow b (r .account) x)) (r .account) o (s .shaped) (s .no-tm) (s .most) owed h p sl)
 
 -- an account opened
 module _ (b : Book) (r : Record) (x : Row) (s : Sound b) (e : changeOf b r ≡ Open x) where
   after : Sound (bookAfter b (r .account) (Open x))
   after = rw e at (change-sound b r s)
 
-  room : b .count < length (b .rows)
+  room : b .count < places b
   room = omega (arith, open-below b r x e, s .table)
 
   its-tm : x .sort ≡ 2 → (x .tm < b .count) × (rowAt b (x .tm) .sort ≡ 1)
@@ -152,6 +176,5 @@ module _ (b : Book) (r : Record) (x : Row) (s : Sound b) (e : changeOf b r ≡ O
       row-opened b x room (ap (λ z. z .margin) (made-open b r x e))
       (rw (new b x room) at (after .shaped .sorts (b .count) (s .shaped .some) (omega arith))) its-tm
 
-  pub open-keeps : (owed : List ℕ) → KeptUnder b owed → (n : ℕ)
-      → KeptUnder (record { count = b .count + 1; serial = n; rows = set (b .rows) (b .count) x }) owed
-  open-keeps owed h n = let k = kept-open b s owed h x opened in record { size = k .size; each = k .each; beyond = k .beyond }
+  pub open-keeps : (owed : List ℕ) → Under (view b) owed → Under (view (withNew b x)) owed
+  open-keeps owed h = under-open (view b) (view (withNew b x)) opened (s .shaped) owed h

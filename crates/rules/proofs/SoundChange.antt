@@ -13,7 +13,7 @@ use Rattle.rows.specs.declared.Row.{Row}
 use Rattle.rows.specs.declared.Book.{Book}
 use Rattle.rows.specs.View.{free}
 use Rattle.rows.specs.Facts.{KindsWithin}
-use Rattle.rows.specs.Rows.{ceiling, addedUp, view, openedRow, withRow, withNew, plusKinds, lessKinds, hasLiveClient}
+use Rattle.rows.specs.Rows.{placeOf, ceiling, addedUp, view, openedRow, withRow, withNew, plusKinds, lessKinds, hasLiveClient}
 use Rattle.rows.specs.Ranges.{kindsCapped, kindsWithin, noAmounts}
 use Rattle.book.specs.Facts.{Sound}
 use Rattle.book.proofs.RowFacts.{within→, capped→}
@@ -139,16 +139,16 @@ module _ (b : Book) (r : Record) (p : Passes b r) where
       let h : (not (eqb (row .sort) 1) || false) ≡ false = rw e at (p .sort) in
       opens (inr (inl e)) n (λ q. eqb-true _ _ (not-false _ (or-fails _ _ h .0))) (λ q. absurd (q e))
 
-  putting : isOpening r ≡ false → Sound (withRow b (r .account) (amended row r)) → Sound (rowsAfter b r (effectOf row r))
+  putting : isOpening r ≡ false → Sound (withRow b (r .account) (amended row r)) → Sound (rowsAfter b r (effectOf row (r .account) r))
   putting e s = rw (pick-no (isOpening r) (Open (openedRow (r .code) (r .account))) (Put (amended row r)) e) s
 
-  opening : isOpening r ≡ true → Sound (withNew b (openedRow (r .code) (r .account))) → Sound (rowsAfter b r (effectOf row r))
+  opening : isOpening r ≡ true → Sound (withNew b (openedRow (r .code) (r .account))) → Sound (rowsAfter b r (effectOf row (r .account) r))
   opening e s = rw (pick-yes (isOpening r) (Open (openedRow (r .code) (r .account))) (Put (amended row r)) e) s
 
-  pub passing-sound : Sound (rowsAfter b r (effectOf row r))
+  pub passing-sound : Sound (rowsAfter b r (effectOf row (r .account) r))
   passing-sound = by (which (r .code) (p .good .known))
     where
-      by : Code (r .code) → Sound (rowsAfter b r (effectOf row r))
+      by : Code (r .code) → Sound (rowsAfter b r (effectOf row (r .account) r))
       by (openTM e) = opening (rw e) (opens-TM e)
       by (openClient e) = opening (rw e) (opens-client e)
       by (openCP e) = opening (rw e) (opens-CP e)
@@ -176,6 +176,6 @@ pub change-sound : (b : Book) (r : Record) → Sound b → Sound (bookAfter b (r
 unfolding changeOf
 change-sound b r s = moved-sound b r (changeOf b r) s (by (refusalOf b r) refl)
   where
-    by : (n : ℕ) → refusalOf b r ≡ n → Sound (rowsAfter b r (unlessRefused n (effectOf (namedRow b r) r) Refuse))
+    by : (n : ℕ) → refusalOf b r ≡ n → Sound (rowsAfter b r (unlessRefused n (effectOf (namedRow b r) (placeOf b (r .account)) r) Refuse))
     by zero e = passing-sound b r (passes-all b r e)
     by (suc n) e = s

@@ -2,6 +2,7 @@
 use mathlib.Core.Bool.{Bool, false, not, _||_}
 use mathlib.Core.Path.{_≡_, sym, ap, _∙_}
 use Prim.Native.Nat.{ℕ, _<_}
+use lib.ListN.{drop}
 use lib.Dec.{ltb, eqb}
 use borrow.Author.Tests.{ltb-true, eqb-true, not-false}
 use Rattle.sums.specs.Choice.{unlessRefused}
@@ -11,7 +12,7 @@ use Rattle.sums.proofs.Tables.{first-later, first-on, first-beyond}
 use Rattle.rows.specs.declared.Row.{Row}
 use Rattle.rows.specs.declared.Book.{Book}
 use Rattle.rows.specs.View.{free}
-use Rattle.rows.specs.Rows.{addedUp, view, hasLiveClient, isLive}
+use Rattle.rows.specs.Rows.{placeOf, addedUp, view, hasLiveClient, isLive}
 use Rattle.rows.specs.Ranges.{noAmounts}
 use Rattle.book.specs.Facts.{Sound}
 use Rattle.book.proofs.SoundTest.{sound←}
@@ -22,7 +23,7 @@ use Rattle.rules.specs.declared.Change.the-variants.{Refuse}
 use Rattle.rules.specs.declared.Seen.{Seen}
 use Rattle.rules.specs.Refusals.{namedRow, beyondFree, needOver, newMargin, refusalOf}
 use Rattle.rules.specs.Effects.{effectOf, changeOf}
-use Rattle.rules.specs.Inner.{AmountsIn, SeenOf, from7, from12, refusalBy, changeBy}
+use Rattle.rules.specs.Inner.{AmountsIn, SeenOf, from7, refusalBy, changeBy}
 use Rattle.dayfile.proofs.Good.{good, three-numbered}
 use Rattle.rules.proofs.Faults.{amounts-in}
 
@@ -40,7 +41,7 @@ toSee b r = record { free = free (view b) (r .account); over = needOver (view (n
 
 module _ (b : Book) (s : Sound b) (r : Record) (seen : Seen) (w : SeenOf b r seen) where
   -- lines 12 to 14, where the account is live and the amounts are in range
-  last-lines : r .account < b .count → AmountsIn r → first (from12 (namedRow b r) seen r) ≡ first (from12 (namedRow b r) (toSee b r) r)
+  last-lines : r .account < b .count → AmountsIn r → first (drop 5 (from7 (namedRow b r) (b .count) seen r)) ≡ first (drop 5 (from7 (namedRow b r) (b .count) (toSee b r) r))
   last-lines l a =
       rw (
         free-same r (seen .free) (free (view b) (r .account)) (λ e. w .free-kinds e l) (λ e. w .free-pledge e l),
@@ -63,7 +64,7 @@ module _ (b : Book) (s : Sound b) (r : Record) (seen : Seen) (w : SeenOf b r see
 
   pub change-seen : changeBy (namedRow b r) (b .count) (b .serial) seen r ≡ changeOf b r
   unfolding changeBy changeOf
-  change-seen = ap (λ n. unlessRefused n (effectOf (namedRow b r) r) Refuse) refusal-seen
+  change-seen = ap (λ n. unlessRefused n (effectOf (namedRow b r) (placeOf b (r .account)) r) Refuse) refusal-seen
 
 -- the verdict of the code is the change of the rules
 pub verdict-is : (b : Book) → Sound b → (r : Record) (row : Row) (seen : Seen) (c : Change)

@@ -5,7 +5,7 @@ use lib.Dec.{leb, eqb}
 use Rattle.sums.specs.Choice.{pick, unlessRefused}
 use Rattle.rows.specs.declared.Row.{Row}
 use Rattle.rows.specs.declared.Book.{Book}
-use Rattle.rows.specs.Rows.{openedRow, withLive, withReceived, withAllocated, withPledged, withMargin, withRow, withNew, plusKinds, lessKinds}
+use Rattle.rows.specs.Rows.{openedRow, withLive, withReceived, withAllocated, withPledged, withMargin, placeOf, withSerial, withRow, withNew, plusKinds, lessKinds}
 use Rattle.dayfile.specs.declared.Record.{Record}
 use Rattle.rules.specs.declared.Change.{Change}
 use Rattle.rules.specs.declared.Change.the-variants.{Refuse, Put, Open}
@@ -24,13 +24,14 @@ amended row r =
     (pick (eqb (r .code) 10) (withMargin row (r .margin))
     (withLive row false)))))))  -- 11
 
--- what a record that no refusal meets does: an opened row's TM is the account named (0 for a TM and a CP)
-abbrev pub effectOf : Row → Record → Change
-effectOf row r = pick (isOpening r) (Open (openedRow (r .code) (r .account))) (Put (amended row r))
+-- what a record that no refusal meets does, whose account's row stands at a place: an opened row's TM is the account named (0 for a TM
+-- and a CP), told by that place
+abbrev pub effectOf : Row → ℕ → Record → Change
+effectOf row place r = pick (isOpening r) (Open (openedRow (r .code) place)) (Put (amended row r))
 
 -- what a record does: its refusal, or its effect
 unfoldable pub changeOf : Book → Record → Change
-changeOf b r = unlessRefused (refusalOf b r) (effectOf (namedRow b r) r) Refuse
+changeOf b r = unlessRefused (refusalOf b r) (effectOf (namedRow b r) (placeOf b (r .account)) r) Refuse
 
 -- "the serial after 65,535 is 0"
 abbrev pub nextSerial : ℕ → ℕ
@@ -38,11 +39,11 @@ nextSerial serial = (serial + 1) % 65536
 
 -- "which moves on by one as it does for a record carried out"
 abbrev pub movedOn : Book → Book
-movedOn b = record { count = b .count; serial = nextSerial (b .serial); rows = b .rows }
+movedOn b = withSerial b (nextSerial (b .serial))
 
 -- "Refusals 1, 2 and 3 change nothing. Refusals 4 to 14 change the serial only"; "An instruction that passes changes one row
 -- and the serial, no more, except that an opening also adds one to the number of accounts"
 abbrev pub bookAfter : Book → ℕ → Change → Book
-bookAfter b account (Refuse n) = pick (leb n 3) b (movedOn b)
-bookAfter b account (Put row) = movedOn (withRow b account row)
-bookAfter b account (Open row) = movedOn (withNew b row)
+bookAfter b place (Refuse n) = pick (leb n 3) b (movedOn b)
+bookAfter b place (Put row) = movedOn (withRow b place row)
+bookAfter b place (Open row) = movedOn (withNew b row)

@@ -8,12 +8,13 @@ use Rattle.sums.specs.Sum.{only}
 use Rattle.sums.specs.Choice.{unlessRefused}
 use Rattle.sums.specs.Table.{Line, _when_, first}
 use Rattle.rows.specs.declared.Row.{Row}
+use Rattle.rows.specs.declared.Account.{Account}
 use Rattle.rows.specs.declared.Book.{Book}
 use Rattle.rows.specs.View.{blockedOf, freeOf, free}
-use Rattle.rows.specs.Rows.{ceiling, collateral, view, withMargin, hasLiveClient}
+use Rattle.rows.specs.Rows.{ceiling, placeOf, view, hasLiveClient}
 use Rattle.rows.specs.Facts.{KindsWithin}
 use Rattle.rows.specs.Ranges.{ceilings}
-use Rattle.rows.specs.Inner.{underCM}
+use Rattle.rows.specs.Under.{atMargin, underCM}
 use Rattle.dayfile.specs.declared.Record.{Record}
 use Rattle.dayfile.specs.Records.{faults}
 use Rattle.rules.specs.declared.Change.{Change}
@@ -28,31 +29,20 @@ pub record AmountsIn (r : Record) : Type 0 where
   pub pledged : r .pledged ≤ ceiling
   pub margin : r .margin ≤ ceiling
 
--- the table from 3 on, by the row named and what was seen of the others, line by line
-abbrev pub from14 : Row → Seen → Record → List Line
-from14 row seen r = (14 when notRetirable row (seen .tied) r) ∷ []
-
-abbrev pub from13 : Row → Seen → Record → List Line
-from13 row seen r = (13 when losesCover (seen .over) r) ∷ from14 row seen r
-
-abbrev pub from12 : Row → Seen → Record → List Line
-from12 row seen r = (12 when beyondFree (seen .free) r) ∷ from13 row seen r
-
-abbrev pub from11 : Row → Seen → Record → List Line
-from11 row seen r = (11 when tooMuch row r) ∷ from12 row seen r
-
-abbrev pub from10 : Row → Seen → Record → List Line
-from10 row seen r = (10 when pastCeiling row r) ∷ from11 row seen r
-
-abbrev pub from9 : Row → ℕ → Seen → Record → List Line
-from9 row count seen r = (9 when noNumberLeft count r) ∷ from10 row seen r
-
-abbrev pub from8 : Row → ℕ → Seen → Record → List Line
-from8 row count seen r = (8 when wrongSort row r) ∷ from9 row count seen r
-
+-- the table from 7 on, by the row named and what was seen of the others
 abbrev pub from7 : Row → ℕ → Seen → Record → List Line
-from7 row count seen r = (7 when not (ltb (r .account) count && row .live)) ∷ from8 row count seen r
+from7 row count seen r =
+    (7 when not (ltb (r .account) count && row .live))
+    ∷ (8 when wrongSort row r)
+    ∷ (9 when noNumberLeft count r)
+    ∷ (10 when pastCeiling row r)
+    ∷ (11 when tooMuch row r)
+    ∷ (12 when beyondFree (seen .free) r)
+    ∷ (13 when losesCover (seen .over) r)
+    ∷ (14 when notRetirable row (seen .tied) r)
+    ∷ []
 
+-- the table from 3 on
 abbrev pub refusalsBy : Row → ℕ → ℕ → Seen → Record → List Line
 refusalsBy row count serial seen r = (3 when not (eqb (r .serial) serial)) ∷ (faults r ++ from7 row count seen r)
 
@@ -60,14 +50,14 @@ unfoldable pub refusalBy : Row → ℕ → ℕ → Seen → Record → ℕ
 refusalBy row count serial seen r = first (refusalsBy row count serial seen r)
 
 unfoldable pub changeBy : Row → ℕ → ℕ → Seen → Record → Change
-changeBy row count serial seen r = unlessRefused (refusalBy row count serial seen r) (effectOf row r) Refuse
+changeBy row count serial seen r = unlessRefused (refusalBy row count serial seen r) (effectOf row (r .account) r) Refuse
 
 -- what was seen of the other rows is right where the table asks for it
 pub record SeenOf (b : Book) (r : Record) (s : Seen) : Type 0 where
-  pub free-kinds : r .code ≡ 7 → r .account < b .count → s .free ≡ free (view b) (r .account)
-  pub free-pledge : r .code ≡ 9 → r .account < b .count → s .free ≡ free (view b) (r .account)
+  pub free-kinds : r .code ≡ 7 → r .account < b .count → s .free ≡ free (view b) (placeOf b (r .account))
+  pub free-pledge : r .code ≡ 9 → r .account < b .count → s .free ≡ free (view b) (placeOf b (r .account))
   pub cover : r .code ≡ 10 → r .account < b .count → r .margin ≤ ceiling → s .over ≡ needOver (view (newMargin b r))
-  pub clients : r .code ≡ 11 → r .account < b .count → s .tied ≡ hasLiveClient b (r .account)
+  pub clients : r .code ≡ 11 → r .account < b .count → s .tied ≡ hasLiveClient b (placeOf b (r .account))
 
 -- nothing seen
 abbrev pub nothing : Seen
@@ -77,15 +67,15 @@ nothing = record { free = 0; over = false; tied = false }
 abbrev pub asks : Record → Bool
 asks r = eqb (r .code) 7 || eqb (r .code) 9 || eqb (r .code) 10 || eqb (r .code) 11
 
--- the CM's margin where the row gets the margin m
-abbrev pub topMargin : Row → Row → ℕ → ℕ
-topMargin row top m = only (eqb (row .sort) 0) m + only (not (eqb (row .sort) 0)) (top .margin)
+-- the CM's margin where the account gets the margin m
+abbrev pub topMargin : Account → Account → ℕ → ℕ
+topMargin a top m = only (eqb (a .sort) 0) m + only (not (eqb (a .sort) 0)) (top .margin)
 
--- what is seen by the row named, the row tm that it names as its TM, the CM's row, and what is deemed under each of them
-abbrev pub seenWith : Row → ℕ → Row → ℕ → Row → ℕ → Bool → Record → Seen
-seenWith row under tm owed top all tied r = record {
-  free = freeOf (row .margin + under) (collateral row);
-  over = ltb (collateral top)
-      (topMargin row top (blockedOf (r .margin) ceiling) + underCM row (withMargin row (blockedOf (r .margin) ceiling)) under tm owed all);
+-- what is seen by the account named, the one that it names as its TM, the CM, and what is deemed under each of them
+abbrev pub seenWith : Account → ℕ → Account → ℕ → Account → ℕ → Bool → Record → Seen
+seenWith a under tm owed top all tied r = record {
+  free = freeOf (a .margin + under) (a .collateral);
+  over = ltb (top .collateral)
+      (topMargin a top (blockedOf (r .margin) ceiling) + underCM a (atMargin a (blockedOf (r .margin) ceiling)) under tm owed all);
   tied = tied;
 }

@@ -7,7 +7,7 @@ use Rattle.sums.specs.Table.{Line, _when_, first}
 use Rattle.rows.specs.declared.Row.{Row}
 use Rattle.rows.specs.declared.Book.{Book}
 use Rattle.rows.specs.View.{View, needCM, free}
-use Rattle.rows.specs.Rows.{ceiling, rowAt, addedUp, view, withRow, withMargin, plusKinds, lessKinds, hasLiveClient, isLive}
+use Rattle.rows.specs.Rows.{ceiling, rowAt, placeOf, addedUp, view, withRow, withMargin, plusKinds, lessKinds, hasLiveClient, isLive}
 use Rattle.rows.specs.Ranges.{kindsCapped, kindsWithin, noAmounts}
 use Rattle.book.specs.Sound.{soundB}
 use Rattle.dayfile.specs.declared.Record.{Record}
@@ -19,7 +19,7 @@ isOpening r = leb 1 (r .code) && leb (r .code) 3
 
 -- the row of the account named
 abbrev pub namedRow : Book → Record → Row
-namedRow b r = rowAt b (r .account)
+namedRow b r = rowAt b (placeOf b (r .account))
 
 -- "8: opening: the account named is of the wrong sort; retiring: account 0". Opening a TM or a CP names the CM, opening a
 -- client its TM; an account that is not live was refused with 7 before.
@@ -57,7 +57,7 @@ needOver v = ltb (v .collateral 0) (needCM v)
 
 -- the book with the new margin of the account named
 abbrev pub newMargin : Book → Record → Book
-newMargin b r = withRow b (r .account) (withMargin (namedRow b r) (r .margin))
+newMargin b r = withRow b (placeOf b (r .account)) (withMargin (namedRow b r) (r .margin))
 
 -- "13: after the new margin the CM's need would pass its collateral"
 abbrev pub losesCover : Bool → Record → Bool
@@ -79,9 +79,9 @@ refusals b r =
     ∷ (9 when noNumberLeft (b .count) r)
     ∷ (10 when pastCeiling (namedRow b r) r)
     ∷ (11 when tooMuch (namedRow b r) r)
-    ∷ (12 when beyondFree (free (view b) (r .account)) r)
+    ∷ (12 when beyondFree (free (view b) (placeOf b (r .account))) r)
     ∷ (13 when losesCover (needOver (view (newMargin b r))) r)
-    ∷ (14 when notRetirable (namedRow b r) (hasLiveClient b (r .account)) r)
+    ∷ (14 when notRetirable (namedRow b r) (hasLiveClient b (placeOf b (r .account))) r)
     ∷ []))
 
 -- the first that applies, or 0

@@ -31,7 +31,7 @@ fn amend(row: Row, r: Record) -> Row
 
 fn passing(row: Row, r: Record) -> Change
     requires { ⌜ InRange row × AmountsIn r ⌝ }
-    ensures { λ x. ⌜ x ≡ effectOf row r ⌝ }
+    ensures { λ x. ⌜ x ≡ effectOf row (r .account) r ⌝ }
 {
     let opening = (1 <= r.code) & (r.code <= 3);
     if opening {

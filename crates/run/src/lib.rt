@@ -108,7 +108,7 @@ fn run(b: Book, piece: &[u8], most: u64, room: &mut [u16], tell: bool) -> Ran
                     row = book.rows[i];
                     under = owed[i];
                 }
-                let t = rows::needs::slot(row);
+                let t = rows::needs::slot(row.tm);
                 let tm = book.rows[t];
                 let tm_owed = owed[t];
                 let top = book.rows[0];
@@ -117,7 +117,8 @@ fn run(b: Book, piece: &[u8], most: u64, room: &mut [u16], tell: bool) -> Ran
                 if (r.code == 11) & (row.sort == 1) {
                     tied = rows::asking::has_live_client(book, i);
                 }
-                let seen = rules::seeing::see(row, under, tm, tm_owed, top, all, tied, r);
+                let a = rules::seeing::accounts_of(row, tm, top);
+                let seen = rules::seeing::see(a.named, under, a.tm, tm_owed, a.cm, all, tied, r);
                 let change = rules::effects::change(row, count, serial, seen, r);
                 if tell {
                     put_five(
@@ -141,8 +142,9 @@ fn run(b: Book, piece: &[u8], most: u64, room: &mut [u16], tell: bool) -> Ran
                         }
                     }
                     Change::Put(new) => {
-                        let tm_after = rows::kept::under_tm(row, new, tm_owed);
-                        let all_after = rows::kept::under_cm(row, new, under, tm, tm_owed, all);
+                        let n = rows::needs::account_of(new);
+                        let tm_after = rows::kept::under_tm(a.named, n, tm_owed);
+                        let all_after = rows::kept::under_cm(a.named, n, under, a.tm, tm_owed, all);
                         book.serial = after;
                         book.rows[i] = new;
                         owed[t] = tm_after;

@@ -5,25 +5,25 @@ use native.Mathlib.Omega.{arith}
 use borrow.Author.Needs.{needs}
 use borrow.Author.Tests.{lt-leb, le-leb, eq-eqb, not-true, not-false}
 use Rattle.sums.specs.Sum.{all}
-use Rattle.book.specs.Sound.{rowSound, soundB}
+use Rattle.book.specs.Sound.{rowSound, formedB, coveredB, soundB}
 use Rattle.rows.specs.Inner.{Ranged}
 use Rattle.book.proofs.RowTests.{rows-ranged}
 use Rattle.book.proofs.is_sound.Statement.{statement}
 use Rattle.book.proofs.is_sound.Tie as tie
 
 returns : tie.Need-returns
-unfolding soundB
+unfolding soundB formedB
 returns c = simp (lt-leb 1 (c .before .args .t1 .count) (c .if1 .taken))
 
 returns-2 : tie.Need-returns-2
-unfolding soundB
+unfolding soundB formedB
 returns-2 c = simp (lt-leb (c .before .before .args .t1 .count) 256 (c .if2 .taken), and-false)
 
 rows-sound-requires : tie.Need-rows-sound-requires
 rows-sound-requires c κs = search needs
 
 returns-3 : tie.Need-returns-3
-unfolding soundB
+unfolding soundB formedB
 returns-3 c = simp (sym (c .before .rows-sound .ensures) ∙ not-true _ (c .if3 .taken), and-false)
 
 width-requires : tie.Need-width-requires
@@ -48,7 +48,7 @@ collateral-of-requires : tie.Need-collateral-of-requires
 collateral-of-requires c κs = ranged (c .before .before) .ranges 0 (omega arith)
 
 returns-4 : tie.Need-returns-4
-unfolding soundB
+unfolding soundB formedB coveredB
 returns-4 c =
     let w = c .before .before .before in
     let b = w .before .before .before .before .before .before .args .t1 in

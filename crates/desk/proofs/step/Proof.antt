@@ -3,6 +3,7 @@ use mathlib.Core.Logic.{⊎-elim, inl, inr}
 use mathlib.Core.Path.{_≡_, refl, sym, ap, _∙_}
 use Prim.Native.Nat.{_<_}
 use native.Mathlib.Omega.{arith}
+use Rattle.rows.specs.Rows.{withSerial}
 use Rattle.book.proofs.SoundRanges.{sound-ranges}
 use Rattle.rules.specs.Refusals.{namedRow}
 use Rattle.rules.specs.Effects.{changeOf}
@@ -93,7 +94,7 @@ returns c =
     let d = c .before .before .before in
     let s = c .before .before .before .before .before .before .before .before .before .before .before .before .before .before .before .before in
     c .answered .ensures ∙ refused-step (s .args .b) (s .args .r) (s .pre) _ _ _ (sym (change-is (c .before .before .before .before .before .before)) ∙ d .change2 .given .1) refl
-    (⊎-elim (λ w. inl (w .0 .taken, w .1 ∙ ap (λ x. record { count = s .args .b .count; serial = x; rows = s .args .b .rows }) (c .before .before .before .before .before .wrapping-add-u16 .ensures)))
+    (⊎-elim (λ w. inl (w .0 .taken, w .1 ∙ ap (withSerial (s .args .b)) (c .before .before .before .before .before .wrapping-add-u16 .ensures)))
     (λ w. inr (w .0 .left, w .1)) (c .before .if3 .came))
 
 returns-2 : tie.Need-returns-2

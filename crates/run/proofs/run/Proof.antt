@@ -4,16 +4,17 @@ use borrow.Author.Needs.{needs}
 use mathlib.Core.List.{[], _∷_}
 use mathlib.Core.Logic.{⊎-elim}
 use mathlib.Core.Path.{_≡_, refl, sym, ap, _∙_}
-use Prim.Native.Nat.{ℕ, _-_, _<_, _+_}
+use Prim.Native.Nat.{ℕ, _-_, _≤_, _<_, _+_}
 use native.Mathlib.Omega.{arith}
 use lib.ListN.{getD, set, List·getD-eq-default}
 use borrow.Author.Tests.{lt-leb, le-leb}
 use Rattle.sums.specs.Choice.{pick}
 use Rattle.sums.proofs.Choices.{pass, stop}
-use Rattle.rows.specs.Rows.{hasLiveClient}
+use Rattle.rows.specs.Rows.{ceiling, view, withSerial, withRow, withNew, hasLiveClient}
 use Rattle.rows.specs.Facts.{InRange}
+use Rattle.rows.specs.Under.{Under}
 use Rattle.rows.specs.Inner.{Slot}
-use Rattle.book.proofs.KeptSums.{KeptUnder, kept-first, kept-serial, under-most}
+use Rattle.book.proofs.UnderMost.{under-most}
 use Rattle.book.proofs.SoundRanges.{sound-ranges}
 use Rattle.rules.specs.Refusals.{namedRow}
 use Rattle.rules.specs.Effects.{changeOf, bookAfter}
@@ -30,7 +31,7 @@ use Rattle.run.proofs.run.Tie as tie
 
 abbrev Inv-loop : tie.InvT-loop
 Inv-loop piece most room₀ tell owed₀ book₀ place₀ read₀ done₀ room owed book place read done =
-    Loop piece most tell room₀ book₀ place₀ read₀ done₀ room book place read done × KeptUnder book owed
+    Loop piece most tell room₀ book₀ place₀ read₀ done₀ room book place read done × Under (view book) owed
 
 abbrev μ-loop : tie.MeasureT-loop
 μ-loop piece most room₀ tell owed₀ book₀ place₀ read₀ done₀ room owed book place read done = most - read
@@ -48,7 +49,7 @@ under-is c =
     (λ w. w .2 ∙ sym (List·getD-eq-default (c .before .before .before .before .before .before .before .before .loop .owed) 0 (omega (arith, c .before .before .before .before .before .before .before .before .loop .inv .1 .size, w .0 .left))))
     (c .if3 .came)
 
-slot-is : (c : tie.After-slot Inv-loop μ-loop) → Slot (namedRow (c .before .before .before .before .before .before .before .before .before .loop .book) (c .before .before .before .before .before .before .found .given .0 .0)) (c .slot .result)
+slot-is : (c : tie.After-slot Inv-loop μ-loop) → Slot (namedRow (c .before .before .before .before .before .before .before .before .before .loop .book) (c .before .before .before .before .before .before .found .given .0 .0) .tm) (c .slot .result)
 slot-is c = rw (row-is (c .before)) at (c .slot .ensures)
 
 tied-is : (c : tie.Joined4 Inv-loop μ-loop) → (c .before .before .before .before .before .before .before .before .before .before .before .found .given .0 .0) .code ≡ 11 → c .if4 .tied ≡ hasLiveClient (c .before .before .before .before .before .before .before .before .before .before .before .before .before .before .loop .book) ((c .before .before .before .before .before .before .before .before .before .before .before .found .given .0 .0) .account)
@@ -56,22 +57,22 @@ tied-is c e =
     ⊎-elim (λ w. w .2 ∙ w .1 .ensures)
     (λ w. w .1 ∙ tied-none (c .before .before .before .before .before .before .before .before .before .before .before .before .before .before .loop .book) (c .before .before .before .before .before .before .before .before .before .before .before .found .given .0 .0) (c .before .before .before .before .before .before .before .before .before .before .before .before .before .before .loop .inv .0 .sound) (rw (row-is (c .before .before .before .before .before .before)) at (w .0 .left)) e) (c .if4 .came)
 
-seen-is : (c : tie.After-see Inv-loop μ-loop) → SeenOf (c .before .before .before .before .before .before .before .before .before .before .before .before .before .before .before .loop .book) (c .before .before .before .before .before .before .before .before .before .before .before .before .found .given .0 .0) (c .see .result)
+seen-is : (c : tie.After-see Inv-loop μ-loop) → SeenOf (c .before .before .before .before .before .before .before .before .before .before .before .before .before .before .before .before .loop .book) (c .before .before .before .before .before .before .before .before .before .before .before .before .before .found .given .0 .0) (c .see .result)
 seen-is c =
-    rw (c .see .ensures, row-is (c .before .before .before .before .before .before .before), under-is (c .before .before .before .before .before .before .before))
-    (sees-kept (c .before .before .before .before .before .before .before .before .before .before .before .before .before .before .before .loop .book) (c .before .before .before .before .before .before .before .before .before .before .before .before .before .before .before .loop .inv .0 .sound) (c .before .before .before .before .before .before .before .before .before .before .before .before .before .before .before .loop .owed) (c .before .before .before .before .before .before .before .before .before .before .before .before .before .before .before .loop .inv .1) (c .before .before .before .before .before .before .before .before .before .before .before .before .found .given .0 .0) (c .before .before .before .before .before .before .slot .result) (slot-is (c .before .before .before .before .before .before)) (c .before .if4 .tied) (tied-is (c .before)))
+    rw (c .see .ensures, c .before .accounts-of .ensures, row-is (c .before .before .before .before .before .before .before .before), under-is (c .before .before .before .before .before .before .before .before))
+    (sees-kept (c .before .before .before .before .before .before .before .before .before .before .before .before .before .before .before .before .loop .book) (c .before .before .before .before .before .before .before .before .before .before .before .before .before .before .before .before .loop .inv .0 .sound) (c .before .before .before .before .before .before .before .before .before .before .before .before .before .before .before .before .loop .owed) (c .before .before .before .before .before .before .before .before .before .before .before .before .before .before .before .before .loop .inv .1) (c .before .before .before .before .before .before .before .before .before .before .before .before .before .found .given .0 .0) (c .before .before .before .before .before .before .before .slot .result) (slot-is (c .before .before .before .before .before .before .before)) (c .before .before .if4 .tied) (tied-is (c .before .before)))
 
-change-is : (c : tie.After-change Inv-loop μ-loop) → c .change .result ≡ changeOf (c .before .before .before .before .before .before .before .before .before .before .before .before .before .before .before .before .loop .book) (c .before .before .before .before .before .before .before .before .before .before .before .before .before .found .given .0 .0)
+change-is : (c : tie.After-change Inv-loop μ-loop) → c .change .result ≡ changeOf (c .before .before .before .before .before .before .before .before .before .before .before .before .before .before .before .before .before .loop .book) (c .before .before .before .before .before .before .before .before .before .before .before .before .before .before .found .given .0 .0)
 change-is c =
-    verdict-is _ (c .before .before .before .before .before .before .before .before .before .before .before .before .before .before .before .before .loop .inv .0 .sound) _ _ _ _ (row-is (c .before .before .before .before .before .before .before .before)) (seen-is (c .before)) (c .change .ensures)
+    verdict-is _ (c .before .before .before .before .before .before .before .before .before .before .before .before .before .before .before .before .before .loop .inv .0 .sound) _ _ _ _ (row-is (c .before .before .before .before .before .before .before .before .before)) (seen-is (c .before)) (c .change .ensures)
 
 -- the room after the record's numbers are told, or not
-told-is : (c : tie.Joined5 Inv-loop μ-loop) → c .if5 .room ≡ pick (c .before .before .before .before .before .before .before .before .before .before .before .before .before .before .before .before .before .before .before .before .before .args .tell)
-    (putFive (c .before .before .before .before .before .before .before .before .before .before .before .before .before .before .before .before .before .loop .room) (c .before .before .before .before .before .before .before .before .before .before .before .before .before .before .before .before .before .loop .read) (numbersBy (c .before .before .before .before .before .before .before .before .before .before .before .before .before .before .found .given .0 .0) (c .before .before .before .before .before .before .before .before .before .before .before .before .before .before .before .before .before .loop .book .count) (c .before .change .result)))
-    (c .before .before .before .before .before .before .before .before .before .before .before .before .before .before .before .before .before .loop .room)
+told-is : (c : tie.Joined5 Inv-loop μ-loop) → c .if5 .room ≡ pick (c .before .before .before .before .before .before .before .before .before .before .before .before .before .before .before .before .before .before .before .before .before .before .args .tell)
+    (putFive (c .before .before .before .before .before .before .before .before .before .before .before .before .before .before .before .before .before .before .loop .room) (c .before .before .before .before .before .before .before .before .before .before .before .before .before .before .before .before .before .before .loop .read) (numbersBy (c .before .before .before .before .before .before .before .before .before .before .before .before .before .before .before .found .given .0 .0) (c .before .before .before .before .before .before .before .before .before .before .before .before .before .before .before .before .before .before .loop .book .count) (c .before .change .result)))
+    (c .before .before .before .before .before .before .before .before .before .before .before .before .before .before .before .before .before .before .loop .room)
 told-is c =
-    let r = c .before .before .before .before .before .before .before .before .before .before .before .before .before .before .found .given .0 .0 in
-    let l = c .before .before .before .before .before .before .before .before .before .before .before .before .before .before .before .before .before .loop in
+    let r = c .before .before .before .before .before .before .before .before .before .before .before .before .before .before .before .found .given .0 .0 in
+    let l = c .before .before .before .before .before .before .before .before .before .before .before .before .before .before .before .before .before .before .loop in
     ⊎-elim
     (λ w. pass _ (w .0 .taken)
     (w .7 ∙ w .4 .ensures ∙ ap (λ x. putFive (l .room) (l .read) (r .serial ∷ r .code ∷ r .account ∷ x ∷ w .3 .result ∷ [])) (w .2 .ensures)
@@ -81,18 +82,18 @@ told-is c =
 less-zero : (n : ℕ) → n - 0 ≡ n
 less-zero n = omega arith
 
-opened-below : (c : tie.After-known-told4 Inv-loop μ-loop) → c .before .before .before .before .before .before .before .before .before .before .before .before .before .before .before .before .before .before .before .before .before .before .loop .book .count < 256
-opened-below c = open-below _ (c .before .before .before .before .before .before .before .before .before .before .before .before .before .before .before .before .before .before .before .found .given .0 .0) _ (sym (change-is (c .before .before .before .before .before .before)) ∙ c .before .change4 .given .1)
+opened-below : (c : tie.After-known-told4 Inv-loop μ-loop) → c .before .before .before .before .before .before .before .before .before .before .before .before .before .before .before .before .before .before .before .before .before .before .before .loop .book .count < 256
+opened-below c = open-below _ (c .before .before .before .before .before .before .before .before .before .before .before .before .before .before .before .before .before .before .before .before .found .given .0 .0) _ (sym (change-is (c .before .before .before .before .before .before)) ∙ c .before .change4 .given .1)
 
 -- the new row and the rows beside it are in range
 new-in : (c : tie.After-known-told3 Inv-loop μ-loop) → InRange (c .before .change3 .given .0 .0)
-new-in c = put-ranged _ (c .before .before .before .before .before .before .before .before .before .before .before .before .before .before .before .before .before .before .before .found .given .0 .0) _ (c .before .before .before .before .before .before .before .before .before .before .before .before .before .before .before .before .before .before .before .before .before .before .loop .inv .0 .sound) (sym (change-is (c .before .before .before .before .before .before)) ∙ c .before .change3 .given .1)
+new-in c = put-ranged _ (c .before .before .before .before .before .before .before .before .before .before .before .before .before .before .before .before .before .before .before .before .found .given .0 .0) _ (c .before .before .before .before .before .before .before .before .before .before .before .before .before .before .before .before .before .before .before .before .before .before .before .loop .inv .0 .sound) (sym (change-is (c .before .before .before .before .before .before)) ∙ c .before .change3 .given .1)
 
 row-in : (c : tie.Joined3 Inv-loop μ-loop) → InRange (c .if3 .row)
 row-in c = rw (row-is c) (sound-ranges _ (c .before .before .before .before .before .before .before .before .loop .inv .0 .sound) _)
 
 unders-requires : tie.Need-unders-requires Inv-loop μ-loop
-unders-requires c κs = let h = c .before .before .pre .0 in record { table = h .table; most = h .most; ranges = h .ranges }
+unders-requires c κs = let h = c .before .before .pre .0 in (record { table = h .table; most = h .most; ranges = h .ranges }, h .shaped)
 
 loop-holds : tie.Need-loop-holds Inv-loop μ-loop
 loop-holds c =
@@ -107,7 +108,7 @@ loop-holds c =
         runs = ap (λ n. runOf (a .piece .now) n (a .b) 0 0 0) (less-zero (a .most));
         tells = ap (λ n. pick (a .tell) (tellOf (a .piece .now) n (a .b) 0 0 (a .room .now)) (a .room .now)) (less-zero (a .most));
       },
-      kept-first (a .b) (start .pre .0) _ (c .unders .ensures),
+      c .unders .ensures,
     )
 
 found-at-requires : tie.Need-found-at-requires Inv-loop μ-loop
@@ -164,11 +165,18 @@ array-read-all c = search needs
 has-live-client-requires : tie.Need-has-live-client-requires Inv-loop μ-loop
 has-live-client-requires c κs = c .before .before .before .before .before .before .before .before .before .before .before .before .before .before .loop .inv .0 .sound .most
 
+accounts-of-requires : tie.Need-accounts-of-requires Inv-loop μ-loop
+accounts-of-requires c κs = (row-in (c .before .before .before .before .before .before), sound-ranges _ (c .before .before .before .before .before .before .before .before .before .before .before .before .before .before .loop .inv .0 .sound) _, sound-ranges _ (c .before .before .before .before .before .before .before .before .before .before .before .before .before .before .loop .inv .0 .sound) _)
+
+-- no margin passes the ceiling
+margins : (c : tie.After-accounts-of Inv-loop μ-loop) → (c .accounts-of .result .named .margin ≤ ceiling) × (c .accounts-of .result .tm .margin ≤ ceiling) × (c .accounts-of .result .cm .margin ≤ ceiling)
+margins c = rw (c .accounts-of .ensures) (row-in (c .before .before .before .before .before .before .before) .margin, sound-ranges _ (c .before .before .before .before .before .before .before .before .before .before .before .before .before .before .before .loop .inv .0 .sound) _ .margin, sound-ranges _ (c .before .before .before .before .before .before .before .before .before .before .before .before .before .before .before .loop .inv .0 .sound) _ .margin)
+
 see-requires : tie.Need-see-requires Inv-loop μ-loop
-see-requires c κs = ((row-in (c .before .before .before .before .before .before), sound-ranges _ (c .before .before .before .before .before .before .before .before .before .before .before .before .before .before .loop .inv .0 .sound) _, sound-ranges _ (c .before .before .before .before .before .before .before .before .before .before .before .before .before .before .loop .inv .0 .sound) _), (rw (under-is (c .before .before .before .before .before .before)) (under-most (c .before .before .before .before .before .before .before .before .before .before .before .before .before .before .loop .book) (c .before .before .before .before .before .before .before .before .before .before .before .before .before .before .loop .inv .0 .sound) (c .before .before .before .before .before .before .before .before .before .before .before .before .before .before .loop .owed) (c .before .before .before .before .before .before .before .before .before .before .before .before .before .before .loop .inv .1) _), under-most (c .before .before .before .before .before .before .before .before .before .before .before .before .before .before .loop .book) (c .before .before .before .before .before .before .before .before .before .before .before .before .before .before .loop .inv .0 .sound) (c .before .before .before .before .before .before .before .before .before .before .before .before .before .before .loop .owed) (c .before .before .before .before .before .before .before .before .before .before .before .before .before .before .loop .inv .1) _, under-most (c .before .before .before .before .before .before .before .before .before .before .before .before .before .before .loop .book) (c .before .before .before .before .before .before .before .before .before .before .before .before .before .before .loop .inv .0 .sound) (c .before .before .before .before .before .before .before .before .before .before .before .before .before .before .loop .owed) (c .before .before .before .before .before .before .before .before .before .before .before .before .before .before .loop .inv .1) _))
+see-requires c κs = (margins c, (rw (under-is (c .before .before .before .before .before .before .before)) (under-most (c .before .before .before .before .before .before .before .before .before .before .before .before .before .before .before .loop .book) (c .before .before .before .before .before .before .before .before .before .before .before .before .before .before .before .loop .inv .0 .sound) (c .before .before .before .before .before .before .before .before .before .before .before .before .before .before .before .loop .owed) (c .before .before .before .before .before .before .before .before .before .before .before .before .before .before .before .loop .inv .1) _), under-most (c .before .before .before .before .before .before .before .before .before .before .before .before .before .before .before .loop .book) (c .before .before .before .before .before .before .before .before .before .before .before .before .before .before .before .loop .inv .0 .sound) (c .before .before .before .before .before .before .before .before .before .before .before .before .before .before .before .loop .owed) (c .before .before .before .before .before .before .before .before .before .before .before .before .before .before .before .loop .inv .1) _, under-most (c .before .before .before .before .before .before .before .before .before .before .before .before .before .before .before .loop .book) (c .before .before .before .before .before .before .before .before .before .before .before .before .before .before .before .loop .inv .0 .sound) (c .before .before .before .before .before .before .before .before .before .before .before .before .before .before .before .loop .owed) (c .before .before .before .before .before .before .before .before .before .before .before .before .before .before .before .loop .inv .1) _))
 
 change-requires : tie.Need-change-requires Inv-loop μ-loop
-change-requires c κs = row-in (c .before .before .before .before .before .before .before)
+change-requires c κs = row-in (c .before .before .before .before .before .before .before .before)
 
 refusal-shown-requires : tie.Need-refusal-shown-requires Inv-loop μ-loop
 refusal-shown-requires c κs = search needs
@@ -178,85 +186,99 @@ given-shown-requires c κs = search needs
 
 put-five-requires : tie.Need-put-five-requires Inv-loop μ-loop
 put-five-requires c κs =
-    let l = c .before .before .before .before .before .before .before .before .before .before .before .before .before .before .before .before .before .before .before .before .loop in
+    let l = c .before .before .before .before .before .before .before .before .before .before .before .before .before .before .before .before .before .before .before .before .before .loop in
     let h = l .inv .0 .space (c .before .before .before .if5 .taken) in
-    omega (arith, h, l .inv .0 .same, c .before .before .before .before .before .before .before .before .before .before .before .before .before .before .before .if2 .left)
+    omega (arith, h, l .inv .0 .same, c .before .before .before .before .before .before .before .before .before .before .before .before .before .before .before .before .if2 .left)
 
 wrapping-add-u16-requires : tie.Need-wrapping-add-u16-requires Inv-loop μ-loop
 wrapping-add-u16-requires c κs = search needs
 
 add-read : tie.Need-add-read Inv-loop μ-loop
-add-read c = omega (arith, c .before .before .before .before .before .before .before .before .before .before .before .before .before .if2 .left, c .before .before .before .before .before .before .before .before .before .before .before .before .before .before .before .before .before .before .before .before .before .before .fits .most)
+add-read c = omega (arith, c .before .before .before .before .before .before .before .before .before .before .before .before .before .before .if2 .left, c .before .before .before .before .before .before .before .before .before .before .before .before .before .before .before .before .before .before .before .before .before .before .before .fits .most)
 
 carried-shown-requires : tie.Need-carried-shown-requires Inv-loop μ-loop
 carried-shown-requires c κs = search needs
 
 add-done : tie.Need-add-done Inv-loop μ-loop
-add-done c = omega (arith, c .before .before .before .before .before .before .before .before .before .before .before .before .before .before .if2 .left, c .before .before .before .before .before .before .before .before .before .before .before .before .before .before .before .before .before .before .before .loop .inv .0 .within, c .before .before .before .before .before .before .before .before .before .before .before .before .before .before .before .before .before .before .before .loop .inv .0 .fewer, c .carried-shown .ensures, carried-most (c .before .before .before .change .result), c .before .before .before .before .before .before .before .before .before .before .before .before .before .before .before .before .before .before .before .before .before .before .before .fits .most)
+add-done c = omega (arith, c .before .before .before .before .before .before .before .before .before .before .before .before .before .before .before .if2 .left, c .before .before .before .before .before .before .before .before .before .before .before .before .before .before .before .before .before .before .before .before .loop .inv .0 .within, c .before .before .before .before .before .before .before .before .before .before .before .before .before .before .before .before .before .before .before .before .loop .inv .0 .fewer, c .carried-shown .ensures, carried-most (c .before .before .before .change .result), c .before .before .before .before .before .before .before .before .before .before .before .before .before .before .before .before .before .before .before .before .before .before .before .before .fits .most)
 
 enum-known-change : tie.Need-enum-known-change Inv-loop μ-loop
 enum-known-change c = search needs
 
 loop-less : tie.Need-loop-less Inv-loop μ-loop
-loop-less c = omega (arith, c .before .before .before .before .before .before .before .before .before .before .before .before .before .before .before .before .before .before .if2 .left)
+loop-less c = omega (arith, c .before .before .before .before .before .before .before .before .before .before .before .before .before .before .before .before .before .before .before .if2 .left)
 
 loop-again : tie.Need-loop-again Inv-loop μ-loop
 loop-again c =
-    let v = c .before .before .before .before .before .before .before .before .before .before .before .before .before .before .before .before .before .before .before .before .before .before .before .loop in (
+    let v = c .before .before .before .before .before .before .before .before .before .before .before .before .before .before .before .before .before .before .before .before .before .before .before .before .loop in (
       rw (c .before .before .before .before .carried-shown .ensures)
-          (turn _ _ _ _ _ _ _ _ (v .room) (v .book) (v .place) (v .read) (v .done) (v .inv .0) _ _ _ _ _ (c .before .before .before .before .before .before .before .before .before .before .before .before .before .before .before .before .before .before .if2 .left)
-          (sym (c .before .before .before .before .before .before .before .before .before .before .before .before .before .before .before .before .before .before .before .before .before .before .found-at .ensures) ∙ c .before .before .before .before .before .before .before .before .before .before .before .before .before .before .before .before .before .before .before .before .found .given .1) (change-is (c .before .before .before .before .before .before .before)) (told-is (c .before .before .before .before .before .before)) (stop _ (lt-leb _ 3 (c .if6 .taken)) (ap (λ x. record { count = c .before .before .before .before .before .before .before .before .before .before .before .before .before .before .before .before .before .before .before .before .before .before .before .loop .book .count; serial = x; rows = c .before .before .before .before .before .before .before .before .before .before .before .before .before .before .before .before .before .before .before .before .before .before .before .loop .book .rows }) (c .before .before .before .before .before .wrapping-add-u16 .ensures)) ∙ ap (bookAfter (c .before .before .before .before .before .before .before .before .before .before .before .before .before .before .before .before .before .before .before .before .before .before .before .loop .book) ((c .before .before .before .before .before .before .before .before .before .before .before .before .before .before .before .before .before .before .before .before .found .given .0 .0) .account)) (sym (c .before .before .change2 .given .1)))),
-      kept-serial (v .book) (v .inv .0 .sound) (v .owed) (v .inv .1) _,
+          (turn _ _ _ _ _ _ _ _ (v .room) (v .book) (v .place) (v .read) (v .done) (v .inv .0) _ _ _ _ _ (c .before .before .before .before .before .before .before .before .before .before .before .before .before .before .before .before .before .before .before .if2 .left)
+          (sym (c .before .before .before .before .before .before .before .before .before .before .before .before .before .before .before .before .before .before .before .before .before .before .before .found-at .ensures) ∙ c .before .before .before .before .before .before .before .before .before .before .before .before .before .before .before .before .before .before .before .before .before .found .given .1) (change-is (c .before .before .before .before .before .before .before)) (told-is (c .before .before .before .before .before .before)) (stop _ (lt-leb _ 3 (c .if6 .taken)) (ap (withSerial (c .before .before .before .before .before .before .before .before .before .before .before .before .before .before .before .before .before .before .before .before .before .before .before .before .loop .book)) (c .before .before .before .before .before .wrapping-add-u16 .ensures)) ∙ ap (bookAfter (c .before .before .before .before .before .before .before .before .before .before .before .before .before .before .before .before .before .before .before .before .before .before .before .before .loop .book) ((c .before .before .before .before .before .before .before .before .before .before .before .before .before .before .before .before .before .before .before .before .before .found .given .0 .0) .account)) (sym (c .before .before .change2 .given .1)))),
+      v .inv .1,
     )
 
 loop-less-2 : tie.Need-loop-less-2 Inv-loop μ-loop
-loop-less-2 c = omega (arith, c .before .before .before .before .before .before .before .before .before .before .before .before .before .before .before .before .before .before .if2 .left)
+loop-less-2 c = omega (arith, c .before .before .before .before .before .before .before .before .before .before .before .before .before .before .before .before .before .before .before .if2 .left)
 
 loop-again-2 : tie.Need-loop-again-2 Inv-loop μ-loop
 loop-again-2 c =
-    let v = c .before .before .before .before .before .before .before .before .before .before .before .before .before .before .before .before .before .before .before .before .before .before .before .loop in (
+    let v = c .before .before .before .before .before .before .before .before .before .before .before .before .before .before .before .before .before .before .before .before .before .before .before .before .loop in (
       rw (c .before .before .before .before .carried-shown .ensures)
-          (turn _ _ _ _ _ _ _ _ (v .room) (v .book) (v .place) (v .read) (v .done) (v .inv .0) _ _ _ _ _ (c .before .before .before .before .before .before .before .before .before .before .before .before .before .before .before .before .before .before .if2 .left)
-          (sym (c .before .before .before .before .before .before .before .before .before .before .before .before .before .before .before .before .before .before .before .before .before .before .found-at .ensures) ∙ c .before .before .before .before .before .before .before .before .before .before .before .before .before .before .before .before .before .before .before .before .found .given .1) (change-is (c .before .before .before .before .before .before .before)) (told-is (c .before .before .before .before .before .before)) (pass _ (le-leb _ 3 (c .if6 .left)) refl ∙ ap (bookAfter (c .before .before .before .before .before .before .before .before .before .before .before .before .before .before .before .before .before .before .before .before .before .before .before .loop .book) ((c .before .before .before .before .before .before .before .before .before .before .before .before .before .before .before .before .before .before .before .before .found .given .0 .0) .account)) (sym (c .before .before .change2 .given .1)))),
+          (turn _ _ _ _ _ _ _ _ (v .room) (v .book) (v .place) (v .read) (v .done) (v .inv .0) _ _ _ _ _ (c .before .before .before .before .before .before .before .before .before .before .before .before .before .before .before .before .before .before .before .if2 .left)
+          (sym (c .before .before .before .before .before .before .before .before .before .before .before .before .before .before .before .before .before .before .before .before .before .before .before .found-at .ensures) ∙ c .before .before .before .before .before .before .before .before .before .before .before .before .before .before .before .before .before .before .before .before .before .found .given .1) (change-is (c .before .before .before .before .before .before .before)) (told-is (c .before .before .before .before .before .before)) (pass _ (le-leb _ 3 (c .if6 .left)) refl ∙ ap (bookAfter (c .before .before .before .before .before .before .before .before .before .before .before .before .before .before .before .before .before .before .before .before .before .before .before .before .loop .book) ((c .before .before .before .before .before .before .before .before .before .before .before .before .before .before .before .before .before .before .before .before .before .found .given .0 .0) .account)) (sym (c .before .before .change2 .given .1)))),
       v .inv .1,
     )
 
 enum-known-change-2 : tie.Need-enum-known-change-2 Inv-loop μ-loop
 enum-known-change-2 c = search needs
 
+account-of-requires : tie.Need-account-of-requires Inv-loop μ-loop
+account-of-requires c κs = new-in c
+
+wide : {n : ℕ} → n ≤ 2_560_000_000_000_000 → n ≤ 25_600_000_000_000_000
+wide h = omega arith
+
+widest : {n : ℕ} → n ≤ 2_560_000_000_000_000 → n ≤ 7_000_000_000_000_000_000
+widest h = omega arith
+
+new-margin : (c : tie.After-account-of Inv-loop μ-loop) → c .account-of .result .margin ≤ ceiling
+new-margin c = rw (c .account-of .ensures) (new-in (c .before) .margin)
+
 under-tm-requires : tie.Need-under-tm-requires Inv-loop μ-loop
-under-tm-requires c κs = (row-in (c .before .before .before .before .before .before .before .before .before .before .before .before .before .before), new-in c, under-most (c .before .before .before .before .before .before .before .before .before .before .before .before .before .before .before .before .before .before .before .before .before .before .loop .book) (c .before .before .before .before .before .before .before .before .before .before .before .before .before .before .before .before .before .before .before .before .before .before .loop .inv .0 .sound) (c .before .before .before .before .before .before .before .before .before .before .before .before .before .before .before .before .before .before .before .before .before .before .loop .owed) (c .before .before .before .before .before .before .before .before .before .before .before .before .before .before .before .before .before .before .before .before .before .before .loop .inv .1) _)
+under-tm-requires c κs = (omega (arith, new-margin c), wide (under-most (c .before .before .before .before .before .before .before .before .before .before .before .before .before .before .before .before .before .before .before .before .before .before .before .before .loop .book) (c .before .before .before .before .before .before .before .before .before .before .before .before .before .before .before .before .before .before .before .before .before .before .before .before .loop .inv .0 .sound) (c .before .before .before .before .before .before .before .before .before .before .before .before .before .before .before .before .before .before .before .before .before .before .before .before .loop .owed) (c .before .before .before .before .before .before .before .before .before .before .before .before .before .before .before .before .before .before .before .before .before .before .before .before .loop .inv .1) _))
 
 under-cm-requires : tie.Need-under-cm-requires Inv-loop μ-loop
-under-cm-requires c κs = ((row-in (c .before .before .before .before .before .before .before .before .before .before .before .before .before .before .before), new-in (c .before), sound-ranges _ (c .before .before .before .before .before .before .before .before .before .before .before .before .before .before .before .before .before .before .before .before .before .before .before .loop .inv .0 .sound) _), (rw (under-is (c .before .before .before .before .before .before .before .before .before .before .before .before .before .before .before)) (under-most (c .before .before .before .before .before .before .before .before .before .before .before .before .before .before .before .before .before .before .before .before .before .before .before .loop .book) (c .before .before .before .before .before .before .before .before .before .before .before .before .before .before .before .before .before .before .before .before .before .before .before .loop .inv .0 .sound) (c .before .before .before .before .before .before .before .before .before .before .before .before .before .before .before .before .before .before .before .before .before .before .before .loop .owed) (c .before .before .before .before .before .before .before .before .before .before .before .before .before .before .before .before .before .before .before .before .before .before .before .loop .inv .1) _), under-most (c .before .before .before .before .before .before .before .before .before .before .before .before .before .before .before .before .before .before .before .before .before .before .before .loop .book) (c .before .before .before .before .before .before .before .before .before .before .before .before .before .before .before .before .before .before .before .before .before .before .before .loop .inv .0 .sound) (c .before .before .before .before .before .before .before .before .before .before .before .before .before .before .before .before .before .before .before .before .before .before .before .loop .owed) (c .before .before .before .before .before .before .before .before .before .before .before .before .before .before .before .before .before .before .before .before .before .before .before .loop .inv .1) _, under-most (c .before .before .before .before .before .before .before .before .before .before .before .before .before .before .before .before .before .before .before .before .before .before .before .loop .book) (c .before .before .before .before .before .before .before .before .before .before .before .before .before .before .before .before .before .before .before .before .before .before .before .loop .inv .0 .sound) (c .before .before .before .before .before .before .before .before .before .before .before .before .before .before .before .before .before .before .before .before .before .before .before .loop .owed) (c .before .before .before .before .before .before .before .before .before .before .before .before .before .before .before .before .before .before .before .before .before .before .before .loop .inv .1) _))
+under-cm-requires c κs =
+    let m = margins (c .before .before .before .before .before .before .before .before .before .before) in
+    ((omega (arith, m), omega (arith, new-margin (c .before)), omega (arith, m)), (rw (under-is (c .before .before .before .before .before .before .before .before .before .before .before .before .before .before .before .before .before)) (wide (under-most (c .before .before .before .before .before .before .before .before .before .before .before .before .before .before .before .before .before .before .before .before .before .before .before .before .before .loop .book) (c .before .before .before .before .before .before .before .before .before .before .before .before .before .before .before .before .before .before .before .before .before .before .before .before .before .loop .inv .0 .sound) (c .before .before .before .before .before .before .before .before .before .before .before .before .before .before .before .before .before .before .before .before .before .before .before .before .before .loop .owed) (c .before .before .before .before .before .before .before .before .before .before .before .before .before .before .before .before .before .before .before .before .before .before .before .before .before .loop .inv .1) _)), wide (under-most (c .before .before .before .before .before .before .before .before .before .before .before .before .before .before .before .before .before .before .before .before .before .before .before .before .before .loop .book) (c .before .before .before .before .before .before .before .before .before .before .before .before .before .before .before .before .before .before .before .before .before .before .before .before .before .loop .inv .0 .sound) (c .before .before .before .before .before .before .before .before .before .before .before .before .before .before .before .before .before .before .before .before .before .before .before .before .before .loop .owed) (c .before .before .before .before .before .before .before .before .before .before .before .before .before .before .before .before .before .before .before .before .before .before .before .before .before .loop .inv .1) _), widest (under-most (c .before .before .before .before .before .before .before .before .before .before .before .before .before .before .before .before .before .before .before .before .before .before .before .before .before .loop .book) (c .before .before .before .before .before .before .before .before .before .before .before .before .before .before .before .before .before .before .before .before .before .before .before .before .before .loop .inv .0 .sound) (c .before .before .before .before .before .before .before .before .before .before .before .before .before .before .before .before .before .before .before .before .before .before .before .before .before .loop .owed) (c .before .before .before .before .before .before .before .before .before .before .before .before .before .before .before .before .before .before .before .before .before .before .before .before .before .loop .inv .1) _)))
 
 mul-new : tie.Need-mul-new Inv-loop μ-loop
-mul-new c = let h = put-below _ (c .before .before .before .before .before .before .before .before .before .before .before .before .before .before .before .before .before .before .before .before .before .found .given .0 .0) _ (sym (change-is (c .before .before .before .before .before .before .before .before)) ∙ c .before .before .before .change3 .given .1) in omega arith
+mul-new c = let h = put-below _ (c .before .before .before .before .before .before .before .before .before .before .before .before .before .before .before .before .before .before .before .before .before .before .before .found .given .0 .0) _ (sym (change-is (c .before .before .before .before .before .before .before .before .before)) ∙ c .before .before .before .before .change3 .given .1) in omega arith
 
 element-set-from-new : tie.Need-element-set-from-new Inv-loop μ-loop
-element-set-from-new c = put-below _ (c .before .before .before .before .before .before .before .before .before .before .before .before .before .before .before .before .before .before .before .before .before .found .given .0 .0) _ (sym (change-is (c .before .before .before .before .before .before .before .before)) ∙ c .before .before .before .change3 .given .1)
+element-set-from-new c = put-below _ (c .before .before .before .before .before .before .before .before .before .before .before .before .before .before .before .before .before .before .before .before .before .before .before .found .given .0 .0) _ (sym (change-is (c .before .before .before .before .before .before .before .before .before)) ∙ c .before .before .before .before .change3 .given .1)
 
 mul-owed : tie.Need-mul-owed Inv-loop μ-loop
-mul-owed c = omega (arith, c .before .before .before .before .before .before .before .before .before .before .before .before .before .before .before .slot .ensures .inside)
+mul-owed c = omega (arith, c .before .before .before .before .before .before .before .before .before .before .before .before .before .before .before .before .before .slot .ensures .inside)
 
 array-write-owed : tie.Need-array-write-owed Inv-loop μ-loop
-array-write-owed c = omega (arith, c .before .before .before .before .before .before .before .before .before .before .before .before .before .before .before .slot .ensures .inside)
+array-write-owed c = omega (arith, c .before .before .before .before .before .before .before .before .before .before .before .before .before .before .before .before .before .slot .ensures .inside)
 
 array-write-owed-2 : tie.Need-array-write-owed-2 Inv-loop μ-loop
 array-write-owed-2 c = search needs
 
 loop-less-3 : tie.Need-loop-less-3 Inv-loop μ-loop
-loop-less-3 c = omega (arith, c .before .before .before .before .before .before .before .before .before .before .before .before .before .before .before .before .before .before .before .if2 .left)
+loop-less-3 c = omega (arith, c .before .before .before .before .before .before .before .before .before .before .before .before .before .before .before .before .before .before .before .before .before .if2 .left)
 
 loop-again-3 : tie.Need-loop-again-3 Inv-loop μ-loop
 loop-again-3 c =
-    let v = c .before .before .before .before .before .before .before .before .before .before .before .before .before .before .before .before .before .before .before .before .before .before .before .before .loop in (
-      rw (c .before .before .before .before .before .carried-shown .ensures)
-          (turn _ _ _ _ _ _ _ _ (v .room) (v .book) (v .place) (v .read) (v .done) (v .inv .0) _ _ _ _ _ (c .before .before .before .before .before .before .before .before .before .before .before .before .before .before .before .before .before .before .before .if2 .left)
-          (sym (c .before .before .before .before .before .before .before .before .before .before .before .before .before .before .before .before .before .before .before .before .before .before .before .found-at .ensures) ∙ c .before .before .before .before .before .before .before .before .before .before .before .before .before .before .before .before .before .before .before .before .before .found .given .1) (change-is (c .before .before .before .before .before .before .before .before)) (told-is (c .before .before .before .before .before .before .before)) (ap (λ x. record { count = c .before .before .before .before .before .before .before .before .before .before .before .before .before .before .before .before .before .before .before .before .before .before .before .before .loop .book .count; serial = x; rows = set (c .before .before .before .before .before .before .before .before .before .before .before .before .before .before .before .before .before .before .before .before .before .before .before .before .loop .book .rows) ((c .before .before .before .before .before .before .before .before .before .before .before .before .before .before .before .before .before .before .before .before .before .found .given .0 .0) .account) (c .before .before .before .change3 .given .0 .0) }) (c .before .before .before .before .before .before .wrapping-add-u16 .ensures) ∙ ap (bookAfter (c .before .before .before .before .before .before .before .before .before .before .before .before .before .before .before .before .before .before .before .before .before .before .before .before .loop .book) ((c .before .before .before .before .before .before .before .before .before .before .before .before .before .before .before .before .before .before .before .before .before .found .given .0 .0) .account)) (sym (c .before .before .before .change3 .given .1)))),
-      rw (c .before .under-tm .ensures, c .under-cm .ensures, row-is (c .before .before .before .before .before .before .before .before .before .before .before .before .before .before .before .before), under-is (c .before .before .before .before .before .before .before .before .before .before .before .before .before .before .before .before))
-          (put-keeps (v .book) (c .before .before .before .before .before .before .before .before .before .before .before .before .before .before .before .before .before .before .before .before .before .found .given .0 .0) (c .before .before .before .change3 .given .0 .0) (v .inv .0 .sound) (sym (change-is (c .before .before .before .before .before .before .before .before)) ∙ c .before .before .before .change3 .given .1)
-          (v .owed) (v .inv .1) (c .before .before .before .before .before .before .before .before .before .before .before .before .before .before .before .slot .result) (slot-is (c .before .before .before .before .before .before .before .before .before .before .before .before .before .before .before)) _),
+    let v = c .before .before .before .before .before .before .before .before .before .before .before .before .before .before .before .before .before .before .before .before .before .before .before .before .before .before .loop in (
+      rw (c .before .before .before .before .before .before .carried-shown .ensures)
+          (turn _ _ _ _ _ _ _ _ (v .room) (v .book) (v .place) (v .read) (v .done) (v .inv .0) _ _ _ _ _ (c .before .before .before .before .before .before .before .before .before .before .before .before .before .before .before .before .before .before .before .before .before .if2 .left)
+          (sym (c .before .before .before .before .before .before .before .before .before .before .before .before .before .before .before .before .before .before .before .before .before .before .before .before .before .found-at .ensures) ∙ c .before .before .before .before .before .before .before .before .before .before .before .before .before .before .before .before .before .before .before .before .before .before .before .found .given .1) (change-is (c .before .before .before .before .before .before .before .before .before)) (told-is (c .before .before .before .before .before .before .before .before)) (ap (withSerial (withRow (c .before .before .before .before .before .before .before .before .before .before .before .before .before .before .before .before .before .before .before .before .before .before .before .before .before .before .loop .book) ((c .before .before .before .before .before .before .before .before .before .before .before .before .before .before .before .before .before .before .before .before .before .before .before .found .given .0 .0) .account) (c .before .before .before .before .change3 .given .0 .0))) (c .before .before .before .before .before .before .before .wrapping-add-u16 .ensures) ∙ ap (bookAfter (c .before .before .before .before .before .before .before .before .before .before .before .before .before .before .before .before .before .before .before .before .before .before .before .before .before .before .loop .book) ((c .before .before .before .before .before .before .before .before .before .before .before .before .before .before .before .before .before .before .before .before .before .before .before .found .given .0 .0) .account)) (sym (c .before .before .before .before .change3 .given .1)))),
+      rw (c .before .under-tm .ensures, c .under-cm .ensures, c .before .before .account-of .ensures, c .before .before .before .before .before .before .before .before .before .before .before .accounts-of .ensures, row-is (c .before .before .before .before .before .before .before .before .before .before .before .before .before .before .before .before .before .before), under-is (c .before .before .before .before .before .before .before .before .before .before .before .before .before .before .before .before .before .before))
+          (put-keeps (v .book) (c .before .before .before .before .before .before .before .before .before .before .before .before .before .before .before .before .before .before .before .before .before .before .before .found .given .0 .0) (c .before .before .before .before .change3 .given .0 .0) (v .inv .0 .sound) (sym (change-is (c .before .before .before .before .before .before .before .before .before)) ∙ c .before .before .before .before .change3 .given .1)
+          (v .owed) (v .inv .1) (c .before .before .before .before .before .before .before .before .before .before .before .before .before .before .before .before .before .slot .result) (slot-is (c .before .before .before .before .before .before .before .before .before .before .before .before .before .before .before .before .before))),
     )
 
 enum-known-change-3 : tie.Need-enum-known-change-3 Inv-loop μ-loop
@@ -275,15 +297,15 @@ element-set-from-new-2 : tie.Need-element-set-from-new-2 Inv-loop μ-loop
 element-set-from-new-2 c = opened-below c
 
 loop-less-4 : tie.Need-loop-less-4 Inv-loop μ-loop
-loop-less-4 c = omega (arith, c .before .before .before .before .before .before .before .before .before .before .before .before .before .before .before .before .before .if2 .left)
+loop-less-4 c = omega (arith, c .before .before .before .before .before .before .before .before .before .before .before .before .before .before .before .before .before .before .if2 .left)
 
 loop-again-4 : tie.Need-loop-again-4 Inv-loop μ-loop
 loop-again-4 c =
-    let v = c .before .before .before .before .before .before .before .before .before .before .before .before .before .before .before .before .before .before .before .before .before .before .loop in (
+    let v = c .before .before .before .before .before .before .before .before .before .before .before .before .before .before .before .before .before .before .before .before .before .before .before .loop in (
       rw (c .before .before .before .carried-shown .ensures)
-          (turn _ _ _ _ _ _ _ _ (v .room) (v .book) (v .place) (v .read) (v .done) (v .inv .0) _ _ _ _ _ (c .before .before .before .before .before .before .before .before .before .before .before .before .before .before .before .before .before .if2 .left)
-          (sym (c .before .before .before .before .before .before .before .before .before .before .before .before .before .before .before .before .before .before .before .before .before .found-at .ensures) ∙ c .before .before .before .before .before .before .before .before .before .before .before .before .before .before .before .before .before .before .before .found .given .1) (change-is (c .before .before .before .before .before .before)) (told-is (c .before .before .before .before .before)) (ap (λ x. record { count = c .before .before .before .before .before .before .before .before .before .before .before .before .before .before .before .before .before .before .before .before .before .before .loop .book .count + 1; serial = x; rows = set (c .before .before .before .before .before .before .before .before .before .before .before .before .before .before .before .before .before .before .before .before .before .before .loop .book .rows) (c .before .before .before .before .before .before .before .before .before .before .before .before .before .before .before .before .before .before .before .before .before .before .loop .book .count) (c .before .change4 .given .0 .0) }) (c .before .before .before .before .wrapping-add-u16 .ensures) ∙ ap (bookAfter (c .before .before .before .before .before .before .before .before .before .before .before .before .before .before .before .before .before .before .before .before .before .before .loop .book) ((c .before .before .before .before .before .before .before .before .before .before .before .before .before .before .before .before .before .before .before .found .given .0 .0) .account)) (sym (c .before .change4 .given .1)))),
-      open-keeps (v .book) (c .before .before .before .before .before .before .before .before .before .before .before .before .before .before .before .before .before .before .before .found .given .0 .0) (c .before .change4 .given .0 .0) (v .inv .0 .sound) (sym (change-is (c .before .before .before .before .before .before)) ∙ c .before .change4 .given .1) (v .owed) (v .inv .1) _,
+          (turn _ _ _ _ _ _ _ _ (v .room) (v .book) (v .place) (v .read) (v .done) (v .inv .0) _ _ _ _ _ (c .before .before .before .before .before .before .before .before .before .before .before .before .before .before .before .before .before .before .if2 .left)
+          (sym (c .before .before .before .before .before .before .before .before .before .before .before .before .before .before .before .before .before .before .before .before .before .before .found-at .ensures) ∙ c .before .before .before .before .before .before .before .before .before .before .before .before .before .before .before .before .before .before .before .before .found .given .1) (change-is (c .before .before .before .before .before .before)) (told-is (c .before .before .before .before .before)) (ap (withSerial (withNew (c .before .before .before .before .before .before .before .before .before .before .before .before .before .before .before .before .before .before .before .before .before .before .before .loop .book) (c .before .change4 .given .0 .0))) (c .before .before .before .before .wrapping-add-u16 .ensures) ∙ ap (bookAfter (c .before .before .before .before .before .before .before .before .before .before .before .before .before .before .before .before .before .before .before .before .before .before .before .loop .book) ((c .before .before .before .before .before .before .before .before .before .before .before .before .before .before .before .before .before .before .before .before .found .given .0 .0) .account)) (sym (c .before .change4 .given .1)))),
+      open-keeps (v .book) (c .before .before .before .before .before .before .before .before .before .before .before .before .before .before .before .before .before .before .before .before .found .given .0 .0) (c .before .change4 .given .0 .0) (v .inv .0 .sound) (sym (change-is (c .before .before .before .before .before .before)) ∙ c .before .change4 .given .1) (v .owed) (v .inv .1),
     )
 
 same-length : tie.Need-same-length Inv-loop μ-loop
@@ -344,6 +366,7 @@ run-spec =
     element-copy-out-top
     array-read-all
     has-live-client-requires
+    accounts-of-requires
     see-requires
     change-requires
     refusal-shown-requires
@@ -359,6 +382,7 @@ run-spec =
     loop-less-2
     loop-again-2
     enum-known-change-2
+    account-of-requires
     under-tm-requires
     under-cm-requires
     mul-new

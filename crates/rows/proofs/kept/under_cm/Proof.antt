@@ -6,13 +6,13 @@ use Rattle.rows.proofs.NeedSums.{due-most, member-most}
 use Rattle.rows.proofs.kept.under_cm.Statement.{statement}
 use Rattle.rows.proofs.kept.under_cm.Tie as tie
 
-after-most : (c : tie.After-under-tm) → c .under-tm .result ≤ 2_570_000_000_000_000
+after-most : (c : tie.After-under-tm) → c .under-tm .result ≤ 30_000_000_000_000_000
 after-most c =
     let start = c .before in
-    omega (arith, c .under-tm .ensures, due-most (start .args .new) (start .pre .0 .1), start .pre .1)
+    omega (arith, c .under-tm .ensures, due-most (start .args .new), start .pre)
 
 -- no sum passes a word: the four parts are at most this
-gone-most : (c : tie.After-member-due3) → c .before .before .member-due .result + c .member-due3 .result ≤ 5_200_000_000_000_000
+gone-most : (c : tie.After-member-due3) → c .before .before .member-due .result + c .member-due3 .result ≤ 61_000_000_000_000_000
 gone-most c =
     let start = c .before .before .before .before in
     let a = start .args in
@@ -20,12 +20,12 @@ gone-most c =
       arith,
       c .before .before .member-due .ensures,
       c .member-due3 .ensures,
-      member-most (a .row) (a .under) (start .pre .0 .0),
-      member-most (a .tm) (a .owed) (start .pre .0 .2),
-      start .pre .1,
+      member-most (a .old) (a .under),
+      member-most (a .tm) (a .owed),
+      start .pre,
     )
 
-come-most : (c : tie.After-member-due4) → c .before .before .member-due2 .result + c .member-due4 .result ≤ 5_200_000_000_000_000
+come-most : (c : tie.After-member-due4) → c .before .before .member-due2 .result + c .member-due4 .result ≤ 61_000_000_000_000_000
 come-most c =
     let start = c .before .before .before .before .before in
     let a = start .args in
@@ -33,10 +33,10 @@ come-most c =
       arith,
       c .before .before .member-due2 .ensures,
       c .member-due4 .ensures,
-      member-most (a .new) (a .under) (start .pre .0 .1),
-      member-most (a .tm) (c .before .before .before .before .under-tm .result) (start .pre .0 .2),
+      member-most (a .new) (a .under),
+      member-most (a .tm) (c .before .before .before .before .under-tm .result),
       after-most (c .before .before .before .before),
-      start .pre .1,
+      start .pre,
     )
 
 under-tm-requires : tie.Need-under-tm-requires

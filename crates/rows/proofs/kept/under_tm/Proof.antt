@@ -14,7 +14,7 @@ client-due-requires-2 c κs = search needs
 add-less : tie.Need-add-less
 add-less c =
     let start = c .before .before in
-    omega (arith, c .client-due2 .ensures, due-most (start .args .new) (start .pre .1), start .pre .2)
+    omega (arith, c .client-due2 .ensures, due-most (start .args .new), start .pre)
 
 less-requires : tie.Need-less-requires
 less-requires c κs = search needs

@@ -3,9 +3,6 @@ use borrow.Author.Needs.{needs}
 use Rattle.rows.proofs.needs.client_due.Statement.{statement}
 use Rattle.rows.proofs.needs.client_due.Tie as tie
 
-collateral-of-requires : tie.Need-collateral-of-requires
-collateral-of-requires c κs = search needs
-
 deemed-requires : tie.Need-deemed-requires
 deemed-requires c κs = search needs
 
@@ -17,4 +14,4 @@ returns c = cc
 
 pub client-due-spec : {M : Type 1} → statement M
 client-due-spec =
-    tie.close (tie.spec collateral-of-requires deemed-requires only-if-requires returns)
+    tie.close (tie.spec deemed-requires only-if-requires returns)

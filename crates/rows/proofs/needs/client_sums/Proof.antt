@@ -1,14 +1,16 @@
 -- `rows::needs::client_sums` meets its contract.
-use mathlib.Core.Path.{_≡_, refl, sym, ap, _∙_}
+use mathlib.Core.Path.{_≡_, refl, sym, ap, subst, _∙_}
 use Prim.Native.Nat.{ℕ, _+_, _-_, _≤_, _<_}
 use native.Mathlib.Omega.{arith}
 use lib.Dec.{eqb}
 use lib.ListN.{length, getD, length-set, getD-replicate, length-replicate}
 use borrow.Author.Needs.{needs}
 use Rattle.sums.specs.Sum.{only}
+use Rattle.rows.specs.declared.Account.{Account}
 use Rattle.rows.specs.View.{isClientOf, ownDeemed}
-use Rattle.rows.specs.Rows.{rowAt, view}
-use Rattle.rows.specs.Inner.{clientsBelow}
+use Rattle.rows.specs.Rows.{rowAt, accountOf, view}
+use Rattle.rows.specs.Under.{clientDue}
+use Rattle.rows.specs.Inner.{Slot, clientsBelow}
 use Rattle.rows.proofs.NeedSums.{clients-none, clients-step, clients-most, due-most, due-at, add-at}
 use Rattle.rows.proofs.needs.client_sums.Statement.{statement}
 use Rattle.rows.proofs.needs.client_sums.Tie as tie
@@ -40,11 +42,14 @@ mul-r c = omega (arith, c .before .before .before .pre .most)
 element-copy-out-r : tie.Need-element-copy-out-r Inv-loop μ-loop
 element-copy-out-r c = omega (arith, c .before .before .before .pre .most)
 
+account-of-requires : tie.Need-account-of-requires Inv-loop μ-loop
+account-of-requires c κs = c .before .before .before .before .pre .ranges (c .before .before .loop .i) (omega arith)
+
 slot-requires : tie.Need-slot-requires Inv-loop μ-loop
 slot-requires c κs = search needs
 
 client-due-requires : tie.Need-client-due-requires Inv-loop μ-loop
-client-due-requires c κs = c .before .before .before .before .before .pre .ranges (c .before .before .before .loop .i) (omega arith)
+client-due-requires c κs = search needs
 
 mul-owed : tie.Need-mul-owed Inv-loop μ-loop
 mul-owed c = omega (arith, c .before .slot .ensures .inside)
@@ -54,7 +59,7 @@ array-read-owed c = omega (arith, c .before .slot .ensures .inside)
 
 add-owed : tie.Need-add-owed Inv-loop μ-loop
 add-owed c =
-    let at = c .before .before .before .before in
+    let at = c .before .before .before .before .before in
     let start = at .before .before in
     let b = start .args .t1 in
     let i = at .loop .i in
@@ -64,8 +69,9 @@ add-owed c =
       arith,
       at .loop .inv .3 t (c .before .slot .ensures .inside),
       clients-most b (start .pre) t i (omega arith),
-      c .client-due .ensures,
-      due-most (rowAt b i) (start .pre .ranges i (omega arith)),
+      c .client-due .ensures ∙ ap clientDue (c .before .before .account-of .ensures),
+      due-most (accountOf (rowAt b i)),
+      start .pre .ranges i (omega arith) .margin,
     )
 
 mul-owed-2 : tie.Need-mul-owed-2 Inv-loop μ-loop
@@ -82,19 +88,22 @@ loop-less c = omega arith
 
 loop-again : tie.Need-loop-again Inv-loop μ-loop
 loop-again c =
-    let at = c .before .before .before .before in
+    let at = c .before .before .before .before .before in
     let b = at .before .before .args .t1 in
     let i = at .loop .i in
     let owed = at .loop .owed in
     let s = c .before .slot .result in
     let d = c .client-due .result in
-    let inside = c .before .slot .ensures .inside in (
+    let inside = c .before .slot .ensures .inside in
+    let is-account = c .before .before .account-of .ensures in
+    let is-due : d ≡ clientDue (accountOf (rowAt b i)) = c .client-due .ensures ∙ ap clientDue is-account in
+    let is-slot : Slot (rowAt b i .tm) s = subst (λ (a : Account). Slot (a .tm) s) is-account (c .before .slot .ensures) in (
       refl,
       omega arith,
       length-set owed s (getD owed s 0 + d) ∙ at .loop .inv .2,
       λ t h.
           let due : only (isClientOf (view b) t i) (ownDeemed (view b) i) ≡ only (eqb s t) d =
-          rw (c .client-due .ensures) (due-at (rowAt b i) s t h (c .before .slot .ensures)) in
+          rw (is-due) (due-at (accountOf (rowAt b i)) s t h is-slot) in
           omega (arith, add-at owed s d t (omega arith), at .loop .inv .3 t h, clients-step (view b) t i),
     )
 
@@ -117,6 +126,7 @@ client-sums-spec =
     loop-holds
     mul-r
     element-copy-out-r
+    account-of-requires
     slot-requires
     client-due-requires
     mul-owed

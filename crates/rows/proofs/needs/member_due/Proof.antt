@@ -6,9 +6,6 @@ use borrow.Author.Needs.{needs}
 use Rattle.rows.proofs.needs.member_due.Statement.{statement}
 use Rattle.rows.proofs.needs.member_due.Tie as tie
 
-collateral-of-requires : tie.Need-collateral-of-requires
-collateral-of-requires c κs = search needs
-
 add-deemed : tie.Need-add-deemed
 add-deemed c = search needs
 
@@ -27,13 +24,13 @@ only-if-requires-2 c κs = search needs
 add-result : tie.Need-add-result
 add-result c =
     let at = c .before .before .before in
-    let r = at .before .before .before .before .before .args .r in
+    let a = at .before .before .before .before .args .a in
     omega (
       arith,
       at .only-if .ensures,
       c .only-if2 .ensures,
-      only-most (eqb (r .sort) 1) (at .before .deemed .result),
-      only-most (eqb (r .sort) 3) (c .before .deemed2 .result),
+      only-most (eqb (a .sort) 1) (at .before .deemed .result),
+      only-most (eqb (a .sort) 3) (c .before .deemed2 .result),
     )
 
 returns : tie.Need-returns
@@ -43,7 +40,6 @@ pub member-due-spec : {M : Type 1} → statement M
 member-due-spec =
     tie.close
     (tie.spec
-    collateral-of-requires
     add-deemed
     deemed-requires
     only-if-requires

@@ -1,6 +1,7 @@
 -- `rows::needs::need_cm` meets its contract.
 use native.Mathlib.Omega.{arith}
 use borrow.Author.Needs.{needs}
+use Rattle.rows.specs.Rows.{view}
 use Rattle.rows.proofs.NeedSums.{members-top, need-cm-sum}
 use Rattle.rows.proofs.needs.need_cm.Statement.{statement}
 use Rattle.rows.proofs.needs.need_cm.Tie as tie
@@ -20,7 +21,7 @@ add-result c =
     omega (arith, c .members-sum .ensures, members-top (start .args .t1) (start .pre .0), start .pre .0 .ranges 0 (start .pre .1) .margin)
 
 returns : tie.Need-returns
-returns c = omega (arith, c .members-sum .ensures, need-cm-sum (c .before .before .args .t1))
+returns c = omega (arith, c .members-sum .ensures, need-cm-sum (view (c .before .before .args .t1)))
 
 pub need-cm-spec : {M : Type 1} → statement M
 need-cm-spec =

@@ -5,6 +5,7 @@ use borrow.Author.Tests.{eq-eqb, ne-eqb}
 use mathlib.Core.Path.{refl}
 use Rattle.sums.proofs.Choices.{pass, stop}
 use Rattle.rows.specs.View.{need}
+use Rattle.rows.specs.Rows.{view}
 use Rattle.rows.proofs.NeedSums.{clients-top, need-tm-sum}
 use Rattle.rows.proofs.needs.need_of.Statement.{statement}
 use Rattle.rows.proofs.needs.need_of.Tie as tie
@@ -47,7 +48,7 @@ returns-2 c =
     let i = start .args .i in
     let most = start .pre .0 .most in
     stop _ (ne-eqb _ _ (c .before .before .before .before .if1 .left))
-    (pass _ (eq-eqb _ _ (c .before .before .if2 .taken)) (omega (arith, owed .each i (omega arith), need-tm-sum (start .args .t1) i)))
+    (pass _ (eq-eqb _ _ (c .before .before .if2 .taken)) (omega (arith, owed .each i (omega arith), need-tm-sum (view (start .args .t1)) i)))
 
 returns-3 : tie.Need-returns-3
 unfolding need

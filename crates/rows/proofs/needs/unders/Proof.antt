@@ -1,9 +1,12 @@
 -- `rows::needs::unders` meets its contract.
-use mathlib.Core.Path.{_∙_}
-use native.Mathlib.Omega.{arith}
-use lib.ListN.{length-set}
-use lib.Seq.{getD-set-same, getD-set-other}
+use mathlib.Core.Path.{subst, sym}
+use mathlib.Core.List.{List}
+use Prim.Native.Nat.{ℕ}
+use lib.ListN.{set}
 use borrow.Author.Needs.{needs}
+use Rattle.rows.specs.Rows.{view}
+use Rattle.rows.specs.Under.{Under}
+use Rattle.rows.proofs.Unders.{under-first}
 use Rattle.rows.proofs.needs.unders.Statement.{statement}
 use Rattle.rows.proofs.needs.unders.Tie as tie
 
@@ -18,14 +21,11 @@ array-write-owed c = search needs
 
 returns : tie.Need-returns
 returns c =
+    let start = c .before .before in
+    let b = start .args .b in
     let owed = c .before .client-sums .result in
-    let all = c .members-sum .result in
-    let o = c .before .client-sums .ensures in
-    record {
-      size = length-set owed 0 all ∙ o .size;
-      all = getD-set-same owed 0 all 0 (omega (arith, o .size)) ∙ c .members-sum .ensures;
-      each = λ t p l. getD-set-other owed 0 t all 0 (λ e. omega arith) ∙ o .each t l;
-    }
+    subst (λ (all : ℕ). Under (view b) (set owed 0 all)) (sym (c .members-sum .ensures))
+    (under-first (view b) (start .pre .1) (start .pre .0 .most) owed (c .before .client-sums .ensures))
 
 pub unders-spec : {M : Type 1} → statement M
 unders-spec =

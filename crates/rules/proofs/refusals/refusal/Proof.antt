@@ -5,10 +5,11 @@ use mathlib.Core.Bool.{not}
 use mathlib.Core.List.{[], _++_}
 use mathlib.Core.Path.{_≡_, sym, ap, _∙_}
 use Prim.Native.Nat.{ℕ}
+use lib.ListN.{drop}
 use Rattle.sums.specs.Table.{first}
 use Rattle.sums.proofs.Tables.{first-here, first-later, first-some}
 use Rattle.dayfile.specs.Records.{faults, faultOf}
-use Rattle.rules.specs.Inner.{AmountsIn, refusalBy, from7, from8, from9, from10, from11, from12, from13, from14}
+use Rattle.rules.specs.Inner.{AmountsIn, refusalBy, from7}
 use Rattle.dayfile.proofs.Good.{good, past-faults}
 use Rattle.rules.proofs.Faults.{amounts-in}
 use Rattle.rules.proofs.refusals.refusal.Statement.{statement}
@@ -31,25 +32,25 @@ after6 : (c : tie.Else2) → sought (c .before .before .before .before)
     ≡ first (from7 (c .before .before .before .before .args .row) (c .before .before .before .before .args .count) (c .before .before .before .before .args .seen) (c .before .before .before .before .args .r))
 after6 c = after3 (c .before .before) ∙ past-faults _ _ (no-faults c)
 
-after7 : (c : tie.Else3) → sought (c .before .before .before .before .before .before .before) ≡ first (from8 (c .before .before .before .before .before .before .before .args .row) (c .before .before .before .before .before .before .before .args .count) (c .before .before .before .before .before .before .before .args .seen) (c .before .before .before .before .before .before .before .args .r))
+after7 : (c : tie.Else3) → sought (c .before .before .before .before .before .before .before) ≡ first (drop 1 (from7 (c .before .before .before .before .before .before .before .args .row) (c .before .before .before .before .before .before .before .args .count) (c .before .before .before .before .before .before .before .args .seen) (c .before .before .before .before .before .before .before .args .r)))
 after7 c = after6 (c .before .before .before) ∙ first-later 7 _ _ (c .if3 .left)
 
-after8 : (c : tie.Else4) → sought (c .before .before .before .before .before .before .before .before .before) ≡ first (from9 (c .before .before .before .before .before .before .before .before .before .args .row) (c .before .before .before .before .before .before .before .before .before .args .count) (c .before .before .before .before .before .before .before .before .before .args .seen) (c .before .before .before .before .before .before .before .before .before .args .r))
+after8 : (c : tie.Else4) → sought (c .before .before .before .before .before .before .before .before .before) ≡ first (drop 2 (from7 (c .before .before .before .before .before .before .before .before .before .args .row) (c .before .before .before .before .before .before .before .before .before .args .count) (c .before .before .before .before .before .before .before .before .before .args .seen) (c .before .before .before .before .before .before .before .before .before .args .r)))
 after8 c = after7 (c .before .before) ∙ first-later 8 _ _ (sym (c .before .wrong-sort .ensures) ∙ c .if4 .left)
 
-after9 : (c : tie.Else5) → sought (c .before .before .before .before .before .before .before .before .before .before .before) ≡ first (from10 (c .before .before .before .before .before .before .before .before .before .before .before .args .row) (c .before .before .before .before .before .before .before .before .before .before .before .args .seen) (c .before .before .before .before .before .before .before .before .before .before .before .args .r))
+after9 : (c : tie.Else5) → sought (c .before .before .before .before .before .before .before .before .before .before .before) ≡ first (drop 3 (from7 (c .before .before .before .before .before .before .before .before .before .before .before .args .row) (c .before .before .before .before .before .before .before .before .before .before .before .args .count) (c .before .before .before .before .before .before .before .before .before .before .before .args .seen) (c .before .before .before .before .before .before .before .before .before .before .before .args .r)))
 after9 c = after8 (c .before .before) ∙ first-later 9 _ _ (sym (c .before .no-number-left .ensures) ∙ c .if5 .left)
 
-after10 : (c : tie.Else6) → sought (c .before .before .before .before .before .before .before .before .before .before .before .before .before) ≡ first (from11 (c .before .before .before .before .before .before .before .before .before .before .before .before .before .args .row) (c .before .before .before .before .before .before .before .before .before .before .before .before .before .args .seen) (c .before .before .before .before .before .before .before .before .before .before .before .before .before .args .r))
+after10 : (c : tie.Else6) → sought (c .before .before .before .before .before .before .before .before .before .before .before .before .before) ≡ first (drop 4 (from7 (c .before .before .before .before .before .before .before .before .before .before .before .before .before .args .row) (c .before .before .before .before .before .before .before .before .before .before .before .before .before .args .count) (c .before .before .before .before .before .before .before .before .before .before .before .before .before .args .seen) (c .before .before .before .before .before .before .before .before .before .before .before .before .before .args .r)))
 after10 c = after9 (c .before .before) ∙ first-later 10 _ _ (sym (c .before .past-ceiling .ensures) ∙ c .if6 .left)
 
-after11 : (c : tie.Else7) → sought (c .before .before .before .before .before .before .before .before .before .before .before .before .before .before .before) ≡ first (from12 (c .before .before .before .before .before .before .before .before .before .before .before .before .before .before .before .args .row) (c .before .before .before .before .before .before .before .before .before .before .before .before .before .before .before .args .seen) (c .before .before .before .before .before .before .before .before .before .before .before .before .before .before .before .args .r))
+after11 : (c : tie.Else7) → sought (c .before .before .before .before .before .before .before .before .before .before .before .before .before .before .before) ≡ first (drop 5 (from7 (c .before .before .before .before .before .before .before .before .before .before .before .before .before .before .before .args .row) (c .before .before .before .before .before .before .before .before .before .before .before .before .before .before .before .args .count) (c .before .before .before .before .before .before .before .before .before .before .before .before .before .before .before .args .seen) (c .before .before .before .before .before .before .before .before .before .before .before .before .before .before .before .args .r)))
 after11 c = after10 (c .before .before) ∙ first-later 11 _ _ (sym (c .before .too-much .ensures) ∙ c .if7 .left)
 
-after12 : (c : tie.Else8) → sought (c .before .before .before .before .before .before .before .before .before .before .before .before .before .before .before .before .before) ≡ first (from13 (c .before .before .before .before .before .before .before .before .before .before .before .before .before .before .before .before .before .args .row) (c .before .before .before .before .before .before .before .before .before .before .before .before .before .before .before .before .before .args .seen) (c .before .before .before .before .before .before .before .before .before .before .before .before .before .before .before .before .before .args .r))
+after12 : (c : tie.Else8) → sought (c .before .before .before .before .before .before .before .before .before .before .before .before .before .before .before .before .before) ≡ first (drop 6 (from7 (c .before .before .before .before .before .before .before .before .before .before .before .before .before .before .before .before .before .args .row) (c .before .before .before .before .before .before .before .before .before .before .before .before .before .before .before .before .before .args .count) (c .before .before .before .before .before .before .before .before .before .before .before .before .before .before .before .before .before .args .seen) (c .before .before .before .before .before .before .before .before .before .before .before .before .before .before .before .before .before .args .r)))
 after12 c = after11 (c .before .before) ∙ first-later 12 _ _ (sym (c .before .beyond-free .ensures) ∙ c .if8 .left)
 
-after13 : (c : tie.Else9) → sought (c .before .before .before .before .before .before .before .before .before .before .before .before .before .before .before .before .before .before .before .before) ≡ first (from14 (c .before .before .before .before .before .before .before .before .before .before .before .before .before .before .before .before .before .before .before .before .args .row) (c .before .before .before .before .before .before .before .before .before .before .before .before .before .before .before .before .before .before .before .before .args .seen) (c .before .before .before .before .before .before .before .before .before .before .before .before .before .before .before .before .before .before .before .before .args .r))
+after13 : (c : tie.Else9) → sought (c .before .before .before .before .before .before .before .before .before .before .before .before .before .before .before .before .before .before .before .before) ≡ first (drop 7 (from7 (c .before .before .before .before .before .before .before .before .before .before .before .before .before .before .before .before .before .before .before .before .args .row) (c .before .before .before .before .before .before .before .before .before .before .before .before .before .before .before .before .before .before .before .before .args .count) (c .before .before .before .before .before .before .before .before .before .before .before .before .before .before .before .before .before .before .before .before .args .seen) (c .before .before .before .before .before .before .before .before .before .before .before .before .before .before .before .before .before .before .before .before .args .r)))
 after13 c = after12 (c .before .before .before) ∙ first-later 13 _ _ (c .if9 .left)
 
 small : (c : tie.Else2) → AmountsIn (c .before .before .before .before .args .r)

@@ -1,14 +1,36 @@
 -- The need of each sort of account, what it is deemed, and who is a client of whom.
-use mathlib.Core.Path.{_≡_, ap}
+use mathlib.Core.Path.{_≡_, ap, _∙_}
 use mathlib.Core.Bool.{true}
-use Prim.Native.Nat.{ℕ, _≤_}
+use mathlib.Core.Logic.{_⊎_, inl, inr}
+use Prim.Native.Nat.{ℕ, _≤_, _<_}
 use native.Mathlib.Omega.{arith}
+use native.Mathlib.Decide.{ℕ-discrete}
 use lib.Dec.{eqb}
 use borrow.Author.Tests.{eqb-true, eq-eqb}
 use Rattle.sums.specs.Choice.{pick}
 use Rattle.sums.proofs.Sums.{only-le}
 use Rattle.sums.proofs.Choices.{and-split, and-join}
+use Rattle.rows.specs.Facts.{Shaped}
 use Rattle.rows.specs.View.{View, isTM, isClient, isCP, isClientOf, members, deemedOf, ownDeemed, needTM, deemedTM, needCM, need, deemed}
+
+-- what account i is, by its sort
+pub data Sort (v : View) (i : ℕ) : Type 0 where
+  cm : i ≡ 0 → v .sort i ≡ 0 → Sort v i
+  tm : 0 < i → v .sort i ≡ 1 → Sort v i
+  client : 0 < i → v .sort i ≡ 2 → Sort v i
+  cp : 0 < i → v .sort i ≡ 3 → Sort v i
+
+pub sort-of : (v : View) → Shaped v → (i : ℕ) → i < v .count → Sort v i
+sort-of v s i l = by (ℕ-discrete i 0)
+  where
+    other : 0 < i → (v .sort i ≡ 1) ⊎ ((v .sort i ≡ 2) ⊎ (v .sort i ≡ 3)) → Sort v i
+    other p (inl e) = tm p e
+    other p (inr (inl e)) = client p e
+    other p (inr (inr e)) = cp p e
+
+    by : Dec (i ≡ 0) → Sort v i
+    by (yes e) = cm e (ap (v .sort) e ∙ s .top)
+    by (no e) = other (omega arith) (s .sorts i (omega arith) l)
 
 module _ (v : View) (i : ℕ) where
   pub need-CM : v .sort i ≡ 0 → need v i ≡ needCM v
