@@ -9,17 +9,19 @@ use lib.Dec.{eqb}
 use lib.ListN.{length, getD, set, drop, length-set}
 use Rattle.sums.specs.Sum.{sum, only}
 use Rattle.sums.proofs.Sums.{sum-step, only-most}
-use Rattle.rows.specs.declared.Row.{Row}
+use Rattle.rows.specs.declared.Account.{Account}
 use Rattle.rows.specs.declared.Book.{Book}
 use Rattle.rows.specs.View.{View, freeOf, free, need}
 use Rattle.rows.specs.Rows.{ceiling, rowAt, collateral, view}
+use Rattle.rows.specs.Under.{accountAt}
 use Rattle.book.specs.Facts.{Sound}
 use Rattle.closeout.specs.declared.pays.Paid.{Paid}
 use Rattle.closeout.specs.declared.pays.Both.{Both}
+use Rattle.closeout.specs.declared.pays.Purses.{Purses}
 use Rattle.closeout.specs.Round.{own, leftTM, fromTM, leftCM, fromCM}
 use Rattle.closeout.specs.Columns.{isClientOrCP, ownPayment, withPurses, purses₁, part₁, paid₁, purses₂, part₂, uncovered, four, rowsTo, total}
 use Rattle.closeout.specs.Closing.{lossAt}
-use Rattle.closeout.specs.Inner.{paidOf, shortBy, paidBy, bothOf, roundsBy, fourOf, putAt}
+use Rattle.closeout.specs.Inner.{paidOf, shortBy, paidBy, bothOf, roundsBy, afterOwn, fourOf, putAt}
 use Rattle.closeout.proofs.Payments.{fromTM-other}
 use Rattle.closeout.proofs.ZeroColumns.{CM-third-is-0}
 use Rattle.closeout.proofs.Cells.{four-long}
@@ -73,25 +75,22 @@ module _ (v : View) (l : ℕ → ℕ) (top : v .sort 0 ≡ 0) where
       ∙ ap (λ x. only (not x) (free v 0) - min (part₂ v l 0) (only (not x) (free v 0))) member
       ∙ ap (λ x. free v 0 - min x (free v 0)) left-second
 
--- c is the CM's collateral, f its free part, and own what round one takes for its own loss
-pub start : (b : Book) (losses room left more : List ℕ) {c f m own second : ℕ} → Sound b → length left ≡ 256 → length more ≡ 256
-    → c ≡ collateral (rowAt b 0) → f ≡ free (view b) 0 → m ≡ min (lossAt losses 0) (rowAt b 0 .margin) → own ≡ min m c → second ≡ min (lossAt losses 0 - own) f
-    → Passed b losses room room left more (c - own) (f - second) 0 0
-unfolding rowsTo sum
-start b losses room left more {c} {f} {m} {own} {second} h n n₂ has is-free within paid paid₂ =
-    let e₁ : own ≡ min (min (lossAt losses 0) (rowAt b 0 .margin)) (collateral (rowAt b 0)) = cc in
-    let e₂ : second ≡ min (lossAt losses 0 - min (min (lossAt losses 0) (rowAt b 0 .margin)) (collateral (rowAt b 0))) (free (view b) 0) = cc in
-    record {
-      rows = refl;
-      wide = refl;
-      size = n;
-      size₂ = n₂;
-      tms = λ k d. absurd (omega arith);
-      tms₂ = λ k d. absurd (omega arith);
-      cm-left = ap (λ x. x - own) has ∙ ap (λ x. collateral (rowAt b 0) - x) e₁ ∙ sym (start-first (view b) (lossAt losses) (h .shaped .top));
-      cm-left₂ = ap (λ x. x - second) is-free ∙ ap (λ x. free (view b) 0 - x) e₂ ∙ sym (start-second (view b) (lossAt losses) (h .shaped .top));
-      open-is = refl;
-    }
+-- the CM's own parts are paid
+pub start : (b : Book) (losses room left more : List ℕ) (under : ℕ) {x : Purses} → Sound b → length left ≡ 256 → length more ≡ 256
+    → need (view b) 0 ≡ rowAt b 0 .margin + under → x ≡ afterOwn (accountAt (view b) 0) (lossAt losses 0) under
+    → Passed b losses room room left more (x .left) (x .free) 0 0
+unfolding rowsTo sum afterOwn
+start b losses room left more under h n n₂ is-need e = record {
+  rows = refl;
+  wide = refl;
+  size = n;
+  size₂ = n₂;
+  tms = λ k d. absurd (omega arith);
+  tms₂ = λ k d. absurd (omega arith);
+  cm-left = ap (λ x. x .left) e ∙ sym (start-first (view b) (lossAt losses) (h .shaped .top));
+  cm-left₂ = ap (λ x. x .free) e ∙ sym (start-second (view b) (lossAt losses) (h .shaped .top) ∙ ap (λ m. freeOf m (collateral (rowAt b 0)) - min (lossAt losses 0 - min (min (lossAt losses 0) (rowAt b 0 .margin)) (collateral (rowAt b 0))) (freeOf m (collateral (rowAt b 0)))) is-need);
+  open-is = refl;
+}
 
 -- all accounts passed
 pub finish : {b : Book} {losses room₀ room left more : List ℕ} {cm cm₂ open-sum i : ℕ} → Passed b losses room₀ room left more cm cm₂ open-sum i
@@ -118,7 +117,7 @@ cm-within : (sort purse ask tm cm : ℕ) → paidBy sort purse ask tm cm .cm ≤
 unfolding paidBy
 cm-within sort purse ask tm cm = omega arith
 
-module _ (r : Row) (loss under tm cm tm₂ cm₂ : ℕ) {p : Both} (e : p ≡ roundsBy r loss under tm cm tm₂ cm₂) where
+module _ (r : Account) (loss under tm cm tm₂ cm₂ : ℕ) {p : Both} (e : p ≡ roundsBy r loss under tm cm tm₂ cm₂) where
   pub tm-has : p .first .tm ≤ tm
   unfolding roundsBy
   tm-has = rw e (tm-within _ _ _ tm cm)
@@ -156,15 +155,15 @@ module _ {b : Book} {losses room₀ room left more : List ℕ} {cm cm₂ open-su
 
   -- what an account pays in this turn
   pays-now : (under : ℕ) {p : Both} → need (view b) i ≡ rowAt b i .margin + under
-      → p ≡ roundsBy (rowAt b i) (lossAt losses i) under (getD left t 0) cm (getD more t 0) cm₂
+      → p ≡ roundsBy (accountAt (view b) i) (lossAt losses i) under (getD left t 0) cm (getD more t 0) cm₂
       → p ≡ bothOf (ownPayment (view b) (lossAt losses) i) one two
   pays-now under n e =
-      e ∙ ap (λ x. roundsBy (rowAt b i) (lossAt losses i) under (getD left t 0) x (getD more t 0) cm₂) (at .cm-left)
-      ∙ ap (roundsBy (rowAt b i) (lossAt losses i) under (getD left t 0) _ (getD more t 0)) (at .cm-left₂)
+      e ∙ ap (λ x. roundsBy (accountAt (view b) i) (lossAt losses i) under (getD left t 0) x (getD more t 0) cm₂) (at .cm-left)
+      ∙ ap (roundsBy (accountAt (view b) i) (lossAt losses i) under (getD left t 0) _ (getD more t 0)) (at .cm-left₂)
       ∙ row-pays b (lossAt losses) i under (getD left t 0) (getD more t 0) n (λ c. at .tms t (h .shaped .tms i m c .0)) (λ c. at .tms₂ t (h .shaped .tms i m c .0))
 
   pub turn : (under : ℕ) {p : Both} {room′ : List ℕ} → need (view b) i ≡ rowAt b i .margin + under
-      → p ≡ roundsBy (rowAt b i) (lossAt losses i) under (getD left t 0) cm (getD more t 0) cm₂
+      → p ≡ roundsBy (accountAt (view b) i) (lossAt losses i) under (getD left t 0) cm (getD more t 0) cm₂
       → room′ ≡ putAt room (4 * i) (fourOf p) → length room′ ≡ length room
       → Passed b losses room₀ room′ (set (set left t (getD left t 0 - p .first .tm)) i (p .first .kept))
       (set (set more t (getD more t 0 - p .second .tm)) i (p .second .kept)) (cm - p .first .cm) (cm₂ - p .second .cm) (open-sum + p .second .unpaid) (i + 1)

@@ -10,16 +10,18 @@ use lib.ListN.{length, getD, set, length-set}
 use lib.Seq.{getD-set-same, getD-set-other}
 use borrow.Author.Tests.{eqb-true}
 use Rattle.sums.specs.Sum.{only}
-use Rattle.rows.specs.declared.Row.{Row}
+use Rattle.rows.specs.declared.Account.{Account}
 use Rattle.rows.specs.declared.Book.{Book}
 use Rattle.rows.specs.View.{View, isClient, freeOf, need}
 use Rattle.rows.specs.Facts.{Shaped}
+use Rattle.rows.specs.Under.{accountAt}
 use Rattle.rows.specs.Rows.{rowAt, collateral, view}
 use Rattle.closeout.specs.Round.{own, short, leftTM, fromTM, askedOfCM, leftCM, fromCM, unpaid}
 use Rattle.closeout.specs.Columns.{ownPayment, purses₁, part₁, paid₁, purses₂, part₂, ownColumn, tmColumn, cmColumn, uncovered, four}
 use Rattle.closeout.specs.declared.pays.Paid.{Paid}
 use Rattle.closeout.specs.declared.pays.Both.{Both}
-use Rattle.closeout.specs.Inner.{paidOf, tmBy, askedBy, paidBy, clientOrCPBy, ownPaymentBy, part₁By, purseBy, freeBy, part₂By, bothOf, roundsBy, fourOf}
+use Rattle.closeout.specs.declared.pays.Purses.{Purses}
+use Rattle.closeout.specs.Inner.{paidOf, tmBy, askedBy, paidBy, clientOrCPBy, ownPaymentBy, part₁By, purseBy, freeBy, part₂By, bothOf, roundsBy, afterOwn, fourOf}
 use Rattle.closeout.proofs.Payments.{over}
 use Rattle.closeout.proofs.TwoRounds.{the-rest}
 use Rattle.closeout.proofs.Steps.{not-named, leftTM-other, leftTM-named, leftTM-own}
@@ -53,23 +55,28 @@ own-fits false loss c low paid e q = omega arith
 pub first-fits : (loss m a n ask s left : ℕ) → a ≤ loss → n ≡ min loss m → ask ≡ n - a → s + left ≡ ask → a + s ≤ loss
 first-fits loss m a n ask s left h e q p = omega arith
 
--- what is worked out one after the other is what a row pays in both rounds
-pub by-rounds : (r : Row) (loss under tm cm tm₂ cm₂ : ℕ) {c f low ownPayment most ask purse spare : ℕ} {p q : Paid} → c ≡ collateral r
-    → f ≡ freeOf (r .margin + under) (collateral r) → low ≡ min loss c → ownPayment ≡ only (clientOrCPBy r) low → most ≡ min loss (r .margin) → ask ≡ most - ownPayment
-    → purse ≡ only (not (clientOrCPBy r)) c → p ≡ paidBy (r .sort) purse ask tm cm → spare ≡ only (not (clientOrCPBy r)) f
-    → q ≡ paidBy (r .sort) spare (loss - ownPayment - (p .own + p .tm + p .cm)) tm₂ cm₂ → bothOf ownPayment p q ≡ roundsBy r loss under tm cm tm₂ cm₂
+-- what is worked out one after the other is what an account pays in both rounds
+pub by-rounds : (r : Account) (loss under tm cm tm₂ cm₂ : ℕ) {f low paid most ask purse spare : ℕ} {p q : Paid}
+    → f ≡ freeOf (r .margin + under) (r .collateral) → low ≡ min loss (r .collateral) → paid ≡ only (clientOrCPBy r) low → most ≡ min loss (r .margin) → ask ≡ most - paid
+    → purse ≡ only (not (clientOrCPBy r)) (r .collateral) → p ≡ paidBy (r .sort) purse ask tm cm → spare ≡ only (not (clientOrCPBy r)) f
+    → q ≡ paidBy (r .sort) spare (loss - paid - (p .own + p .tm + p .cm)) tm₂ cm₂ → bothOf paid p q ≡ roundsBy r loss under tm cm tm₂ cm₂
 unfolding roundsBy
-by-rounds r loss under tm cm tm₂ cm₂ {c} {f} {low} {ownPayment} {most} {ask} {purse} {spare} {p} {q} e₁ e₂ e₃ e₄ e₅ e₆ e₇ e₈ e₉ e₀ =
-    let a : ownPayment ≡ ownPaymentBy r loss = cc in
+by-rounds r loss under tm cm tm₂ cm₂ {f} {low} {paid} {most} {ask} {purse} {spare} {p} {q} e₂ e₃ e₄ e₅ e₆ e₇ e₈ e₉ e₀ =
+    let a : paid ≡ ownPaymentBy r loss = cc in
     let k : ask ≡ part₁By r loss = cc in
-    let b : purse ≡ purseBy r = cc in
     let s : spare ≡ freeBy r under = cc in
-    let one : p ≡ paidBy (r .sort) (purseBy r) (part₁By r loss) tm cm = e₈ ∙ ap (λ x. paidBy (r .sort) x ask tm cm) b ∙ ap (λ x. paidBy (r .sort) (purseBy r) x tm cm) k in
-    let d : loss - ownPayment - (p .own + p .tm + p .cm) ≡ part₂By r loss (paidBy (r .sort) (purseBy r) (part₁By r loss) tm cm) =
+    let one : p ≡ paidBy (r .sort) (purseBy r) (part₁By r loss) tm cm = e₈ ∙ ap (λ x. paidBy (r .sort) x ask tm cm) e₇ ∙ ap (λ x. paidBy (r .sort) (purseBy r) x tm cm) k in
+    let d : loss - paid - (p .own + p .tm + p .cm) ≡ part₂By r loss (paidBy (r .sort) (purseBy r) (part₁By r loss) tm cm) =
     ap (λ x. loss - x - (p .own + p .tm + p .cm)) a ∙ ap (part₂By r loss) one in
     let two : q ≡ paidBy (r .sort) (freeBy r under) (part₂By r loss (paidBy (r .sort) (purseBy r) (part₁By r loss) tm cm)) tm₂ cm₂ =
-    e₀ ∙ ap (λ x. paidBy (r .sort) x (loss - ownPayment - (p .own + p .tm + p .cm)) tm₂ cm₂) s ∙ ap (λ x. paidBy (r .sort) (freeBy r under) x tm₂ cm₂) d in
+    e₀ ∙ ap (λ x. paidBy (r .sort) x (loss - paid - (p .own + p .tm + p .cm)) tm₂ cm₂) s ∙ ap (λ x. paidBy (r .sort) (freeBy r under) x tm₂ cm₂) d in
     ap (λ x. bothOf x p q) a ∙ ap (λ x. bothOf (ownPaymentBy r loss) x q) one ∙ ap (bothOf (ownPaymentBy r loss) _) two
+
+-- the same of the CM's own parts
+pub by-own : (a : Account) (loss under : ℕ) {f m own second : ℕ} → f ≡ freeOf (a .margin + under) (a .collateral) → m ≡ min loss (a .margin)
+    → own ≡ min m (a .collateral) → second ≡ min (loss - own) f → _≡_ {A = Purses} (record { left = a .collateral - own; free = f - second }) (afterOwn a loss under)
+unfolding afterOwn
+by-own a loss under {f} {m} {own} {second} e₁ e₂ e₃ e₄ = rw (e₄, e₃, e₂, e₁)
 
 -- what is left of each collateral, one account further
 module _ (v : View) (s : Shaped v) (l : ℕ → ℕ) (i : ℕ) (m : i < v .count) (left : List ℕ) (long : i < length left)
@@ -131,29 +138,29 @@ module _ (b : Book) (l : ℕ → ℕ) (i under tm tm₂ : ℕ) (need-is : need (
   abbrev two : Paid
   two = paidOf (purses₂ (view b)) (part₂ (view b) l) i
 
-  first-is : paidBy (rowAt b i .sort) (purseBy (rowAt b i)) (part₁By (rowAt b i) (l i)) tm (leftCM (purses₁ (view b)) (part₁ (view b) l) i) ≡ one
+  first-is : paidBy (rowAt b i .sort) (purseBy (accountAt (view b) i)) (part₁By (accountAt (view b) i) (l i)) tm (leftCM (purses₁ (view b)) (part₁ (view b) l) i) ≡ one
   first-is = account-pays (purses₁ (view b)) (part₁ (view b) l) i tm has
 
-  asks-second : part₂By (rowAt b i) (l i) one ≡ part₂ (view b) l i
+  asks-second : part₂By (accountAt (view b) i) (l i) one ≡ part₂ (view b) l i
   unfolding part₂ paid₁ paidOf
   asks-second = refl
 
-  free-is : freeBy (rowAt b i) under ≡ purses₂ (view b) .collateral i
-  free-is = ap (λ n. only (not (clientOrCPBy (rowAt b i))) (freeOf n (collateral (rowAt b i)))) (sym need-is)
+  free-is : freeBy (accountAt (view b) i) under ≡ purses₂ (view b) .collateral i
+  free-is = ap (λ n. only (not (clientOrCPBy (accountAt (view b) i))) (freeOf n (collateral (rowAt b i)))) (sym need-is)
 
   second-is : (p : Paid) → p ≡ one
-      → paidBy (rowAt b i .sort) (freeBy (rowAt b i) under) (part₂By (rowAt b i) (l i) p) tm₂ (leftCM (purses₂ (view b)) (part₂ (view b) l) i) ≡ two
+      → paidBy (rowAt b i .sort) (freeBy (accountAt (view b) i) under) (part₂By (accountAt (view b) i) (l i) p) tm₂ (leftCM (purses₂ (view b)) (part₂ (view b) l) i) ≡ two
   second-is p e =
-      ap (λ x. paidBy (rowAt b i .sort) x (part₂By (rowAt b i) (l i) p) tm₂ (leftCM (purses₂ (view b)) (part₂ (view b) l) i)) free-is
+      ap (λ x. paidBy (rowAt b i .sort) x (part₂By (accountAt (view b) i) (l i) p) tm₂ (leftCM (purses₂ (view b)) (part₂ (view b) l) i)) free-is
       ∙ ap (λ x. paidBy (rowAt b i .sort) (purses₂ (view b) .collateral i) x tm₂ (leftCM (purses₂ (view b)) (part₂ (view b) l) i))
-      (ap (part₂By (rowAt b i) (l i)) e ∙ asks-second)
+      (ap (part₂By (accountAt (view b) i) (l i)) e ∙ asks-second)
       ∙ account-pays (purses₂ (view b)) (part₂ (view b) l) i tm₂ has₂
 
-  pub row-pays : roundsBy (rowAt b i) (l i) under tm (leftCM (purses₁ (view b)) (part₁ (view b) l) i) tm₂ (leftCM (purses₂ (view b)) (part₂ (view b) l) i)
+  pub row-pays : roundsBy (accountAt (view b) i) (l i) under tm (leftCM (purses₁ (view b)) (part₁ (view b) l) i) tm₂ (leftCM (purses₂ (view b)) (part₂ (view b) l) i)
       ≡ bothOf (ownPayment (view b) l i) one two
   unfolding roundsBy
   row-pays =
-      ap (bothOf (ownPaymentBy (rowAt b i) (l i)) _) (second-is _ first-is) ∙ ap (λ p. bothOf (ownPaymentBy (rowAt b i) (l i)) p two) first-is
+      ap (bothOf (ownPaymentBy (accountAt (view b) i) (l i)) _) (second-is _ first-is) ∙ ap (λ p. bothOf (ownPaymentBy (accountAt (view b) i) (l i)) p two) first-is
 
   pub its-four : fourOf (bothOf (ownPayment (view b) l i) one two) ≡ four (view b) l i
   unfolding paidOf four ownColumn tmColumn cmColumn

@@ -6,13 +6,14 @@ use Prim.Native.Nat.{ℕ, _+_, _-_, _*_, _≤_, _<_, min}
 use lib.Dec.{eqb}
 use lib.ListN.{length, take, drop}
 use Rattle.sums.specs.Sum.{only}
-use Rattle.rows.specs.declared.Row.{Row}
+use Rattle.rows.specs.declared.Account.{Account}
 use Rattle.rows.specs.declared.Book.{Book}
 use Rattle.rows.specs.View.{View, freeOf}
-use Rattle.rows.specs.Rows.{ceiling, collateral}
+use Rattle.rows.specs.Rows.{ceiling}
 use Rattle.book.specs.Facts.{Sound}
 use Rattle.closeout.specs.declared.pays.Paid.{Paid}
 use Rattle.closeout.specs.declared.pays.Both.{Both}
+use Rattle.closeout.specs.declared.pays.Purses.{Purses}
 use Rattle.closeout.specs.Round.{own, fromTM, fromCM, unpaid}
 use Rattle.closeout.specs.Closing.{lossAt}
 
@@ -48,25 +49,25 @@ paidBy sort purse ask tm cm = record {
   kept = purse - min ask purse;
 }
 
--- what a row with so much deemed under it has for the rounds: own payment, what round one is asked for, and its purse in each
-abbrev pub clientOrCPBy : Row → Bool
-clientOrCPBy r = eqb (r .sort) 2 || eqb (r .sort) 3
+-- what an account with so much deemed under it has for the rounds: own payment, what round one is asked for, and its purse in each
+abbrev pub clientOrCPBy : Account → Bool
+clientOrCPBy a = eqb (a .sort) 2 || eqb (a .sort) 3
 
-abbrev pub ownPaymentBy : Row → ℕ → ℕ
-ownPaymentBy r loss = only (clientOrCPBy r) (min loss (collateral r))
+abbrev pub ownPaymentBy : Account → ℕ → ℕ
+ownPaymentBy a loss = only (clientOrCPBy a) (min loss (a .collateral))
 
-abbrev pub part₁By : Row → ℕ → ℕ
-part₁By r loss = min loss (r .margin) - ownPaymentBy r loss
+abbrev pub part₁By : Account → ℕ → ℕ
+part₁By a loss = min loss (a .margin) - ownPaymentBy a loss
 
-abbrev pub purseBy : Row → ℕ
-purseBy r = only (not (clientOrCPBy r)) (collateral r)
+abbrev pub purseBy : Account → ℕ
+purseBy a = only (not (clientOrCPBy a)) (a .collateral)
 
-abbrev pub freeBy : Row → ℕ → ℕ
-freeBy r under = only (not (clientOrCPBy r)) (freeOf (r .margin + under) (collateral r))
+abbrev pub freeBy : Account → ℕ → ℕ
+freeBy a under = only (not (clientOrCPBy a)) (freeOf (a .margin + under) (a .collateral))
 
 -- what round two is asked for after round one paid p
-abbrev pub part₂By : Row → ℕ → Paid → ℕ
-part₂By r loss p = loss - ownPaymentBy r loss - (p .own + p .tm + p .cm)
+abbrev pub part₂By : Account → ℕ → Paid → ℕ
+part₂By a loss p = loss - ownPaymentBy a loss - (p .own + p .tm + p .cm)
 
 -- an account's four amounts, from own payment and both rounds
 abbrev pub bothOf : ℕ → Paid → Paid → Both
@@ -78,11 +79,18 @@ bothOf ownPayment p q = record {
   second = q;
 }
 
--- both rounds of a row, where its TM's purse has tm left in round one and tm₂ in round two, and the CM's cm and cm₂
-unfoldable pub roundsBy : Row → ℕ → ℕ → ℕ → ℕ → ℕ → ℕ → Both
-roundsBy r loss under tm cm tm₂ cm₂ =
-    bothOf (ownPaymentBy r loss) (paidBy (r .sort) (purseBy r) (part₁By r loss) tm cm)
-    (paidBy (r .sort) (freeBy r under) (part₂By r loss (paidBy (r .sort) (purseBy r) (part₁By r loss) tm cm)) tm₂ cm₂)
+-- both rounds of an account, where its TM's purse has tm left in round one and tm₂ in round two, and the CM's cm and cm₂
+unfoldable pub roundsBy : Account → ℕ → ℕ → ℕ → ℕ → ℕ → ℕ → Both
+roundsBy a loss under tm cm tm₂ cm₂ =
+    bothOf (ownPaymentBy a loss) (paidBy (a .sort) (purseBy a) (part₁By a loss) tm cm)
+    (paidBy (a .sort) (freeBy a under) (part₂By a loss (paidBy (a .sort) (purseBy a) (part₁By a loss) tm cm)) tm₂ cm₂)
+
+-- what the CM has left for others in each round, after its own parts
+unfoldable pub afterOwn : Account → ℕ → ℕ → Purses
+afterOwn a loss under = record {
+  left = a .collateral - min (min loss (a .margin)) (a .collateral);
+  free = freeOf (a .margin + under) (a .collateral) - min (loss - min (min loss (a .margin)) (a .collateral)) (freeOf (a .margin + under) (a .collateral));
+}
 
 abbrev pub fourOf : Both → List ℕ
 fourOf p = p .own ∷ p .tm ∷ p .cm ∷ p .second .unpaid ∷ []

@@ -2,16 +2,16 @@
 ghost use mathlib.Core.Path.{_≡_};
 ghost use Prim.Native.Nat.{_+_, _≤_, min};
 ghost use lib.ListN.{length};
-ghost use Rattle.rows.specs.Rows.{view};
+ghost use Rattle.rows.specs.Rows.{accountOf, view};
 ghost use Rattle.rows.specs.Facts.{InRange};
 ghost use Rattle.closeout.specs.Columns.{four, rowsTo, total};
 ghost use Rattle.closeout.specs.Closing.{lossAt};
-ghost use Rattle.closeout.specs.Inner.{paidBy, roundsBy, fourOf, putAt, Checked};
+ghost use Rattle.closeout.specs.Inner.{paidBy, roundsBy, afterOwn, fourOf, putAt, Checked};
 use rows::Book;
 use rows::Row;
 use rows::kept::free_with;
 use rows::kept::less;
-use rows::needs::collateral_of;
+use rows::needs::account_of;
 use rows::needs::only_if;
 use rows::needs::unders;
 use rows::needs::zeros;
@@ -32,6 +32,12 @@ pub(crate) struct Both {
     cm: u64,
     first: Paid,
     second: Paid,
+}
+
+// What is left of the CM's collateral in each round.
+pub(crate) struct Purses {
+    left: u64,
+    free: u64,
 }
 
 fn lesser(a: u64, b: u64) -> u64
@@ -62,23 +68,38 @@ fn pay(sort: u8, purse: u64, ask: u64, tm: u64, cm: u64) -> Paid
 // or CP has paid from its own before them, and has nothing more to pay with.
 fn rounds(r: Row, loss: u64, under: u64, tm: u64, cm: u64, tm2: u64, cm2: u64) -> Both
     requires { ⌜ InRange r × (under ≤ 2_560_000_000_000_000) ⌝ }
-    ensures { λ p. ⌜ p ≡ roundsBy r loss under tm cm tm2 cm2 ⌝ }
+    ensures { λ p. ⌜ p ≡ roundsBy (accountOf r) loss under tm cm tm2 cm2 ⌝ }
 {
-    let c = collateral_of(r);
-    let free = free_with(r, under);
-    let client_or_cp = (r.sort == 2) | (r.sort == 3);
-    let own = only_if(client_or_cp, lesser(loss, c));
-    let ask = less(lesser(loss, r.margin), own);
-    let first = pay(r.sort, only_if(!client_or_cp, c), ask, tm, cm);
+    let a = account_of(r);
+    let free = free_with(a, under);
+    let client_or_cp = (a.sort == 2) | (a.sort == 3);
+    let own = only_if(client_or_cp, lesser(loss, a.collateral));
+    let ask = less(lesser(loss, a.margin), own);
+    let first = pay(a.sort, only_if(!client_or_cp, a.collateral), ask, tm, cm);
     let paid = first.own + first.tm + first.cm;
     let left = loss - own - paid;
-    let second = pay(r.sort, only_if(!client_or_cp, free), left, tm2, cm2);
+    let second = pay(a.sort, only_if(!client_or_cp, free), left, tm2, cm2);
     Both {
         own: own + first.own + second.own,
         tm: first.tm + second.tm,
         cm: first.cm + second.cm,
         first,
         second,
+    }
+}
+
+// What the CM's collateral has left in round one, and its free part in round two, once its own parts are paid.
+fn after_own(top: Row, loss: u64, under: u64) -> Purses
+    requires { ⌜ InRange top × (under ≤ 2_560_000_000_000_000) ⌝ }
+    ensures { λ x. ⌜ x ≡ afterOwn (accountOf top) loss under ⌝ }
+{
+    let a = account_of(top);
+    let c = a.collateral;
+    let f = free_with(a, under);
+    let own = lesser(lesser(loss, a.margin), c);
+    Purses {
+        left: c - own,
+        free: f - lesser(loss - own, f),
     }
 }
 
@@ -102,13 +123,9 @@ pub(crate) fn fill(b: Book, losses: &[u64], room: &mut [u64]) -> u64
     let under = unders(b);
     let mut left = zeros();
     let mut free = zeros();
-    let top = b.rows[0];
-    let c = collateral_of(top);
-    let f = free_with(top, under[0]);
-    let loss = losses[0];
-    let own = lesser(lesser(loss, top.margin), c);
-    let mut cm = c - own;
-    let mut cm_free = f - lesser(loss - own, f);
+    let start = after_own(b.rows[0], losses[0], under[0]);
+    let mut cm = start.left;
+    let mut cm_free = start.free;
     let mut uncovered: u64 = 0;
     let n = b.count as usize;
     let mut i: usize = 0;

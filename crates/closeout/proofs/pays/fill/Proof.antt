@@ -1,14 +1,14 @@
 -- `closeout::pays::fill` meets its contract. The invariant: the pass stands at account i.
-use mathlib.Core.Path.{_≡_, ap, _∙_, sym}
+use mathlib.Core.Path.{_≡_, ap}
 use mathlib.Core.List.{List}
 use Prim.Native.Nat.{ℕ, _+_, _-_, _≤_, _<_}
 use native.Mathlib.Omega.{arith}
 use lib.ListN.{length, getD, set}
 use borrow.Author.Needs.{needs}
 use Rattle.rows.specs.declared.Book.{Book}
-use Rattle.rows.specs.View.{freeOf}
-use Rattle.rows.specs.Rows.{rowAt, collateral}
-use Rattle.book.proofs.KeptSums.{KeptUnder, kept-first, under-most}
+use Rattle.rows.specs.Rows.{rowAt, view}
+use Rattle.rows.specs.Under.{Under}
+use Rattle.book.proofs.UnderMost.{under-most}
 use Rattle.closeout.specs.declared.pays.Both.{Both}
 use Rattle.closeout.specs.Inner.{Checked}
 use Rattle.closeout.proofs.Pass.{Passed, start, finish, sum-fits, tm-has, tm-has₂, cm-has, cm-has₂, named-low, turn}
@@ -16,11 +16,11 @@ use Rattle.closeout.proofs.pays.fill.Statement.{statement}
 use Rattle.closeout.proofs.pays.fill.Tie as tie
 
 abbrev Inv-loop : tie.InvT-loop
-Inv-loop losses room₀ b under left₀ free₀ c f loss own cm₀ cm-free₀ uncovered₀ n i₀ room left free cm cm-free unpaid i =
-    Passed b losses room₀ room left free cm cm-free unpaid i × KeptUnder b under × (i ≤ b .count)
+Inv-loop losses room₀ b under left₀ free₀ cm₀ cm-free₀ uncovered₀ n i₀ room left free cm cm-free unpaid i =
+    Passed b losses room₀ room left free cm cm-free unpaid i × Under (view b) under × (i ≤ b .count)
 
 abbrev μ-loop : tie.MeasureT-loop
-μ-loop losses room₀ b under left₀ free₀ c f loss own cm₀ cm-free₀ uncovered₀ n i₀ room left free cm cm-free unpaid i =
+μ-loop losses room₀ b under left₀ free₀ cm₀ cm-free₀ uncovered₀ n i₀ room left free cm cm-free unpaid i =
     b .count - i
 
 -- in a turn: what the checks say, where the pass stands, and which accounts are there
@@ -28,25 +28,25 @@ abbrev Turn : Type 0
 Turn = tie.In-loop Inv-loop μ-loop
 
 abbrev Bk : Turn → Book
-Bk c = c .before .before .before .before .before .before .before .before .before .before .before .before .before .before .args .t1
+Bk c = c .before .before .before .before .before .before .before .before .before .before .args .t1
 
 abbrev Ls : Turn → List ℕ
-Ls c = c .before .before .before .before .before .before .before .before .before .before .before .before .before .before .args .losses .now
+Ls c = c .before .before .before .before .before .before .before .before .before .before .args .losses .now
 
 abbrev R₀ : Turn → List ℕ
-R₀ c = c .before .before .before .before .before .before .before .before .before .before .before .before .before .before .args .room .now
+R₀ c = c .before .before .before .before .before .before .before .before .before .before .args .room .now
 
 abbrev Un : Turn → List ℕ
-Un c = c .before .before .before .before .before .before .before .before .before .before .before .unders .result
+Un c = c .before .before .before .before .before .before .before .unders .result
 
 checked : (c : Turn) → Checked (Bk c) (Ls c) (R₀ c)
-checked c = c .before .before .before .before .before .before .before .before .before .before .before .before .before .before .pre
+checked c = c .before .before .before .before .before .before .before .before .before .before .pre
 
 here : (c : Turn) → Passed (Bk c) (Ls c) (R₀ c) (c .before .loop .room) (c .before .loop .left) (c .before .loop .free) (c .before .loop .cm) (c .before .loop .cm-free)
     (c .before .loop .uncovered) (c .before .loop .i)
 here c = c .before .loop .inv .0
 
-owed : (c : Turn) → KeptUnder (Bk c) (Un c)
+owed : (c : Turn) → Under (view (Bk c)) (Un c)
 owed c = c .before .loop .inv .1
 
 inside : (c : Turn) → c .before .loop .i < Bk c .count
@@ -59,7 +59,7 @@ here-low : (c : Turn) → c .before .loop .i < 256
 here-low c = omega (arith, checked c .sound .most, inside c)
 
 unders-requires : tie.Need-unders-requires Inv-loop μ-loop
-unders-requires c κs = let h = c .before .before .pre .sound in record { table = h .table; most = h .most; ranges = h .ranges }
+unders-requires c κs = let h = c .before .before .pre .sound in (record { table = h .table; most = h .most; ranges = h .ranges }, h .shaped)
 
 zeros-requires : tie.Need-zeros-requires Inv-loop μ-loop
 zeros-requires c κs = search needs
@@ -67,51 +67,30 @@ zeros-requires c κs = search needs
 zeros-requires-2 : tie.Need-zeros-requires-2 Inv-loop μ-loop
 zeros-requires-2 c κs = search needs
 
-element-copy-out-top : tie.Need-element-copy-out-top Inv-loop μ-loop
-element-copy-out-top c = omega arith
+element-copy-out-after-own : tie.Need-element-copy-out-after-own Inv-loop μ-loop
+element-copy-out-after-own c = omega arith
 
-collateral-of-requires : tie.Need-collateral-of-requires Inv-loop μ-loop
-collateral-of-requires c κs = let pre = c .before .before .before .before .before .before .pre in pre .sound .ranges 0 (pre .sound .shaped .some)
+shared-slice-read-after-own : tie.Need-shared-slice-read-after-own Inv-loop μ-loop
+shared-slice-read-after-own c = let pre = c .before .before .before .before .before .before .before .pre in omega (arith, pre .each, pre .sound .shaped .some)
 
-array-read-free-with : tie.Need-array-read-free-with Inv-loop μ-loop
-array-read-free-with c = omega arith
+array-read-after-own : tie.Need-array-read-after-own Inv-loop μ-loop
+array-read-after-own c = omega arith
 
-free-with-requires : tie.Need-free-with-requires Inv-loop μ-loop
-free-with-requires c κs =
+after-own-requires : tie.Need-after-own-requires Inv-loop μ-loop
+after-own-requires c κs =
     let pre = c .before .before .before .before .before .before .before .pre in
-    (pre .sound .ranges 0 (pre .sound .shaped .some), under-most _ (pre .sound) _ (kept-first _ (pre .sound) _ (c .before .before .before .before .unders .ensures)) 0)
-
-shared-slice-read-loss : tie.Need-shared-slice-read-loss Inv-loop μ-loop
-shared-slice-read-loss c = let pre = c .before .before .before .before .before .before .before .before .before .pre in omega (arith, pre .each, pre .sound .shaped .some)
-
-lesser-requires : tie.Need-lesser-requires Inv-loop μ-loop
-lesser-requires c κs = search needs
-
-lesser-requires-2 : tie.Need-lesser-requires-2 Inv-loop μ-loop
-lesser-requires-2 c κs = search needs
-
-sub-cm : tie.Need-sub-cm Inv-loop μ-loop
-sub-cm c = omega (arith, c .lesser2 .ensures)
-
-sub-lesser : tie.Need-sub-lesser Inv-loop μ-loop
-sub-lesser c = omega (arith, c .lesser2 .ensures, c .before .lesser .ensures)
-
-lesser-requires-3 : tie.Need-lesser-requires-3 Inv-loop μ-loop
-lesser-requires-3 c κs = search needs
-
-sub-cm-free : tie.Need-sub-cm-free Inv-loop μ-loop
-sub-cm-free c = omega (arith, c .lesser3 .ensures)
+    (pre .sound .ranges 0 (pre .sound .shaped .some), under-most _ (pre .sound) _ (c .before .before .before .before .unders .ensures) 0)
 
 cast-n : tie.Need-cast-n Inv-loop μ-loop
 cast-n c = omega arith
 
 loop-holds : tie.Need-loop-holds Inv-loop μ-loop
 loop-holds c =
-    let under = c .before .before .before .before .before .before .before .before .before in
+    let under = c .before .before .before .before .before in
     let pre = under .before .before .before .pre in
-    let kept = kept-first _ (pre .sound) _ (under .unders .ensures) in (
-      start _ _ _ _ _ (pre .sound) (ap length (c .before .before .before .before .before .before .before .before .zeros .ensures)) (ap length (c .before .before .before .before .before .before .before .zeros2 .ensures)) (c .before .before .before .before .before .collateral-of .ensures)
-          (c .before .before .before .before .free-with .ensures ∙ sym (ap (λ n. freeOf n (collateral (rowAt (c .before .before .before .before .before .before .before .before .before .before .before .before .args .t1) 0))) (kept .each 0 (pre .sound .shaped .some)))) (c .before .before .lesser .ensures) (c .before .lesser2 .ensures) (c .lesser3 .ensures),
+    let kept = under .unders .ensures in (
+      start _ _ _ _ _ _ (pre .sound) (ap length (c .before .before .before .before .zeros .ensures)) (ap length (c .before .before .before .zeros2 .ensures))
+          (kept .each 0 (pre .sound .shaped .some)) (c .after-own .ensures),
       kept,
       omega arith,
     )
@@ -200,11 +179,11 @@ mul-free-3 c = omega (arith, here-low (c .before .before .before .before .before
 array-write-free-2 : tie.Need-array-write-free-2 Inv-loop μ-loop
 array-write-free-2 c = omega (arith, here-low (c .before .before .before .before .before .before .before .before .before .before .before .before))
 
-sub-cm-2 : tie.Need-sub-cm-2 Inv-loop μ-loop
-sub-cm-2 c = cm-has _ _ _ _ _ _ _ (c .before .before .before .before .before .before .before .before .before .rounds .ensures)
+sub-cm : tie.Need-sub-cm Inv-loop μ-loop
+sub-cm c = cm-has _ _ _ _ _ _ _ (c .before .before .before .before .before .before .before .before .before .rounds .ensures)
 
-sub-cm-free-2 : tie.Need-sub-cm-free-2 Inv-loop μ-loop
-sub-cm-free-2 c = cm-has₂ _ _ _ _ _ _ _ (c .before .before .before .before .before .before .before .before .before .before .rounds .ensures)
+sub-cm-free : tie.Need-sub-cm-free Inv-loop μ-loop
+sub-cm-free c = cm-has₂ _ _ _ _ _ _ _ (c .before .before .before .before .before .before .before .before .before .before .rounds .ensures)
 
 -- at the end of a turn
 abbrev End : Type 0
@@ -242,7 +221,7 @@ same-length : tie.Need-same-length Inv-loop μ-loop
 same-length c = c .before .loop .inv .0 .wide
 
 returns : tie.Need-returns Inv-loop μ-loop
-returns c = finish (c .before .loop .inv .0) (omega arith) (c .before .before .before .before .before .before .before .before .before .before .before .before .before .before .pre .wide)
+returns c = finish (c .before .loop .inv .0) (omega arith) (c .before .before .before .before .before .before .before .before .before .before .pre .wide)
 
 pub fill-spec : {M : Type 1} → statement M
 fill-spec =
@@ -253,17 +232,10 @@ fill-spec =
     unders-requires
     zeros-requires
     zeros-requires-2
-    element-copy-out-top
-    collateral-of-requires
-    array-read-free-with
-    free-with-requires
-    shared-slice-read-loss
-    lesser-requires
-    lesser-requires-2
-    sub-cm
-    sub-lesser
-    lesser-requires-3
-    sub-cm-free
+    element-copy-out-after-own
+    shared-slice-read-after-own
+    array-read-after-own
+    after-own-requires
     cast-n
     loop-holds
     mul-r
@@ -294,8 +266,8 @@ fill-spec =
     array-write-free
     mul-free-3
     array-write-free-2
-    sub-cm-2
-    sub-cm-free-2
+    sub-cm
+    sub-cm-free
     add-uncovered
     add-i
     loop-less

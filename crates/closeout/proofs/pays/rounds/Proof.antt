@@ -2,16 +2,17 @@
 use Prim.Native.Nat.{ℕ, _+_, _≤_}
 use native.Mathlib.Omega.{arith}
 use borrow.Author.Needs.{needs}
-use Rattle.closeout.specs.Inner.{clientOrCPBy}
+use mathlib.Core.Path.{ap, _∙_}
+use Rattle.closeout.specs.Inner.{clientOrCPBy, roundsBy}
 use Rattle.closeout.proofs.Turns.{paid-adds, own-fits, first-fits, by-rounds}
 use Rattle.closeout.proofs.pays.rounds.Statement.{statement}
 use Rattle.closeout.proofs.pays.rounds.Tie as tie
 
-collateral-of-requires : tie.Need-collateral-of-requires
-collateral-of-requires c κs = search needs
+account-of-requires : tie.Need-account-of-requires
+account-of-requires c κs = search needs
 
 free-with-requires : tie.Need-free-with-requires
-free-with-requires c κs = search needs
+free-with-requires c κs = (rw (c .account-of .ensures) (omega (arith, c .before .pre .0 .margin)), omega (arith, c .before .pre .1))
 
 lesser-requires : tie.Need-lesser-requires
 lesser-requires c κs = search needs
@@ -36,7 +37,7 @@ first-within : (c : tie.After-pay) → c .pay .result .own + c .pay .result .tm 
 first-within c = omega (arith, paid-adds _ _ _ _ _ (c .pay .ensures))
 
 own-within : (c : tie.After-pay) → c .before .before .before .before .only-if .result ≤ c .before .before .before .before .before .before .before .before .before .before .args .loss
-own-within c = own-fits (clientOrCPBy (c .before .before .before .before .before .before .before .before .before .before .args .r)) _ _ _ _ (c .before .before .before .before .before .lesser .ensures) (c .before .before .before .before .only-if .ensures)
+own-within c = own-fits (clientOrCPBy (c .before .before .before .before .before .before .before .before .before .account-of .result)) _ _ _ _ (c .before .before .before .before .before .lesser .ensures) (c .before .before .before .before .only-if .ensures)
 
 both-within : (c : tie.After-pay) → c .before .before .before .before .only-if .result + (c .pay .result .own + c .pay .result .tm + c .pay .result .cm)
     ≤ c .before .before .before .before .before .before .before .before .before .before .args .loss
@@ -83,14 +84,17 @@ returns : tie.Need-returns
 returns c =
     let two = c .before .before .before .before .before .before in
     let one = two .before .before .before .before in
-    by-rounds (one .before .before .before .before .before .before .before .before .before .before .args .r) _ _ _ _ _ _ (one .before .before .before .before .before .before .before .before .before .collateral-of .ensures) (one .before .before .before .before .before .before .before .before .free-with .ensures) (one .before .before .before .before .before .lesser .ensures) (one .before .before .before .before .only-if .ensures)
+    let first = one .before .before .before .before .before .before .before .before .before in
+    let given = first .before .args in
+    by-rounds (first .account-of .result) _ _ _ _ _ _ (one .before .before .before .before .before .before .before .before .free-with .ensures) (one .before .before .before .before .before .lesser .ensures) (one .before .before .before .before .only-if .ensures)
     (one .before .before .before .lesser2 .ensures) (one .before .before .less .ensures) (one .before .only-if2 .ensures) (one .pay .ensures) (two .before .only-if3 .ensures) (two .pay2 .ensures)
+    ∙ ap (λ a. roundsBy a (given .loss) (given .under) (given .tm) (given .cm) (given .tm2) (given .cm2)) (first .account-of .ensures)
 
 pub rounds-spec : {M : Type 1} → statement M
 rounds-spec =
     tie.close
     (tie.spec
-    collateral-of-requires
+    account-of-requires
     free-with-requires
     lesser-requires
     only-if-requires
