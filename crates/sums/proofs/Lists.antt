@@ -1,7 +1,7 @@
 -- Laws of lists by their places.
 use mathlib.Core.Path.{_≡_, refl, sym, _∙_}
 use mathlib.Core.List.{List, [], _∷_, _++_}
-use Prim.Native.Nat.{ℕ, zero, suc, _<_}
+use Prim.Native.Nat.{ℕ, zero, suc, _+_, _<_}
 use native.Mathlib.Omega.{arith}
 use native.Mathlib.Decide.{ℕ-discrete}
 use lib.ListN.{length, getD, set, length-append, length-set, List·getD-append}
@@ -42,3 +42,12 @@ module _ {A : Type 0} where
       by : (j : ℕ) → j < n → Dec (j ≡ i) → getD (set (listTo f n) i (g i)) j (g i) ≡ g j
       by j m (yes e) = rw e (getD-set-same (listTo f n) i (g i) (g i) (omega (arith, length-listTo f n)))
       by j m (no e) = getD-set-other (listTo f n) i j (g i) (g i) e ∙ at-listTo f n j (g i) m ∙ sym (h j m e)
+
+  -- a list filled from the start on, one place more
+  pub filled-step : (f : ℕ → A) (xs : List A) (d : A) (i : ℕ) (x : A) → i < length xs → ((j : ℕ) → j < i → getD xs j d ≡ f j) → x ≡ f i
+      → (j : ℕ) → j < i + 1 → getD (set xs i x) j d ≡ f j
+  filled-step f xs d i x l h e j m = by (ℕ-discrete j i)
+    where
+      by : Dec (j ≡ i) → getD (set xs i x) j d ≡ f j
+      by (yes q) = rw q (getD-set-same xs i x d l ∙ e)
+      by (no q) = getD-set-other xs i j x d q ∙ h j (omega arith)

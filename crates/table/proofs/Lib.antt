@@ -1,0 +1,4 @@
+pub mod Gathered
+pub mod InPlace
+pub mod RowsPut
+pub mod Turning
