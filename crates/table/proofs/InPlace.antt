@@ -1,19 +1,17 @@
 -- A word put in its place is its account's row put anew.
 use mathlib.Core.Bool.{Bool, false}
 use mathlib.Core.List.{List}
-use mathlib.Core.Path.{_≡_, refl, sym, ap, _∙_}
+use mathlib.Core.Path.{_≡_, ap, _∙_}
 use Prim.Native.Nat.{ℕ, _+_, _*_, _<_}
 use native.Mathlib.Omega.{arith}
 use native.Mathlib.Decide.{ℕ-discrete}
 use lib.Dec.{eqb}
-use lib.ListN.{length, getD, set, length-set}
-use lib.Seq.{getD-set-same, getD-set-other, set-getD, set-set}
+use lib.ListN.{getD, set, length-set}
+use lib.Seq.{getD-set-same, getD-set-other, set-set}
 use borrow.Author.Tests.{eq-eqb, ne-eqb}
 use Rattle.sums.specs.Choice.{pick}
-use Rattle.rows.specs.declared.Kinds.{Kinds}
 use Rattle.rows.specs.declared.Row.{Row}
-use Rattle.rows.specs.Rows.{withLive, withReceived, withAllocated, withPledged, withMargin}
-use Rattle.table.specs.Words.{wordAt, rowFrom, Marks, marksFrom, rowIn, rowsOf, withAmount, putKinds, putRow}
+use Rattle.table.specs.Words.{wordAt, rowFrom, Marks, marksFrom, rowIn, rowsOf, withAmount}
 use Rattle.table.specs.Facts.{Sized}
 use Rattle.table.proofs.Gathered.{rows-but-one, row-eq}
 

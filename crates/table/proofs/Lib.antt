@@ -2,3 +2,4 @@ pub mod Gathered
 pub mod InPlace
 pub mod RowsPut
 pub mod Turning
+pub mod EveningSums

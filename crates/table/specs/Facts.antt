@@ -12,6 +12,6 @@ pub record Sized (m : Marks) (w : List ℕ) : Type 0 where
   pub tms : length (m .tm) ≡ 256
   pub words : length w ≡ 2560
 
--- amount k of each account below n is at most four ceilings, as a row's collateral less its pledged value is
+-- amount k of each account below n is at most four ceilings, so that no sum of them passes a word
 pub record Capped (w : List ℕ) (k n : ℕ) : Type 0 where
   pub each : (i : ℕ) → i < n → wordAt w k i ≤ 40_000_000_000_000

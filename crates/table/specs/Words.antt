@@ -70,13 +70,15 @@ turned b = record {
 abbrev pub turnedBack : Table → Book
 turnedBack t = record { count = t .count; serial = t .serial; rows = rowsOf (marksOf t) (t .amounts) }
 
--- A row with amount k put anew, and words put in account i's places: four amounts from number k on, and a row's amounts.
+-- a row with amount k put anew
 abbrev pub withAmount : ℕ → ℕ → Row → Row
 withAmount k x r = rowFrom (r .sort) (r .live) (r .tm) (λ j. pick (eqb j k) x (amountOf r j))
 
+-- four amounts of account i put in their places, from number k on
 abbrev pub putKinds : List ℕ → ℕ → ℕ → Kinds → List ℕ
 putKinds w k i x =
     set (set (set (set w (256 * k + i) (x .cash)) (256 * (k + 1) + i) (x .deposits)) (256 * (k + 2) + i) (x .guarantees)) (256 * (k + 3) + i) (x .securities)
 
+-- a row's amounts put in account i's places
 abbrev pub putRow : List ℕ → ℕ → Row → List ℕ
 putRow w i r = set (set (putKinds (putKinds w 0 i (r .received)) 4 i (r .allocated)) (256 * 8 + i) (r .pledged)) (256 * 9 + i) (r .margin)

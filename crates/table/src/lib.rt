@@ -4,7 +4,7 @@ ghost use lib.ListN.{length};
 ghost use Rattle.table.specs.Words.{marksFrom, turned, turnedBack};
 ghost use Rattle.table.specs.Facts.{Sized};
 use places::put_row;
-use places::row_of;
+use places::rows_of;
 use rows::Book;
 use rows::Row;
 
@@ -28,7 +28,7 @@ pub fn sizes(sort: [u8; 256], live: [bool; 256], tm: [u16; 256], amounts: [u64; 
     true
 }
 
-pub fn width(a: [Row; 256]) -> bool
+fn width(a: [Row; 256]) -> bool
     ensures { λ _. ⌜ length a ≡ 256 ⌝ }
 {
     true
@@ -62,13 +62,7 @@ pub fn turn(b: Book) -> Table
 pub fn turn_back(t: Table) -> Book
     ensures { λ x. ⌜ x ≡ turnedBack t ⌝ }
 {
-    let blank = rows::words::no_row();
-    let mut table = [blank; 256];
-    let mut i: usize = 0;
-    while i < 256 {
-        table[i] = row_of(&t.sort, &t.live, &t.tm, &t.amounts, i);
-        i += 1;
-    }
+    let table = rows_of(&t.sort, &t.live, &t.tm, &t.amounts);
     Book {
         count: t.count,
         serial: t.serial,

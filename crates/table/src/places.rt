@@ -2,7 +2,7 @@
 ghost use mathlib.Core.Path.{_≡_};
 ghost use Prim.Native.Nat.{_≤_, _<_};
 ghost use lib.ListN.{set};
-ghost use Rattle.table.specs.Words.{wordAt, kindsFrom, marksFrom, rowIn, putKinds, putRow};
+ghost use Rattle.table.specs.Words.{wordAt, kindsFrom, marksFrom, rowIn, rowsOf, putKinds, putRow};
 use rows::Kinds;
 use rows::Row;
 
@@ -48,6 +48,25 @@ pub fn row_of<'a>(
         pledged: w[256 * 8 + i],
         margin: w[256 * 9 + i],
     }
+}
+
+// The old order's rows, all of them gathered.
+pub fn rows_of<'a>(
+    sort: &'a [u8; 256],
+    live: &'a [bool; 256],
+    tm: &'a [u16; 256],
+    w: &'a [u64; 2560],
+) -> [Row; 256]
+    ensures { λ x. ⌜ x ≡ rowsOf (marksFrom (now (sort .entry)) (now (live .entry)) (now (tm .entry))) (now (w .entry)) ⌝ }
+{
+    let blank = rows::words::no_row();
+    let mut table = [blank; 256];
+    let mut i: usize = 0;
+    while i < 256 {
+        table[i] = row_of(sort, live, tm, w, i);
+        i += 1;
+    }
+    table
 }
 
 pub fn put_kinds(w: &mut [u64; 2560], k: usize, i: usize, x: Kinds)

@@ -2,15 +2,15 @@
 use mathlib.Core.Path.{_≡_, refl, sym, ap, _∙_}
 use Prim.Native.Nat.{ℕ, _-_, _≤_, _<_}
 use native.Mathlib.Omega.{arith}
-use lib.ListN.{length, getD, set}
+use lib.ListN.{getD}
 use lib.Seq.{ext-getD}
 use Rattle.sums.proofs.Lists.{filled-step}
 use Rattle.rows.specs.Rows.{noRow, rowAt}
-use Rattle.table.specs.Words.{marksFrom, rowsOf, turned}
+use Rattle.table.specs.Words.{marksFrom, rowsOf}
 use Rattle.table.specs.Facts.{Sized}
 use Rattle.table.proofs.Gathered.{rows-length}
 use Rattle.table.proofs.RowsPut.{row-put}
-use Rattle.table.proofs.Turning.{back-and-over}
+use Rattle.table.proofs.Turning.{turned-from}
 use borrow.Author.Needs.{needs}
 use Rattle.table.proofs.turn.Statement.{statement}
 use Rattle.table.proofs.turn.Tie as tie
@@ -63,8 +63,8 @@ returns c =
     let l = c .before .loop in
     let m = marksFrom (l .sort) (l .live) (l .tm) in
     let all = ext-getD noRow (rowsOf m (l .amounts)) (b .rows) (rows-length m (l .amounts) ∙ sym (c .before .before .width .ensures)) (λ a q. l .inv .2 a (omega (arith, rows-length m (l .amounts)))) in
-    sym (back-and-over (record { count = b .count; serial = b .serial; sort = l .sort; live = l .live; tm = l .tm; amounts = l .amounts }) (l .inv .1))
-    ∙ ap (λ x. turned (record { count = b .count; serial = b .serial; rows = x })) all
+    turned-from (record { count = b .count; serial = b .serial; sort = l .sort; live = l .live; tm = l .tm; amounts = l .amounts }) b (l .inv .1)
+    (ap (λ x. record { count = b .count; serial = b .serial; rows = x }) all)
 
 pub turn-spec : {M : Type 1} → statement M
 turn-spec =
