@@ -1,3 +1,4 @@
 pub mod Sums
 pub mod Choices
 pub mod Tables
+pub mod Lists

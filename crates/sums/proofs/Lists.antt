@@ -1,0 +1,53 @@
+-- Laws of lists by their places.
+use mathlib.Core.Path.{_≡_, refl, sym, _∙_}
+use mathlib.Core.List.{List, [], _∷_, _++_}
+use Prim.Native.Nat.{ℕ, zero, suc, _+_, _<_}
+use native.Mathlib.Omega.{arith}
+use native.Mathlib.Decide.{ℕ-discrete}
+use lib.ListN.{length, getD, set, length-append, length-set, List·getD-append}
+use lib.Seq.{ext-getD, getD-at, getD-set-same, getD-set-other}
+use Rattle.sums.specs.Listed.{listTo}
+
+module _ {A : Type 0} where
+  pub length-listTo : (f : ℕ → A) (n : ℕ) → length (listTo f n) ≡ n
+  unfolding listTo
+  length-listTo f zero = refl
+  length-listTo f (suc n) = omega (arith, length-append (listTo f n) (f n ∷ []), length-listTo f n)
+
+  pub at-listTo : (f : ℕ → A) (n i : ℕ) (d : A) → i < n → getD (listTo f n) i d ≡ f i
+  unfolding listTo
+  at-listTo f zero i d l = absurd (omega arith)
+  at-listTo f (suc n) i d l = by (ℕ-discrete i n) (λ m. at-listTo f n i d m)
+    where
+      by : Dec (i ≡ n) → (i < n → getD (listTo f n) i d ≡ f i) → getD (listTo f n ++ (f n ∷ [])) i d ≡ f i
+      by (yes e) r = rw e (getD-at (listTo f n) (f n) [] d n (length-listTo f n))
+      by (no e) r = List·getD-append (listTo f n) (f n ∷ []) d i (omega (arith, length-listTo f n)) ∙ r (omega arith)
+
+  -- a list is known by its length and its places
+  pub list-is : (f : ℕ → A) (n : ℕ) (d : A) (xs : List A) → length xs ≡ n → ((i : ℕ) → i < n → getD xs i d ≡ f i) → listTo f n ≡ xs
+  list-is f n d xs l h =
+      ext-getD d (listTo f n) xs (length-listTo f n ∙ sym l)
+      (λ i m. let q : i < n = omega (arith, length-listTo f n) in at-listTo f n i d q ∙ sym (h i q))
+
+  pub listTo-eq : (f g : ℕ → A) (n : ℕ) → ((i : ℕ) → i < n → f i ≡ g i) → listTo f n ≡ listTo g n
+  unfolding listTo
+  listTo-eq f g zero h = refl
+  listTo-eq f g (suc n) h = let e = listTo-eq f g n (λ i l. h i (omega arith)) in let q = h n (omega arith) in rw (e, q)
+
+  -- one place put anew, where f and g differ at that place alone
+  pub listTo-set : (f g : ℕ → A) (n i : ℕ) → i < n → ((j : ℕ) → j < n → (j ≡ i → ⊥) → g j ≡ f j) → listTo g n ≡ set (listTo f n) i (g i)
+  listTo-set f g n i l h =
+      list-is g n (g i) (set (listTo f n) i (g i)) (length-set (listTo f n) i (g i) ∙ length-listTo f n) (λ j m. by j m (ℕ-discrete j i))
+    where
+      by : (j : ℕ) → j < n → Dec (j ≡ i) → getD (set (listTo f n) i (g i)) j (g i) ≡ g j
+      by j m (yes e) = rw e (getD-set-same (listTo f n) i (g i) (g i) (omega (arith, length-listTo f n)))
+      by j m (no e) = getD-set-other (listTo f n) i j (g i) (g i) e ∙ at-listTo f n j (g i) m ∙ sym (h j m e)
+
+  -- a list filled from the start on, one place more
+  pub filled-step : (f : ℕ → A) (xs : List A) (d : A) (i : ℕ) (x : A) → i < length xs → ((j : ℕ) → j < i → getD xs j d ≡ f j) → x ≡ f i
+      → (j : ℕ) → j < i + 1 → getD (set xs i x) j d ≡ f j
+  filled-step f xs d i x l h e j m = by (ℕ-discrete j i)
+    where
+      by : Dec (j ≡ i) → getD (set xs i x) j d ≡ f j
+      by (yes q) = rw q (getD-set-same xs i x d l ∙ e)
+      by (no q) = getD-set-other xs i j x d q ∙ h j (omega arith)

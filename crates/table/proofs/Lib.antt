@@ -1,0 +1,5 @@
+pub mod Gathered
+pub mod InPlace
+pub mod RowsPut
+pub mod Turning
+pub mod EveningSums

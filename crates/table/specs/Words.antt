@@ -1,0 +1,84 @@
+-- Document 02, K12: the table by amount, turned over and back, and its words put in their places.
+use mathlib.Core.Bool.{Bool, false}
+use mathlib.Core.List.{List, [], _∷_}
+use Prim.Native.Nat.{ℕ, _+_, _*_, _/_, _%_}
+use lib.Dec.{eqb}
+use lib.ListN.{getD, set}
+use Rattle.sums.specs.Choice.{pick}
+use Rattle.sums.specs.Listed.{listTo}
+use Rattle.sums.specs.Sum.{sum}
+use Rattle.rows.specs.declared.Kinds.{Kinds}
+use Rattle.rows.specs.declared.Row.{Row}
+use Rattle.rows.specs.declared.Book.{Book}
+use Rattle.rows.specs.Rows.{rowAt}
+use Rattle.table.specs.declared.Table.{Table}
+
+-- "Store the table by amount and then by account.": amount k of account i
+abbrev pub wordAt : List ℕ → ℕ → ℕ → ℕ
+wordAt w k i = getD w (256 * k + i) 0
+
+-- "The evening sums read one amount of all accounts.": amount k of the accounts below n
+unfoldable pub amountSum : List ℕ → ℕ → ℕ → ℕ
+amountSum w k n = sum n (wordAt w k)
+
+-- four amounts from number k on
+abbrev pub kindsFrom : (ℕ → ℕ) → ℕ → Kinds
+kindsFrom f k = record { cash = f k; deposits = f (k + 1); guarantees = f (k + 2); securities = f (k + 3) }
+
+-- a row by its amounts: 0 to 3 received, 4 to 7 allocated, 8 pledged, 9 margin
+abbrev pub rowFrom : ℕ → Bool → ℕ → (ℕ → ℕ) → Row
+rowFrom sort live tm f = record { sort = sort; live = live; tm = tm; received = kindsFrom f 0; allocated = kindsFrom f 4; pledged = f 8; margin = f 9 }
+
+-- amount k of a row
+abbrev pub amountOf : Row → ℕ → ℕ
+amountOf r k =
+    getD (r .received .cash ∷ r .received .deposits ∷ r .received .guarantees ∷ r .received .securities
+    ∷ r .allocated .cash ∷ r .allocated .deposits ∷ r .allocated .guarantees ∷ r .allocated .securities ∷ r .pledged ∷ r .margin ∷ []) k 0
+
+-- each account's sort, live and TM, which are no amounts
+pub record Marks : Type 0 where
+  pub sort : List ℕ
+  pub live : List Bool
+  pub tm : List ℕ
+
+abbrev pub marksFrom : List ℕ → List Bool → List ℕ → Marks
+marksFrom sort live tm = record { sort = sort; live = live; tm = tm }
+
+abbrev pub marksOf : Table → Marks
+marksOf t = marksFrom (t .sort) (t .live) (t .tm)
+
+-- account i's row, gathered
+abbrev pub rowIn : Marks → List ℕ → ℕ → Row
+rowIn m w i = rowFrom (getD (m .sort) i 0) (getD (m .live) i false) (getD (m .tm) i 0) (λ k. wordAt w k i)
+
+-- the old order's rows
+unfoldable pub rowsOf : Marks → List ℕ → List Row
+rowsOf m w = listTo (rowIn m w) 256
+
+-- "turning over": the old order's book, by amount
+unfoldable pub turned : Book → Table
+turned b = record {
+  count = b .count;
+  serial = b .serial;
+  sort = listTo (λ i. rowAt b i .sort) 256;
+  live = listTo (λ i. rowAt b i .live) 256;
+  tm = listTo (λ i. rowAt b i .tm) 256;
+  amounts = listTo (λ n. amountOf (rowAt b (n % 256)) (n / 256)) 2560;
+}
+
+-- "and back": the table as a book of the old order
+abbrev pub turnedBack : Table → Book
+turnedBack t = record { count = t .count; serial = t .serial; rows = rowsOf (marksOf t) (t .amounts) }
+
+-- a row with amount k put anew
+abbrev pub withAmount : ℕ → ℕ → Row → Row
+withAmount k x r = rowFrom (r .sort) (r .live) (r .tm) (λ j. pick (eqb j k) x (amountOf r j))
+
+-- four amounts of account i put in their places, from number k on
+abbrev pub putKinds : List ℕ → ℕ → ℕ → Kinds → List ℕ
+putKinds w k i x =
+    set (set (set (set w (256 * k + i) (x .cash)) (256 * (k + 1) + i) (x .deposits)) (256 * (k + 2) + i) (x .guarantees)) (256 * (k + 3) + i) (x .securities)
+
+-- a row's amounts put in account i's places
+abbrev pub putRow : List ℕ → ℕ → Row → List ℕ
+putRow w i r = set (set (putKinds (putKinds w 0 i (r .received)) 4 i (r .allocated)) (256 * 8 + i) (r .pledged)) (256 * 9 + i) (r .margin)
