@@ -10,7 +10,7 @@ use Rattle.sums.specs.Choice.{unlessRefused}
 use Rattle.sums.specs.Table.{Line, first, Given}
 use Rattle.sums.proofs.Tables.{given-first, first-given}
 use Rattle.rows.specs.declared.Book.{Book}
-use Rattle.rows.specs.Rows.{view}
+use Rattle.rows.specs.Rows.{rowAt, view}
 use Rattle.book.specs.Sound.{soundB}
 use Rattle.book.specs.Asked.{standingRefusals, standingRefusal, noFigures, figuresOf, standingOf}
 use Rattle.book.proofs.StandingRefusals.{standing-number}

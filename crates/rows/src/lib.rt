@@ -14,7 +14,7 @@ pub struct Kinds {
     pub securities: u64,
 }
 
-// An account. `sort` is the code of the record that opened it (1 TM, 2 client, 3 CP) and 0 for the CM; `tm` is a
+// An account. `sort` is the code of the record that opened it (1 TM, 2 client, 3 CP) and 0 for the CM; `tm` is the place of a
 // client's TM and 0 for any other row.
 pub struct Row {
     pub sort: u8,
