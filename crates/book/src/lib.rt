@@ -1,6 +1,7 @@
 // The collateral book of one clearing member: its rows, its soundness, an account's standing.
 ghost use mathlib.Core.Path.{_≡_};
 ghost use Rattle.rows.specs.Rows.{freshBook};
+ghost use Rattle.table.specs.Words.{turned, turnedBack};
 ghost use Rattle.book.specs.Sound.{soundB};
 ghost use Rattle.book.specs.Asked.{standingOf};
 
@@ -8,6 +9,7 @@ mod blocking;
 mod sound;
 
 use rows::Book;
+use table::Table;
 
 // A standing's five figures, behind the refusal number or 0.
 pub struct Figures {
@@ -19,7 +21,7 @@ pub struct Figures {
     pub free: u64,
 }
 
-pub fn fresh() -> Book
+pub(crate) fn fresh_rows() -> Book
     ensures { λ r. ⌜ r ≡ freshBook ⌝ }
 {
     let blank = rows::words::no_row();
@@ -33,7 +35,7 @@ pub fn fresh() -> Book
 }
 
 // Ranges are tested before anything is added, so that no sum can pass a word.
-pub fn is_sound(b: Book) -> bool
+pub fn is_sound_rows(b: Book) -> bool
     ensures { λ r. ⌜ r ≡ soundB b ⌝ }
 {
     if b.count < 1 {
@@ -51,10 +53,10 @@ pub fn is_sound(b: Book) -> bool
     need <= rows::needs::collateral_of(b.rows[0])
 }
 
-pub fn standing(b: Book, account: u16) -> Figures
+fn standing_rows(b: Book, account: u16) -> Figures
     ensures { λ r. ⌜ r ≡ standingOf b account ⌝ }
 {
-    if !is_sound(b) {
+    if !is_sound_rows(b) {
         return blocking::refused(1);
     }
     let i = account as usize;
@@ -66,4 +68,22 @@ pub fn standing(b: Book, account: u16) -> Figures
         return blocking::refused(7);
     }
     blocking::figures(b, i)
+}
+
+pub fn fresh() -> Table
+    ensures { λ r. ⌜ r ≡ turned freshBook ⌝ }
+{
+    table::turn(fresh_rows())
+}
+
+pub fn is_sound(t: Table) -> bool
+    ensures { λ r. ⌜ r ≡ soundB (turnedBack t) ⌝ }
+{
+    is_sound_rows(table::turn_back(t))
+}
+
+pub fn standing(t: Table, account: u16) -> Figures
+    ensures { λ r. ⌜ r ≡ standingOf (turnedBack t) account ⌝ }
+{
+    standing_rows(table::turn_back(t), account)
 }

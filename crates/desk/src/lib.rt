@@ -3,9 +3,12 @@ ghost use mathlib.Core.Path.{_≡_};
 ghost use Rattle.book.specs.Facts.{Sound};
 ghost use Rattle.desk.specs.Answers.{nobody, ofRecord};
 ghost use Rattle.desk.specs.Steps.{stepOf, nextOf};
+ghost use Rattle.desk.specs.Over.{overDone, overNext};
+ghost use Rattle.table.specs.Words.{turnedBack};
 use dayfile::Found;
 use dayfile::Record;
 use rows::Book;
+use table::Table;
 use rules::Change;
 
 // What became of a record; the end is no refusal.
@@ -23,6 +26,7 @@ pub struct Answer {
     pub outcome: Outcome,
 }
 
+// The old order's: what the definitions speak of.
 pub struct Done {
     pub answer: Answer,
     pub book: Book,
@@ -31,6 +35,19 @@ pub struct Done {
 pub struct Next {
     pub answer: Answer,
     pub book: Book,
+    pub place: usize,
+}
+
+// The answer to a record, and the table after it.
+pub struct Carried {
+    pub answer: Answer,
+    pub table: Table,
+}
+
+// The same with the place after it.
+pub struct CarriedNext {
+    pub answer: Answer,
+    pub table: Table,
     pub place: usize,
 }
 
@@ -99,11 +116,10 @@ fn step(b: Book, r: Record) -> Done
     }
 }
 
-// A record handed over as values.
-pub fn carry_out(b: Book, record: Record) -> Done
+fn carry_out_rows(b: Book, record: Record) -> Done
     ensures { λ d. ⌜ d ≡ stepOf b «record» ⌝ }
 {
-    if !book::is_sound(b) {
+    if !book::is_sound_rows(b) {
         return Done {
             answer: about_nobody(Outcome::Refused(1)),
             book: b,
@@ -112,11 +128,10 @@ pub fn carry_out(b: Book, record: Record) -> Done
     step(b, record)
 }
 
-// The record at a place of a piece of the day file.
-pub fn carry_out_next(b: Book, piece: &[u8], place: usize) -> Next
+fn carry_out_next_rows(b: Book, piece: &[u8], place: usize) -> Next
     ensures { λ n. ⌜ n ≡ nextOf b (now (piece .entry)) place ⌝ }
 {
-    if !book::is_sound(b) {
+    if !book::is_sound_rows(b) {
         return Next {
             answer: about_nobody(Outcome::Refused(1)),
             book: b,
@@ -145,5 +160,31 @@ pub fn carry_out_next(b: Book, piece: &[u8], place: usize) -> Next
                 place: next,
             }
         }
+    }
+}
+
+// A record handed over as values.
+pub fn carry_out(t: Table, record: Record) -> Carried
+    ensures { λ d. ⌜ d ≡ overDone (stepOf (turnedBack t) «record») ⌝ }
+{
+    let done = carry_out_rows(table::turn_back(t), record);
+    let answer = done.answer;
+    let book = done.book;
+    let table = table::turn(book);
+    Carried { answer, table }
+}
+
+// The record at a place of a piece of the day file.
+pub fn carry_out_next(t: Table, piece: &[u8], place: usize) -> CarriedNext
+    ensures { λ n. ⌜ n ≡ overNext (nextOf (turnedBack t) (now (piece .entry)) place) ⌝ }
+{
+    let next = carry_out_next_rows(table::turn_back(t), piece, place);
+    let answer = next.answer;
+    let book = next.book;
+    let table = table::turn(book);
+    CarriedNext {
+        answer,
+        table,
+        place: next.place,
     }
 }

@@ -1,21 +1,18 @@
 -- `book::fresh` meets its contract.
+use mathlib.Core.Path.{ap, _∙_}
 use borrow.Author.Needs.{needs}
-use Rattle.rows.specs.Rows.{freshBook}
+use Rattle.table.specs.Words.{turned}
 use Rattle.book.proofs.fresh.Statement.{statement}
 use Rattle.book.proofs.fresh.Tie as tie
 
-no-row-requires : tie.Need-no-row-requires
-no-row-requires c κs = search needs
+fresh-rows-requires : tie.Need-fresh-rows-requires
+fresh-rows-requires c κs = search needs
 
-opened-row-requires : tie.Need-opened-row-requires
-opened-row-requires c κs = search needs
-
-array-set-from-table : tie.Need-array-set-from-table
-array-set-from-table c = search needs
+turn-requires : tie.Need-turn-requires
+turn-requires c κs = search needs
 
 returns : tie.Need-returns
-unfolding freshBook
-returns c = simp (c .before .no-row .ensures, c .opened-row .ensures)
+returns c = c .turn .ensures ∙ ap turned (c .before .fresh-rows .ensures)
 
 pub fresh-spec : {M : Type 1} → statement M
-fresh-spec = tie.close (tie.spec no-row-requires opened-row-requires array-set-from-table returns)
+fresh-spec = tie.close (tie.spec fresh-rows-requires turn-requires returns)

@@ -1,30 +1,28 @@
 -- `desk::carry_out` meets its contract.
-use borrow.Author.Tests.{not-true, not-false}
-use mathlib.Core.Path.{sym, ap, _∙_}
-use Rattle.book.proofs.SoundTest.{sound→}
-use Rattle.desk.proofs.Doing.{unsound-step}
+use mathlib.Core.Path.{_≡_, ap, _∙_}
 use borrow.Author.Needs.{needs}
+use Rattle.table.specs.declared.Table.{Table}
+use Rattle.desk.specs.declared.Answer.{Answer}
+use Rattle.desk.specs.declared.Carried.{Carried}
+use Rattle.desk.specs.Steps.{stepOf}
+use Rattle.desk.specs.Over.{overDone}
 use Rattle.desk.proofs.carry_out.Statement.{statement}
 use Rattle.desk.proofs.carry_out.Tie as tie
 
-is-sound-requires : tie.Need-is-sound-requires
-is-sound-requires c κs = search needs
+turn-back-requires : tie.Need-turn-back-requires
+turn-back-requires c κs = search needs
 
-about-nobody-requires : tie.Need-about-nobody-requires
-about-nobody-requires c κs = search needs
+carry-out-rows-requires : tie.Need-carry-out-rows-requires
+carry-out-rows-requires c κs = search needs
+
+turn-requires : tie.Need-turn-requires
+turn-requires c κs = search needs
 
 returns : tie.Need-returns
 returns c =
-    let a = c .before .before .before .args in
-    ap (λ x. record { answer = x; book = a .b }) (c .about-nobody .ensures)
-    ∙ unsound-step (a .b) _ (sym (c .before .before .is-sound .ensures) ∙ not-true _ (c .before .if1 .taken))
-
-step-requires : tie.Need-step-requires
-step-requires c κs = sound→ _ (sym (c .before .is-sound .ensures) ∙ not-false _ (c .if1 .left))
-
-returns-2 : tie.Need-returns-2
-returns-2 c = search needs
+    let done = c .before .before .before in
+    ap (λ (x : Table). record { answer = done .carry-out-rows .result .answer; table = x }) (c .turn .ensures)
+    ∙ ap overDone (done .carry-out-rows .ensures ∙ ap (λ b. stepOf b (done .before .before .args .record)) (done .before .turn-back .ensures))
 
 pub carry-out-spec : {M : Type 1} → statement M
-carry-out-spec =
-    tie.close (tie.spec is-sound-requires about-nobody-requires returns step-requires returns-2)
+carry-out-spec = tie.close (tie.spec turn-back-requires carry-out-rows-requires turn-requires returns)
