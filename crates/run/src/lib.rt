@@ -8,10 +8,13 @@ ghost use Rattle.sums.specs.Choice.{pick};
 ghost use Rattle.book.specs.Facts.{Sound};
 ghost use Rattle.run.specs.Runs.{endedWith, runOf, ranOf};
 ghost use Rattle.run.specs.Told.{toldOf, roomFor};
+ghost use Rattle.run.specs.Over.{overRan};
+ghost use Rattle.table.specs.Words.{turnedBack};
 ghost use Rattle.run.specs.Inner.{putFive, tellOf, refusalShown, givenShown, carriedShown};
 use dayfile::Found;
 use rows::Book;
 use rules::Change;
+use table::Table;
 
 // Why the records stopped: at the end, at a cut, at the stated number, or since the book isn't sound.
 pub enum Closing {
@@ -21,8 +24,18 @@ pub enum Closing {
     Unsound,
 }
 
+// The old order's: what the definitions speak of.
 pub struct Ran {
     pub book: Book,
+    pub place: usize,
+    pub closing: Closing,
+    pub read: u64,
+    pub done: u64,
+}
+
+// The table after the records, the place reached, why they stopped, and the two counts.
+pub struct Ended {
+    pub table: Table,
     pub place: usize,
     pub closing: Closing,
     pub read: u64,
@@ -181,23 +194,21 @@ fn unsound(b: Book) -> Ran
     }
 }
 
-// The records of a piece from its start, up to a stated number.
-pub fn day(b: Book, piece: &[u8], most: u64) -> Ran
+fn day_rows(b: Book, piece: &[u8], most: u64) -> Ran
     ensures { λ r. ⌜ r ≡ ranOf b (now (piece .entry)) most ⌝ }
 {
-    if !book::is_sound(b) {
+    if !book::is_sound_rows(b) {
         return unsound(b);
     }
     let mut nowhere = [0u16; 1];
     run(b, piece, most, &mut nowhere, false)
 }
 
-// The same, with each record's numbers put into a lent room, as far as there is room for five of each.
-pub fn day_told(b: Book, piece: &[u8], most: u64, room: &mut [u16]) -> Ran
+fn day_told_rows(b: Book, piece: &[u8], most: u64, room: &mut [u16]) -> Ran
     ensures { λ r. ⌜ r ≡ ranOf b (now (piece .entry)) (roomFor most (now (room .entry))) ⌝ }
     ensures { λ r. ⌜ now (room .exit) ≡ toldOf b (now (piece .entry)) most (now (room .entry)) ⌝ }
 {
-    if !book::is_sound(b) {
+    if !book::is_sound_rows(b) {
         return unsound(b);
     }
     let fit = room.len() as u64 / 5;
@@ -205,4 +216,34 @@ pub fn day_told(b: Book, piece: &[u8], most: u64, room: &mut [u16]) -> Ran
         return run(b, piece, most, room, true);
     }
     run(b, piece, fit, room, true)
+}
+
+fn over(r: Ran) -> Ended
+    ensures { λ x. ⌜ x ≡ overRan r ⌝ }
+{
+    let book = r.book;
+    let closing = r.closing;
+    let table = table::turn(book);
+    Ended {
+        table,
+        place: r.place,
+        closing,
+        read: r.read,
+        done: r.done,
+    }
+}
+
+// The records of a piece from its start, up to a stated number.
+pub fn day(t: Table, piece: &[u8], most: u64) -> Ended
+    ensures { λ r. ⌜ r ≡ overRan (ranOf (turnedBack t) (now (piece .entry)) most) ⌝ }
+{
+    over(day_rows(table::turn_back(t), piece, most))
+}
+
+// The same, with each record's numbers put into a lent room, as far as there is room for five of each.
+pub fn day_told(t: Table, piece: &[u8], most: u64, room: &mut [u16]) -> Ended
+    ensures { λ r. ⌜ r ≡ overRan (ranOf (turnedBack t) (now (piece .entry)) (roomFor most (now (room .entry)))) ⌝ }
+    ensures { λ r. ⌜ now (room .exit) ≡ toldOf (turnedBack t) (now (piece .entry)) most (now (room .entry)) ⌝ }
+{
+    over(day_told_rows(table::turn_back(t), piece, most, room))
 }
