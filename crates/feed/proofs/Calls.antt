@@ -10,13 +10,21 @@ use lib.Seq.{take-all, drop-drop}
 use borrow.Author.Tests.{ltb-true, ltb-false, not-true, not-false}
 use Rattle.sums.proofs.Choices.{clash, and-split}
 use Rattle.rows.specs.declared.Book.{Book}
+use Rattle.rows.specs.Rows.{places}
+use Rattle.table.specs.declared.Table.{Table}
+use Rattle.table.specs.Words.{turned, turnedBack}
 use Rattle.run.specs.declared.Closing.{Closing}
 use Rattle.run.specs.declared.Closing.the-variants.{End, Cut, Long, Unsound}
 use Rattle.run.specs.declared.Ran.{Ran}
-use Rattle.run.specs.Runs.{endedWith, ranOf}
+use Rattle.run.specs.declared.Ended.{Ended}
+use Rattle.run.specs.Runs.{ranOf}
+use Rattle.run.specs.Over.{overRan}
+use Rattle.run.proofs.SoundRun.{ran-places}
+use Rattle.run.proofs.Turned.{backRan, back-ran, over-again}
 use Rattle.run.proofs.Stops.{Stopped, ran-stops, ran-enough}
 use Rattle.run.proofs.Pieces.{onFrom, on-twice, on-none, restOf, in-pieces}
 use Rattle.lines.specs.declared.Lined.{Lined}
+use Rattle.lines.proofs.Agreement.{endedIn}
 use Rattle.sums.specs.Room.{over}
 use Rattle.lines.specs.Texts.{limitOf, textOf, linedOf}
 use Rattle.feed.specs.Inner.{isLong}
@@ -27,15 +35,16 @@ pub record Telling (s : List ℕ) (most : ℕ) (b₀ : Book) (text : List ℕ) (
   pub inside : place ≤ length s
   pub upto : read ≤ most
   pub fewer : done ≤ read
+  pub wide : places book ≡ 256
   pub same : ranOf b₀ s most ≡ onFrom place read done (ranOf book (drop place s) (most - read))
 
-pub nothing-told : (s : List ℕ) (most : ℕ) (b₀ : Book) (text : List ℕ) → length text ≡ 65536 → Telling s most b₀ text b₀ 0 0 0
-nothing-told s most b₀ text h =
+pub nothing-told : (s : List ℕ) (most : ℕ) (b₀ : Book) (text : List ℕ) → places b₀ ≡ 256 → length text ≡ 65536 → Telling s most b₀ text b₀ 0 0 0
+nothing-told s most b₀ text w h =
     let e : most ≡ most - 0 = omega arith in
-    record { size = h; inside = omega arith; upto = omega arith; fewer = omega arith; same = ap (ranOf b₀ s) e ∙ on-none _ }
+    record { size = h; inside = omega arith; upto = omega arith; fewer = omega arith; wide = w; same = ap (ranOf b₀ s) e ∙ on-none _ }
 
 abbrev pub ranIn : Lined → Ran
-ranIn q = endedWith (q .closing) (q .book) (q .place) (q .read) (q .done)
+ranIn q = backRan (endedIn q)
 
 -- one call more
 pub record Call (s : List ℕ) (most : ℕ) (b₀ : Book) (text : List ℕ) (book : Book) (place read done : ℕ) (q : Lined) : Type 0 where
@@ -70,7 +79,12 @@ module _ {s : List ℕ} {most : ℕ} {b₀ : Book} {text : List ℕ} {book : Boo
 
   ran-is : ranIn q ≡ ranOf book (drop place s) limit
   unfolding linedOf
-  ran-is = ap ranIn (g .is)
+  ran-is = back-ran book (drop place s) limit (endedIn q) (g .before .wide) (ap endedIn (g .is))
+
+  -- the table is a book's turned over
+  table-is : turned (turnedBack (q .table)) ≡ q .table
+  unfolding linedOf
+  table-is = over-again (q .table) _ (ap (λ x. x .table) (g .is))
 
   stopped : Stopped (drop place s) limit 0 0 0 (ranIn q)
   stopped = rw ran-is (ran-stops book (drop place s) limit)
@@ -89,22 +103,23 @@ module _ {s : List ℕ} {most : ℕ} {b₀ : Book} {text : List ℕ} {book : Boo
 
   -- the calls so far, and this one
   from-here : ranOf book (drop place s) (most - read)
-      ≡ onFrom (q .place) (q .read) (q .done) (ranOf (q .book) (drop (place + q .place) s) (most - (read + q .read)))
+      ≡ onFrom (q .place) (q .read) (q .done) (ranOf (turnedBack (q .table)) (drop (place + q .place) s) (most - (read + q .read)))
   from-here =
       let l = drop place s in
       let fuel : most - read - q .read ≡ most - (read + q .read) = omega arith in
       ap (λ x. ranOf book x (most - read)) (sym (append-nil l))
       ∙ in-pieces book l [] limit (most - read) limit-most
       ∙ ap (λ r. restOf r l [] (most - read)) (sym ran-is)
-      ∙ ap (λ x. onFrom (q .place) (q .read) (q .done) (ranOf (q .book) x (most - read - q .read))) (append-nil _ ∙ drop-drop (q .place) place s)
-      ∙ ap (λ n. onFrom (q .place) (q .read) (q .done) (ranOf (q .book) (drop (place + q .place) s) n)) fuel
+      ∙ ap (λ x. onFrom (q .place) (q .read) (q .done) (ranOf (turnedBack (q .table)) x (most - read - q .read))) (append-nil _ ∙ drop-drop (q .place) place s)
+      ∙ ap (λ n. onFrom (q .place) (q .read) (q .done) (ranOf (turnedBack (q .table)) (drop (place + q .place) s) n)) fuel
 
-  pub told : (text′ : List ℕ) → length text′ ≡ 65536 → Telling s most b₀ text′ (q .book) (place + q .place) (read + q .read) (done + q .done)
+  pub told : (text′ : List ℕ) → length text′ ≡ 65536 → Telling s most b₀ text′ (turnedBack (q .table)) (place + q .place) (read + q .read) (done + q .done)
   told text′ h = record {
     size = h;
     inside = place-most;
     upto = read-most;
     fewer = done-most;
+    wide = ap (λ r. places (r .book)) ran-is ∙ ran-places book (drop place s) limit (g .before .wide);
     same = g .before .same ∙ ap (onFrom place read done) from-here ∙ on-twice place read done (q .place) (q .read) (q .done) _;
   }
 
@@ -128,5 +143,7 @@ module _ {s : List ℕ} {most : ℕ} {b₀ : Book} {text : List ℕ} {book : Boo
 
     -- or it was not, or the stated number is reached: then nothing is left to carry out
     pub finished : not (t && ltb (read + q .read) most) ≡ true
-        → endedWith (q .closing) (q .book) (place + q .place) (read + q .read) (done + q .done) ≡ ranOf b₀ s most
-    finished e = ap (onFrom place read done) (sym (enough t (sym w) (not-true _ e))) ∙ sym (g .before .same)
+        → _≡_ {A = Ended} (record { table = q .table; place = place + q .place; closing = q .closing; read = read + q .read; done = done + q .done }) (overRan (ranOf b₀ s most))
+    finished e =
+        ap (λ (x : Table). record { table = x; place = place + q .place; closing = q .closing; read = read + q .read; done = done + q .done }) (sym table-is)
+        ∙ ap (λ r. overRan (onFrom place read done r)) (sym (enough t (sym w) (not-true _ e))) ∙ ap overRan (sym (g .before .same))

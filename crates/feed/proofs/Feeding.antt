@@ -23,6 +23,8 @@ use Rattle.run.specs.Runs.{ranOf}
 use Rattle.run.proofs.SoundRun.{ran-keeps}
 use Rattle.run.proofs.Stops.{Stopped, ran-stops, ran-moves}
 use Rattle.run.proofs.Pieces.{onFrom, on-twice, on-none, restOf, in-pieces}
+use Rattle.table.specs.declared.Table.{Table}
+use Rattle.table.specs.Words.{turned}
 use Rattle.feed.specs.Fed.{dayOf, wholeDay, Came}
 use Rattle.feed.specs.Inner.{stopsAt}
 
@@ -124,13 +126,15 @@ module _ {space : List ℕ} {book : Book} {kept read done : ℕ} {filled : List 
   pub done-within : done + r .done ≤ read + r .read
   done-within = omega (arith, stopped .fewer, g .before .fewer)
 
-  pub came : Came (record { book = r .book; closing = r .closing; read = read + r .read; done = done + r .done })
+  -- t is the table that holds the run's book
+  pub came : (t : Table) → turned (r .book) ≡ t → Came (record { table = t; closing = r .closing; read = read + r .read; done = done + r .done })
   unfolding wholeDay
-  came = record {
+  came t e = record {
     input = (g .before .input ++ new) ++ [];
     bytes = bytes-append (g .before .input ++ new) [] all-bytes (λ i. omega arith);
     is =
-        ap (λ q. dayOf (onFrom (g .before .place) read done q)) (g .is ∙ ap (λ l. ranOf book l (1_000_000 - read)) (sym (append-nil (take held filled))))
+        ap (λ (x : Table). record { table = x; closing = r .closing; read = read + r .read; done = done + r .done }) (sym e)
+        ∙ ap (λ q. dayOf (onFrom (g .before .place) read done q)) (g .is ∙ ap (λ l. ranOf book l (1_000_000 - read)) (sym (append-nil (take held filled))))
         ∙ sym (ap dayOf (longer []));
   }
 

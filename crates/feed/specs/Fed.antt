@@ -3,6 +3,7 @@ use mathlib.Core.List.{List}
 use mathlib.Core.Path.{_≡_}
 use Prim.Native.Nat.{ℕ}
 use Rattle.rows.specs.Rows.{freshBook}
+use Rattle.table.specs.Words.{turned}
 use Rattle.dayfile.specs.Files.{Bytes}
 use Rattle.run.specs.declared.Ran.{Ran}
 use Rattle.run.specs.Runs.{ranOf}
@@ -10,7 +11,7 @@ use Rattle.feed.specs.declared.Day.{Day}
 
 -- a run's results without its place
 abbrev pub dayOf : Ran → Day
-dayOf r = record { book = r .book; closing = r .closing; read = r .read; done = r .done }
+dayOf r = record { table = turned (r .book); closing = r .closing; read = r .read; done = r .done }
 
 -- "The program reads a day file .. over a fresh book"; "It stops at the end, at a cut or at a million records"
 unfoldable pub wholeDay : List ℕ → Day

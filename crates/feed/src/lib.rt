@@ -1,12 +1,14 @@
 // A day file read from standard input in large pieces and carried out over a fresh book.
 ghost use mathlib.Core.Path.{_≡_};
 ghost use Rattle.run.specs.Runs.{ranOf};
+ghost use Rattle.run.specs.Over.{overRan};
+ghost use Rattle.table.specs.Words.{turnedBack};
 ghost use Rattle.feed.specs.Fed.{Came};
 ghost use Rattle.feed.specs.Inner.{stopsAt};
-use rows::Book;
 use run::Closing;
-use run::Ran;
+use run::Ended;
 use space::SPACE;
+use table::Table;
 
 mod space;
 mod telling;
@@ -16,7 +18,7 @@ pub const MILLION: u64 = 1_000_000;
 
 // What a whole day file came to.
 pub struct Day {
-    pub book: Book,
+    pub table: Table,
     pub closing: Closing,
     pub read: u64,
     pub done: u64,
@@ -34,13 +36,13 @@ fn stops(word: Closing) -> bool
 }
 
 // The records of a piece, with a line each on standard output where that is asked for.
-pub fn carry(b: Book, piece: &[u8], most: u64, tell: bool) -> Ran
-    ensures { λ r. ⌜ r ≡ ranOf b (now (piece .entry)) most ⌝ }
+pub fn carry(t: Table, piece: &[u8], most: u64, tell: bool) -> Ended
+    ensures { λ r. ⌜ r ≡ overRan (ranOf (turnedBack t) (now (piece .entry)) most) ⌝ }
 {
     if tell {
-        return telling::tell(b, piece, most);
+        return telling::tell(t, piece, most);
     }
-    run::day(b, piece, most)
+    run::day(t, piece, most)
 }
 
 // The day file on standard input. The end of a piece is no cut: what is left of it is kept, and the next piece is read
@@ -49,17 +51,17 @@ pub fn whole_day(tell: bool) -> Day
     ensures { λ d. ⌜ Came d ⌝ }
 {
     let mut space = space::blank();
-    let mut book = book::fresh();
+    let mut table = book::fresh();
     let mut kept: usize = 0;
     let mut read: u64 = 0;
     let mut done: u64 = 0;
     let closing = loop {
         let held = kept + space::refill(&mut space, kept);
-        let ran = carry(book, &space[..held], MILLION - read, tell);
-        let after = ran.book;
+        let ran = carry(table, &space[..held], MILLION - read, tell);
+        let after = ran.table;
         let word = ran.closing;
         let place = ran.place;
-        book = after;
+        table = after;
         read += ran.read;
         done += ran.done;
         if stops(word) | (held < SPACE) {
@@ -68,7 +70,7 @@ pub fn whole_day(tell: bool) -> Day
         kept = space::keep(&mut space, place, held);
     };
     Day {
-        book,
+        table,
         closing,
         read,
         done,

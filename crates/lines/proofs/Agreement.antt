@@ -7,19 +7,20 @@ use Rattle.sums.specs.Room.{over}
 use Rattle.sums.proofs.Choices.{pick-no}
 use Rattle.rows.specs.declared.Book.{Book}
 use Rattle.book.specs.Sound.{soundB}
-use Rattle.run.specs.declared.Ran.{Ran}
+use Rattle.run.specs.declared.Ended.{Ended}
 use Rattle.run.specs.Runs.{ranOf}
+use Rattle.run.specs.Over.{overRan}
 use Rattle.run.specs.Told.{answersOf}
 use Rattle.lines.specs.declared.Lined.{Lined}
 use Rattle.lines.specs.Lines.{linesOf}
 use Rattle.lines.specs.Texts.{limitOf, textOf, linedOf}
 
 -- a result without its text
-abbrev pub ranIn : Lined → Ran
-ranIn l = record { book = l .book; place = l .place; closing = l .closing; read = l .read; done = l .done }
+abbrev pub endedIn : Lined → Ended
+endedIn l = record { table = l .table; place = l .place; closing = l .closing; read = l .read; done = l .done }
 
 -- what `lines(b, piece, most, room)` gives is what `day(b, piece, n)` gives, with n the limit of that call
-pub same-as-day : (b : Book) (piece : List ℕ) (most : ℕ) (room : List ℕ) → ranIn (linedOf b piece (limitOf most room)) ≡ ranOf b piece (limitOf most room)
+pub same-as-day : (b : Book) (piece : List ℕ) (most : ℕ) (room : List ℕ) → endedIn (linedOf b piece (limitOf most room)) ≡ overRan (ranOf b piece (limitOf most room))
 unfolding linedOf
 same-as-day b piece most room = refl
 

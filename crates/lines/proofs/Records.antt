@@ -16,7 +16,8 @@ use Rattle.dayfile.specs.Reading.{foundAt}
 use Rattle.desk.specs.declared.Answer.{Answer}
 use Rattle.desk.specs.Steps.{stepOf}
 use Rattle.run.specs.declared.Closing.the-variants.{Unsound}
-use Rattle.run.specs.declared.Ran.{Ran}
+use Rattle.run.specs.declared.Ended.{Ended}
+use Rattle.run.specs.Over.{overRan}
 use Rattle.run.specs.Runs.{endedWith, runOf, ranOf}
 use Rattle.run.specs.Told.{answering, answersOf, five, fives, roomFor, toldOf}
 use Rattle.run.proofs.SoundRun.{run-counts}
@@ -90,15 +91,15 @@ module _ (b : Book) (s : List ℕ) (n : ℕ) where
       by false = lines-none told
 
 -- what the call leaves, by what the run and the lines leave
-pub lined : (b : Book) (s : List ℕ) (n : ℕ) (told₀ : List ℕ) {told room room′ : List ℕ} {ran : Ran} {text : ℕ} → n ≡ roomFor n told₀
-    → ran ≡ ranOf b s (roomFor n told₀) → told ≡ toldOf b s n told₀ → Puts room 0 (linesTo told (ran .read)) room′ text
+pub lined : (b : Book) (s : List ℕ) (n : ℕ) (told₀ : List ℕ) {told room room′ : List ℕ} {ran : Ended} {text : ℕ} → n ≡ roomFor n told₀
+    → ran ≡ overRan (ranOf b s (roomFor n told₀)) → told ≡ toldOf b s n told₀ → Puts room 0 (linesTo told (ran .read)) room′ text
     → (withText ran text ≡ linedOf b s n) × (room′ ≡ over (textOf b s n) room)
 unfolding linedOf
 lined b s n told₀ {told} {room} {room′} {ran} {text} m er et f =
-    let r : ran ≡ ranOf b s n = er ∙ ap (ranOf b s) (sym m) in
+    let r : ran ≡ overRan (ranOf b s n) = er ∙ ap (λ k. overRan (ranOf b s k)) (sym m) in
     let t : linesTo told (ran .read) ≡ textOf b s n =
     ap (λ x. linesTo x (ran .read)) et ∙ ap (λ x. linesTo (toldOf b s n told₀) (x .read)) r ∙ text-told b s n told₀ m in
     let o = puts-over f in (
-      ap (λ x. withText x text) r ∙ ap (withText (ranOf b s n)) (o .0 ∙ ap length t),
+      ap (λ x. withText x text) r ∙ ap (withText (overRan (ranOf b s n))) (o .0 ∙ ap length t),
       o .1 ∙ ap (λ x. over x room) t,
     )

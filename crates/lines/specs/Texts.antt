@@ -5,8 +5,9 @@ use lib.ListN.{length}
 use Rattle.sums.specs.Choice.{pick}
 use Rattle.rows.specs.declared.Book.{Book}
 use Rattle.book.specs.Sound.{soundB}
-use Rattle.run.specs.declared.Ran.{Ran}
+use Rattle.run.specs.declared.Ended.{Ended}
 use Rattle.run.specs.Runs.{ranOf}
+use Rattle.run.specs.Over.{overRan}
 use Rattle.run.specs.Told.{answersOf}
 use Rattle.lines.specs.Lines.{linesOf}
 use Rattle.lines.specs.declared.Lined.{Lined}
@@ -19,9 +20,9 @@ limitOf most room = min most (min (length room / 32) 2048)
 unfoldable pub textOf : Book → List ℕ → ℕ → List ℕ
 textOf b s most = pick (soundB b) (linesOf (answersOf s most b 0)) []
 
-abbrev pub withText : Ran → ℕ → Lined
-withText ran text = record { book = ran .book; place = ran .place; closing = ran .closing; read = ran .read; done = ran .done; text = text }
+abbrev pub withText : Ended → ℕ → Lined
+withText ran text = record { table = ran .table; place = ran .place; closing = ran .closing; read = ran .read; done = ran .done; text = text }
 
 -- what the call gives beside the room
 unfoldable pub linedOf : Book → List ℕ → ℕ → Lined
-linedOf b s most = withText (ranOf b s most) (length (textOf b s most))
+linedOf b s most = withText (overRan (ranOf b s most)) (length (textOf b s most))

@@ -4,16 +4,17 @@ ghost use Prim.Native.Nat.{min};
 ghost use lib.ListN.{length};
 ghost use Rattle.lines.specs.Lines.{closingLineOf};
 ghost use Rattle.sums.specs.Room.{over};
+ghost use Rattle.table.specs.Words.{turnedBack};
 ghost use Rattle.lines.specs.Texts.{limitOf, textOf, linedOf};
-use rows::Book;
 use run::Closing;
+use table::Table;
 
 mod closing;
 mod line;
 mod number;
 
 pub struct Lined {
-    pub book: Book,
+    pub table: Table,
     pub place: usize,
     pub closing: Closing,
     pub read: u64,
@@ -35,17 +36,17 @@ fn limit(most: u64, room: &[u8]) -> u64
 }
 
 // The records of a piece from its start, up to a stated number, with each one's line put into the room.
-pub fn lines(b: Book, piece: &[u8], most: u64, room: &mut [u8]) -> Lined
-    ensures { λ r. ⌜ r ≡ linedOf b (now (piece .entry)) (limitOf most (now (room .entry))) ⌝ }
-    ensures { λ _. ⌜ now (room .exit) ≡ over (textOf b (now (piece .entry)) (limitOf most (now (room .entry)))) (now (room .entry)) ⌝ }
+pub fn lines(t: Table, piece: &[u8], most: u64, room: &mut [u8]) -> Lined
+    ensures { λ r. ⌜ r ≡ linedOf (turnedBack t) (now (piece .entry)) (limitOf most (now (room .entry))) ⌝ }
+    ensures { λ _. ⌜ now (room .exit) ≡ over (textOf (turnedBack t) (now (piece .entry)) (limitOf most (now (room .entry)))) (now (room .entry)) ⌝ }
 {
     let mut told = [0u16; 10240];
-    let ran = run::day_told(b, piece, limit(most, room), &mut told);
+    let ran = run::day_told(t, piece, limit(most, room), &mut told);
     let text = line::put_lines(room, &told, ran.read as usize);
-    let book = ran.book;
+    let table = ran.table;
     let closing = ran.closing;
     Lined {
-        book,
+        table,
         place: ran.place,
         closing,
         read: ran.read,

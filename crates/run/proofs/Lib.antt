@@ -2,5 +2,6 @@ pub mod Numbers
 pub mod Turning
 pub mod Tellings
 pub mod SoundRun
+pub mod Turned
 pub mod Stops
 pub mod Pieces

@@ -1,24 +1,30 @@
 -- `feed::whole_day`: the records of the pieces so far are those of what was read so far.
-use mathlib.Core.Path.{sym, _∙_}
+use mathlib.Core.Path.{sym, ap, _∙_}
 use Prim.Native.Nat.{_+_, _-_}
 use native.Mathlib.Omega.{arith}
 use lib.Seq.{length-take-le}
 use borrow.Author.Needs.{needs}
+use Rattle.rows.specs.Rows.{freshBook}
+use Rattle.table.specs.Words.{turnedBack}
+use Rattle.table.proofs.Gathered.{rows-length}
+use Rattle.table.proofs.Turning.{over-and-back}
+use Rattle.book.proofs.FreshSound.{fresh-sound}
+use Rattle.run.proofs.Turned.{backRan, back-ran, over-again}
 use Rattle.feed.proofs.Feeding.{Feeding, Piece, nothing-read, came, fed, moves, place-within, read-within, done-within}
 use Rattle.feed.proofs.whole_day.Statement.{statement}
 use Rattle.feed.proofs.whole_day.Tie as tie
 
 abbrev Inv-loop : tie.InvT-loop
-Inv-loop tell space₀ book₀ kept₀ read₀ done₀ space book kept read done = Feeding space book kept read done
+Inv-loop tell space₀ table₀ kept₀ read₀ done₀ space table kept read done = Feeding space (turnedBack table) kept read done
 
 abbrev μ-loop : tie.MeasureT-loop
-μ-loop tell space₀ book₀ kept₀ read₀ done₀ space book kept read done = 1_000_000 - read
+μ-loop tell space₀ table₀ kept₀ read₀ done₀ space table kept read done = 1_000_000 - read
 
 piece : (c : tie.After-carry Inv-loop μ-loop)
-    → Piece (c .before .before .before .before .before .loop .space) (c .before .before .before .before .before .loop .book)
+    → Piece (c .before .before .before .before .before .loop .space) (turnedBack (c .before .before .before .before .before .loop .table))
     (c .before .before .before .before .before .loop .kept) (c .before .before .before .before .before .loop .read)
     (c .before .before .before .before .before .loop .done) (c .before .before .before .refill .last .0)
-    (c .before .before .before .before .before .loop .kept + c .before .before .before .refill .result) (c .carry .result)
+    (c .before .before .before .before .before .loop .kept + c .before .before .before .refill .result) (backRan (c .carry .result))
 piece c =
     let g = c .before .before .before .before .before .loop .inv in
     let f = c .before .before .before .refill in
@@ -29,7 +35,7 @@ piece c =
       most = omega (arith, f .ensures .0, f .kept .0, g .size);
       old = f .ensures .1 .0;
       bytes = f .ensures .1 .1;
-      is = c .carry .ensures;
+      is = back-ran _ _ _ (c .carry .result) (rows-length _ _) (c .carry .ensures);
     }
 
 blank-requires : tie.Need-blank-requires Inv-loop μ-loop
@@ -39,7 +45,7 @@ fresh-requires : tie.Need-fresh-requires Inv-loop μ-loop
 fresh-requires c κs = search needs
 
 loop-holds : tie.Need-loop-holds Inv-loop μ-loop
-loop-holds c = nothing-read _ _ (sym (c .before .blank .ensures)) (c .fresh .ensures)
+loop-holds c = nothing-read _ _ (sym (c .before .blank .ensures)) (ap turnedBack (c .fresh .ensures) ∙ over-and-back freshBook (fresh-sound .table))
 
 slice-aggregate-refill : tie.Need-slice-aggregate-refill Inv-loop μ-loop
 slice-aggregate-refill c = sym (c .before .loop .inv .size)
@@ -92,7 +98,9 @@ loop-again c =
     fed (piece t) _ _ (k .kept .0 ∙ piece t .size) (k .ensures .0) (k .ensures .1)
 
 returns : tie.Need-returns Inv-loop μ-loop
-returns c = came (piece (c .before .before .before .before .before))
+returns c =
+    let t = c .before .before .before .before .before in
+    came (piece t) (t .carry .result .table) (over-again (t .carry .result .table) _ (ap (λ x. x .table) (t .carry .ensures)))
 
 pub whole-day-spec : {M : Type 1} → statement M
 whole-day-spec =

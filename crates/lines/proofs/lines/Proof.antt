@@ -6,6 +6,7 @@ use Prim.Native.Nat.{ℕ, zero, _≤_}
 use native.Mathlib.Omega.{arith}
 use lib.ListN.{length, replicate, length-replicate}
 use Rattle.run.specs.Told.{roomFor}
+use Rattle.table.specs.Words.{turnedBack}
 use Rattle.lines.specs.Texts.{limitOf}
 use Rattle.lines.proofs.Records.{read-most, lined}
 use Rattle.lines.proofs.lines.Statement.{statement}
@@ -37,8 +38,8 @@ put-lines-requires c κs =
     let l = c .before .before .before .before .before .limit in
     let e : l .result ≡ limitOf (a .most) (a .room .now) = l .ensures in
     let size : length (d .last .1 .1 .1 .0) ≡ length blank = d .kept .1 .1 .1 .0 in (
-      omega (arith, length-replicate 10240 zero, ap (λ x. x .read) (d .ensures .0), read-most (a .b) (a .piece .now) (roomFor (l .result) blank)),
-      omega (arith, ap (λ x. x .read) (d .ensures .0), read-most (a .b) (a .piece .now) (roomFor (l .result) blank)),
+      omega (arith, length-replicate 10240 zero, ap (λ x. x .read) (d .ensures .0), read-most (turnedBack (a .t)) (a .piece .now) (roomFor (l .result) blank)),
+      omega (arith, ap (λ x. x .read) (d .ensures .0), read-most (turnedBack (a .t)) (a .piece .now) (roomFor (l .result) blank)),
     )
 
 same-length : tie.Need-same-length
@@ -50,7 +51,7 @@ returns c =
     let d = c .before .before .before .before .before .before .before .day-told in
     let l = c .before .before .before .before .before .before .before .before .before .limit in
     let e : l .result ≡ limitOf (a .most) (a .room .now) = l .ensures in
-    rw (← e) (lined (a .b) (a .piece .now) (l .result) blank (fits (l .result) (omega arith)) (d .ensures .0) (d .ensures .1) (c .before .before .before .put-lines .ensures))
+    rw (← e) (lined (turnedBack (a .t)) (a .piece .now) (l .result) blank (fits (l .result) (omega arith)) (d .ensures .0) (d .ensures .1) (c .before .before .before .put-lines .ensures))
 
 pub lines-spec : {M : Type 1} → statement M
 lines-spec =

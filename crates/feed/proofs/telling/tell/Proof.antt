@@ -5,19 +5,21 @@ use native.Mathlib.Omega.{arith}
 use lib.ListN.{length}
 use lib.Seq.{length-take-le}
 use borrow.Author.Needs.{needs}
+use Rattle.table.specs.Words.{turnedBack}
+use Rattle.table.proofs.Gathered.{rows-length}
 use Rattle.feed.proofs.Calls.{Telling, Call, lent, fits, nothing-told, told, moves, finished, read-most, done-most, place-most}
 use Rattle.feed.proofs.telling.tell.Statement.{statement}
 use Rattle.feed.proofs.telling.tell.Tie as tie
 
 abbrev Inv-loop : tie.InvT-loop
-Inv-loop piece most text₀ book₀ place₀ read₀ done₀ text book place read done = Telling piece most book₀ text book place read done
+Inv-loop piece most text₀ table₀ place₀ read₀ done₀ text table place read done = Telling piece most (turnedBack table₀) text (turnedBack table) place read done
 
 abbrev μ-loop : tie.MeasureT-loop
-μ-loop piece most text₀ book₀ place₀ read₀ done₀ text book place read done = most - read
+μ-loop piece most text₀ table₀ place₀ read₀ done₀ text table place read done = most - read
 
 call : (c : tie.After-lines Inv-loop μ-loop)
     → Call (c .before .before .before .before .before .before .args .piece .now) (c .before .before .before .before .before .before .args .most)
-    (c .before .before .before .before .before .before .args .b) (c .before .before .before .loop .text) (c .before .before .before .loop .book)
+    (turnedBack (c .before .before .before .before .before .before .args .t)) (c .before .before .before .loop .text) (turnedBack (c .before .before .before .loop .table))
     (c .before .before .before .loop .place) (c .before .before .before .loop .read) (c .before .before .before .loop .done) (c .lines .result)
 call c =
     let g = c .before .before .before .loop in
@@ -30,7 +32,7 @@ large-buffer-requires : tie.Need-large-buffer-requires Inv-loop μ-loop
 large-buffer-requires c κs = search needs
 
 loop-holds : tie.Need-loop-holds Inv-loop μ-loop
-loop-holds c = nothing-told _ _ _ _ (sym (c .large-buffer .ensures))
+loop-holds c = nothing-told _ _ _ _ (rows-length _ _) (sym (c .large-buffer .ensures))
 
 sub-lines : tie.Need-sub-lines Inv-loop μ-loop
 sub-lines c = omega arith
