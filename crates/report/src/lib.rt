@@ -4,10 +4,11 @@ ghost use Prim.Native.Nat.{min};
 ghost use lib.ListN.{length};
 ghost use Rattle.lines.specs.Lines.{closingLineOf};
 ghost use Rattle.sums.specs.Room.{over};
+ghost use Rattle.table.specs.Words.{turnedBack};
 ghost use Rattle.report.specs.Reports.{accounts as Reports·accounts, standingsText, closeOutText};
 use libc::STDOUT_FILENO;
-use rows::Book;
 use run::Closing;
+use table::Table;
 
 mod loss;
 mod put;
@@ -27,12 +28,12 @@ fn accounts(count: usize) -> usize
 }
 
 // The lines of all accounts' standings: how long they are, and the lines in the room.
-pub fn standings_text(b: Book, room: &mut [u8; 65536]) -> usize
-    ensures { λ n. ⌜ n ≡ length (standingsText b) ⌝ }
-    ensures { λ _. ⌜ now (room .exit) ≡ over (standingsText b) (now (room .entry)) ⌝ }
+pub fn standings_text(t: Table, room: &mut [u8; 65536]) -> usize
+    ensures { λ n. ⌜ n ≡ length (standingsText (turnedBack t)) ⌝ }
+    ensures { λ _. ⌜ now (room .exit) ≡ over (standingsText (turnedBack t)) (now (room .entry)) ⌝ }
 {
-    let n = accounts(b.count as usize);
-    standing::put_standings(room, b, n)
+    let n = accounts(t.count as usize);
+    standing::put_standings(room, t, n)
 }
 
 // The lines of a close-out: how long they are, and the lines in the room.
@@ -60,11 +61,11 @@ pub fn closing(word: Closing, read: u64, done: u64) -> usize
 }
 
 // Prints the lines of all accounts' standings, and gives their length.
-pub fn standings(b: Book) -> usize
-    ensures { λ n. ⌜ n ≡ length (standingsText b) ⌝ }
+pub fn standings(t: Table) -> usize
+    ensures { λ n. ⌜ n ≡ length (standingsText (turnedBack t)) ⌝ }
 {
     let mut room = [0u8; 65536];
-    let n = standings_text(b, &mut room);
+    let n = standings_text(t, &mut room);
     io::write_all(STDOUT_FILENO, &room[..n]);
     n
 }

@@ -2,13 +2,15 @@
 ghost use Prim.Native.Nat.{_+_, _*_, _≤_};
 ghost use lib.ListN.{length};
 ghost use Rattle.lines.specs.Inner.{Puts};
+ghost use Rattle.table.specs.Words.{turnedBack};
 ghost use Rattle.report.specs.Reports.{andSpace, sortWord, stateWord, standingLine, standingLines};
 use crate::put::put_number;
 use crate::put::put_six;
 use crate::put::put_text;
 use book::Figures;
-use rows::Book;
 use rows::Row;
+use table::Table;
+use table::places::row_of;
 
 fn put_sort(room: &mut [u8], at: usize, sort: u8) -> usize
     requires { ⌜ at + 7 ≤ length (now room) ⌝ }
@@ -57,15 +59,16 @@ fn put_standing(room: &mut [u8], at: usize, i: usize, r: Row, f: Figures) -> usi
 }
 
 // Puts the lines of the accounts below n, and gives how long they are.
-pub(crate) fn put_standings(room: &mut [u8], b: Book, n: usize) -> usize
+pub(crate) fn put_standings(room: &mut [u8], t: Table, n: usize) -> usize
     requires { ⌜ (n ≤ 256) × (162 * n ≤ length (now room)) ⌝ }
-    ensures { λ after. ⌜ Puts (now (room .entry)) 0 (standingLines b n) (now (room .exit)) after ⌝ }
+    ensures { λ after. ⌜ Puts (now (room .entry)) 0 (standingLines (turnedBack t) n) (now (room .exit)) after ⌝ }
 {
     let mut at: usize = 0;
     let mut i: usize = 0;
     while i < n {
-        let figures = book::standing(b, i as u16);
-        at = put_standing(room, at, i, b.rows[i], figures);
+        let figures = book::standing(t, i as u16);
+        let r = row_of(&t.sort, &t.live, &t.tm, &t.amounts, i);
+        at = put_standing(room, at, i, r, figures);
         i += 1;
     }
     at

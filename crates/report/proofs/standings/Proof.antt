@@ -4,6 +4,7 @@ use mathlib.Core.Path.{sym}
 use Prim.Native.Nat.{_≤_}
 use lib.ListN.{length}
 use lib.Seq.{length-take-le}
+use Rattle.table.specs.Words.{turnedBack}
 use Rattle.report.specs.Reports.{standingsText}
 use Rattle.report.proofs.Puts.{front}
 use Rattle.report.proofs.standings.Statement.{statement}
@@ -12,7 +13,7 @@ use Rattle.report.proofs.standings.Tie as tie
 fits : (c : tie.After-standings-text) → c .standings-text .result ≤ length (c .standings-text .last .1 .0)
 fits c =
     let a = c .before .before .args in
-    front _ (standingsText (a .b)) _ _ (c .standings-text .ensures .0) (c .standings-text .ensures .1)
+    front _ (standingsText (turnedBack (a .t))) _ _ (c .standings-text .ensures .0) (c .standings-text .ensures .1)
 
 standings-text-requires : tie.Need-standings-text-requires
 standings-text-requires c κs = search needs

@@ -1,9 +1,11 @@
 -- `report::standing::put_standings` meets its contract. The invariant: the lines of the accounts below i stand in the room, at most 162 bytes each.
 use borrow.Author.Needs.{needs}
-use mathlib.Core.Path.{_≡_}
+use mathlib.Core.Path.{_≡_, sym, _∙_}
 use Prim.Native.Nat.{_*_, _-_, _≤_}
 use native.Mathlib.Numerals.{add-one}
 use native.Mathlib.Omega.{arith}
+use Rattle.table.specs.Words.{turnedBack}
+use Rattle.table.proofs.Gathered.{row-in}
 use Rattle.lines.specs.Inner.{Puts}
 use Rattle.lines.proofs.Puts.{and-then, puts-length}
 use Rattle.report.specs.Reports.{standingLines}
@@ -12,10 +14,10 @@ use Rattle.report.proofs.standing.put_standings.Statement.{statement}
 use Rattle.report.proofs.standing.put_standings.Tie as tie
 
 abbrev Inv-loop : tie.InvT-loop
-Inv-loop room₀ n b at₀ i₀ room at i = Puts room₀ 0 (standingLines b i) room at × (at ≤ 162 * i) × (i ≤ n)
+Inv-loop room₀ n t at₀ i₀ room at i = Puts room₀ 0 (standingLines (turnedBack t) i) room at × (at ≤ 162 * i) × (i ≤ n)
 
 abbrev μ-loop : tie.MeasureT-loop
-μ-loop room₀ n b at₀ i₀ room at i = n - i
+μ-loop room₀ n t at₀ i₀ room at i = n - i
 
 loop-holds : tie.Need-loop-holds Inv-loop μ-loop
 unfolding standingLines
@@ -27,14 +29,11 @@ cast-standing c = omega arith
 standing-requires : tie.Need-standing-requires Inv-loop μ-loop
 standing-requires c κs = search needs
 
-mul-put-standing : tie.Need-mul-put-standing Inv-loop μ-loop
-mul-put-standing c = omega arith
-
-element-copy-out-put-standing : tie.Need-element-copy-out-put-standing Inv-loop μ-loop
-element-copy-out-put-standing c = omega arith
+row-of-requires : tie.Need-row-of-requires Inv-loop μ-loop
+row-of-requires c κs = omega arith
 
 put-standing-requires : tie.Need-put-standing-requires Inv-loop μ-loop
-put-standing-requires c κs = omega (arith, puts-length (c .before .before .before .before .loop .inv .0))
+put-standing-requires c κs = omega (arith, puts-length (c .before .before .before .before .before .before .before .before .before .loop .inv .0))
 
 add-i : tie.Need-add-i Inv-loop μ-loop
 add-i c = omega arith
@@ -45,9 +44,10 @@ loop-less c = omega arith
 loop-again : tie.Need-loop-again Inv-loop μ-loop
 unfolding standingLines
 loop-again c =
-    let l = c .before .before .before .before .before .before .before in
-    let s = c .before .before .before .before .before .standing .ensures in
-    (rw (add-one (l .loop .i)) (and-then _ _ (l .loop .inv .0) (rw s at (c .before .before .put-standing .ensures .0))), omega arith, omega arith)
+    let l = c .before .before .before .before .before .before .before .before .before .before .before .before in
+    let s = c .before .before .before .before .before .before .before .before .before .before .standing .ensures in
+    let r = c .before .before .before .before .row-of .ensures ∙ sym (row-in _ _ (l .loop .i) (omega arith)) in
+    (rw (add-one (l .loop .i)) (and-then _ _ (l .loop .inv .0) (rw r at (rw s at (c .before .before .put-standing .ensures .0)))), omega arith, omega arith)
 
 same-length : tie.Need-same-length Inv-loop μ-loop
 same-length c = puts-length (c .before .loop .inv .0)
@@ -64,8 +64,7 @@ put-standings-spec =
     loop-holds
     cast-standing
     standing-requires
-    mul-put-standing
-    element-copy-out-put-standing
+    row-of-requires
     put-standing-requires
     add-i
     loop-less
