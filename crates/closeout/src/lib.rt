@@ -2,11 +2,13 @@
 ghost use mathlib.Core.Path.{_≡_};
 ghost use Prim.Native.Nat.{_≤_};
 ghost use lib.ListN.{length};
+ghost use Rattle.table.specs.Words.{turnedBack};
 ghost use Rattle.closeout.specs.Closing.{goodLoss, goodLosses, noTotal, closedOf, roomOf};
-use book::is_sound;
+use book::is_sound_rows;
 use rows::Book;
 use rows::CEILING;
 use rows::Row;
+use table::Table;
 
 mod pays;
 
@@ -45,12 +47,11 @@ fn refused(n: u8) -> Closed
     }
 }
 
-// The answer, and in the room each account's four amounts: from own collateral, from the TM's, from the CM's, uncovered.
-pub fn close_out(b: Book, losses: &[u64], room: &mut [u64]) -> Closed
+fn close_out_rows(b: Book, losses: &[u64], room: &mut [u64]) -> Closed
     ensures answer { λ x. ⌜ x ≡ closedOf b (now (losses .entry)) (now (room .entry)) ⌝ }
     ensures rows { λ _. ⌜ now (room .exit) ≡ roomOf b (now (losses .entry)) (now (room .entry)) ⌝ }
 {
-    if !is_sound(b) {
+    if !is_sound_rows(b) {
         return refused(1);
     }
     let n = b.count as usize;
@@ -67,4 +68,12 @@ pub fn close_out(b: Book, losses: &[u64], room: &mut [u64]) -> Closed
         refusal: 0,
         total: pays::fill(b, losses, room),
     }
+}
+
+// The answer, and in the room each account's four amounts: from own collateral, from the TM's, from the CM's, uncovered.
+pub fn close_out(t: Table, losses: &[u64], room: &mut [u64]) -> Closed
+    ensures answer { λ x. ⌜ x ≡ closedOf (turnedBack t) (now (losses .entry)) (now (room .entry)) ⌝ }
+    ensures rows { λ _. ⌜ now (room .exit) ≡ roomOf (turnedBack t) (now (losses .entry)) (now (room .entry)) ⌝ }
+{
+    close_out_rows(table::turn_back(t), losses, room)
 }

@@ -1,123 +1,28 @@
--- `closeout::close_out` meets its contract: each test says which refusal is the first.
-use mathlib.Core.Path.{_≡_, refl, sym, _∙_, ap}
-use mathlib.Core.Bool.{true}
-use mathlib.Core.List.{List}
-use Prim.Native.Nat.{ℕ, _*_}
-use lib.Dec.{eqb}
-use lib.ListN.{length}
-use borrow.Author.Tests.{eq-eqb, ne-eqb, not-true, not-false}
-use Rattle.rows.specs.declared.Book.{Book}
-use Rattle.book.specs.Sound.{soundB}
-use Rattle.book.proofs.SoundTest.{sound→}
-use Rattle.closeout.specs.Closing.{goodLosses}
-use Rattle.closeout.proofs.Answers.{refused-sound, refused-losses, refused-room, refused-loss, none-refused, settled, losses-small}
+-- `closeout::close_out` meets its contract.
+use mathlib.Core.Path.{_≡_, ap, _∙_}
 use borrow.Author.Needs.{needs}
+use denote.Ref.{now}
+use Rattle.closeout.specs.Closing.{closedOf, roomOf}
 use Rattle.closeout.proofs.close_out.Statement.{statement}
 use Rattle.closeout.proofs.close_out.Tie as tie
 
-is-sound-requires : tie.Need-is-sound-requires
-is-sound-requires c κs = search needs
+turn-back-requires : tie.Need-turn-back-requires
+turn-back-requires c κs = search needs
 
-refused-requires : tie.Need-refused-requires
-refused-requires c κs = search needs
-
-returns : tie.Need-returns
-returns c =
-    let start = c .before .before .before .before .before in
-    let b : Book = start .args .b in
-    settled b _ _ 1 (refused-sound b _ _ (sym (c .before .before .is-sound .ensures) ∙ not-true _ (c .before .if1 .taken))) (c .refused .ensures) refl
-
--- past the test of the book
-abbrev Bk : tie.Else1 → Book
-Bk c = c .before .before .before .before .args .b
-
-abbrev Ls : tie.Else1 → List ℕ
-Ls c = c .before .before .before .before .args .losses .now
-
-abbrev Rm : tie.Else1 → List ℕ
-Rm c = c .before .before .before .before .args .room .now
-
-sound : (c : tie.Else1) → soundB (Bk c) ≡ true
-sound c = sym (c .before .is-sound .ensures) ∙ not-false _ (c .if1 .left)
-
-cast-n : tie.Need-cast-n
-cast-n c = search needs
-
-refused-requires-2 : tie.Need-refused-requires-2
-refused-requires-2 c κs = search needs
-
-returns-2 : tie.Need-returns-2
-returns-2 c =
-    let at = c .before .before .before in
-    settled (Bk at) (Ls at) (Rm at) 15 (refused-losses (Bk at) (Ls at) (Rm at) (sound at) (ne-eqb _ _ (c .before .if2 .taken))) (c .refused2 .ensures) refl
-
-mul-if3 : tie.Need-mul-if3
-mul-if3 c = search needs
-
-refused-requires-3 : tie.Need-refused-requires-3
-refused-requires-3 c κs = search needs
-
-returns-3 : tie.Need-returns-3
-returns-3 c =
-    let at = c .before .before .before .before in
-    settled (Bk at) (Ls at) (Rm at) 15 (refused-room (Bk at) (Ls at) (Rm at) (sound at) (eq-eqb _ _ (c .before .before .if2 .left)) (ne-eqb _ _ (c .before .if3 .taken))) (c .refused3 .ensures) refl
-
-good-losses-requires : tie.Need-good-losses-requires
-good-losses-requires c κs = (c .before .if2 .left, sound→ _ (sound (c .before .before .before)) .most)
-
--- past the tests of the lengths, and of the losses
-abbrev of : tie.Else3 → tie.Else1
-of c = c .before .before .before
-
-each : (c : tie.Else3) → eqb (length (Ls (of c))) (Bk (of c) .count) ≡ true
-each c = eq-eqb _ _ (c .before .if2 .left)
-
-wide : (c : tie.Else3) → eqb (length (Rm (of c))) (4 * Bk (of c) .count) ≡ true
-wide c = eq-eqb _ _ (c .if3 .left)
-
-good : (c : tie.Else4) → goodLosses (Bk (of (c .before .before))) (Ls (of (c .before .before))) ≡ true
-good c = sym (c .before .good-losses .ensures) ∙ not-false _ (c .if4 .left)
-
-refused-requires-4 : tie.Need-refused-requires-4
-refused-requires-4 c κs = search needs
-
-returns-4 : tie.Need-returns-4
-returns-4 c =
-    let tests = c .before .before .before in
-    let at = of tests in
-    settled (Bk at) (Ls at) (Rm at) 16 (refused-loss (Bk at) (Ls at) (Rm at) (sound at) (each tests) (wide tests) (sym (c .before .before .good-losses .ensures) ∙ not-true _ (c .before .if4 .taken))) (c .refused4 .ensures) refl
-
-fill-requires : tie.Need-fill-requires
-fill-requires c κs =
-    let tests = c .before .before .before in
-    record { sound = sound→ _ (sound (of tests)); each = tests .before .if2 .left; wide = tests .if3 .left; small = losses-small (Bk (of tests)) (Ls (of tests)) (good (c .before)) }
+close-out-rows-requires : tie.Need-close-out-rows-requires
+close-out-rows-requires c κs = search needs
 
 same-length : tie.Need-same-length
 same-length c = search needs
 
-returns-5 : tie.Need-returns-5
-returns-5 c =
-    let tests = c .before .before .before .before .before .before in
-    let at = of tests in
-    settled (Bk at) (Ls at) (Rm at) 0 (none-refused (Bk at) (Ls at) (Rm at) (sound at) (each tests) (wide tests) (good (c .before .before .before .before)))
-    (ap (λ (t : ℕ). record { refusal = 0; total = t }) (c .before .before .fill .ensures .1)) (c .before .before .fill .ensures .0)
+returns : tie.Need-returns
+returns c =
+    let done = c .before .before in
+    let back = done .before .before in
+    let a = back .before .before .before .args in (
+      done .close-out-rows .ensures .0 ∙ ap (λ b. closedOf b (now (a .losses)) (now (a .room))) (back .turn-back .ensures),
+      done .close-out-rows .ensures .1 ∙ ap (λ b. roomOf b (now (a .losses)) (now (a .room))) (back .turn-back .ensures),
+    )
 
 pub close-out-spec : {M : Type 1} → statement M
-close-out-spec =
-    tie.close
-    (tie.spec
-    is-sound-requires
-    refused-requires
-    returns
-    cast-n
-    refused-requires-2
-    returns-2
-    mul-if3
-    refused-requires-3
-    returns-3
-    good-losses-requires
-    refused-requires-4
-    returns-4
-    fill-requires
-    same-length
-    returns-5)
+close-out-spec = tie.close (tie.spec turn-back-requires close-out-rows-requires same-length returns)
