@@ -7,7 +7,7 @@ ghost use Rattle.rows.specs.Rows.{addedUp, plusKinds, lessKinds};
 ghost use Rattle.rows.specs.Facts.{KindsWithin};
 ghost use Rattle.rows.specs.Ranges.{ceilings};
 
-pub(crate) fn plus_kinds(a: Kinds, b: Kinds) -> Kinds
+pub fn plus_kinds(a: Kinds, b: Kinds) -> Kinds
     requires { ⌜ KindsWithin a ceilings × KindsWithin b ceilings ⌝ }
     ensures { λ r. ⌜ r ≡ plusKinds a b ⌝ }
 {
@@ -19,7 +19,7 @@ pub(crate) fn plus_kinds(a: Kinds, b: Kinds) -> Kinds
     }
 }
 
-pub(crate) fn less_kinds(a: Kinds, b: Kinds) -> Kinds
+pub fn less_kinds(a: Kinds, b: Kinds) -> Kinds
     ensures { λ r. ⌜ r ≡ lessKinds a b ⌝ }
 {
     Kinds {
@@ -30,7 +30,7 @@ pub(crate) fn less_kinds(a: Kinds, b: Kinds) -> Kinds
     }
 }
 
-pub(crate) fn added_up(k: Kinds) -> u64
+pub fn added_up(k: Kinds) -> u64
     requires { ⌜ KindsWithin k ceilings ⌝ }
     ensures { λ r. ⌜ r ≡ addedUp k ⌝ }
 {

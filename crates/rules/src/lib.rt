@@ -3,7 +3,7 @@ use rows::Account;
 use rows::Row;
 
 pub mod effects;
-mod kinds;
+pub mod kinds;
 mod refusals;
 pub mod seeing;
 

@@ -1,0 +1,4 @@
+pub mod Lines
+pub mod Made
+pub mod ByCode
+pub mod Carried

@@ -1,0 +1,86 @@
+-- `steps::amend` meets its contract: each code's own lines are what the table has for it.
+use mathlib.Core.Path.{_≡_}
+use Rattle.table.specs.Words.{marksFrom}
+use Rattle.steps.proofs.ByCode.{last-code, receives, hands-back, allocates, releases, pledges, unpledges, sets-margin, retires}
+use borrow.Author.Needs.{needs}
+use Rattle.steps.proofs.amend.Statement.{statement}
+use Rattle.steps.proofs.amend.Tie as tie
+
+cast-i : tie.Need-cast-i
+cast-i c = search needs
+
+receive-requires : tie.Need-receive-requires
+receive-requires c κs =
+    let h = c .before .before .before .before .pre .held in
+    (h .size, h .inside, h .ranges _ (h .inside), c .before .before .before .before .pre .amounts .kinds)
+
+hand-back-requires : tie.Need-hand-back-requires
+hand-back-requires c κs = search needs
+
+allocate-requires : tie.Need-allocate-requires
+allocate-requires c κs = search needs
+
+release-requires : tie.Need-release-requires
+release-requires c κs = search needs
+
+pledge-requires : tie.Need-pledge-requires
+pledge-requires c κs = search needs
+
+unpledge-requires : tie.Need-unpledge-requires
+unpledge-requires c κs = search needs
+
+set-margin-requires : tie.Need-set-margin-requires
+set-margin-requires c κs = search needs
+
+retire-requires : tie.Need-retire-requires
+retire-requires c κs = search needs
+
+returns : tie.Need-returns
+returns c = let a = (c .before .before .before .before .before .args) in receives (a .count) (marksFrom (a .sort .now) (a .live .now) (a .tm .now)) (a .w .now) (a .under .now) (a .r) (c .before .before .before .match .keys1) (c .receive .ensures)
+
+returns-2 : tie.Need-returns-2
+returns-2 c = let a = (c .before .before .before .before .before .args) in hands-back (a .count) (marksFrom (a .sort .now) (a .live .now) (a .tm .now)) (a .w .now) (a .under .now) (a .r) (c .before .before .before .match .keys2) (c .hand-back .ensures)
+
+returns-3 : tie.Need-returns-3
+returns-3 c = let a = (c .before .before .before .before .before .before .args) in allocates (a .count) (marksFrom (a .sort .now) (a .live .now) (a .tm .now)) (a .w .now) (a .under .now) (a .r) (c .before .before .before .before .match .keys3) (c .allocate .ensures)
+
+returns-4 : tie.Need-returns-4
+returns-4 c = let a = (c .before .before .before .before .before .before .args) in releases (a .count) (marksFrom (a .sort .now) (a .live .now) (a .tm .now)) (a .w .now) (a .under .now) (a .r) (c .before .before .before .before .match .keys4) (c .release .ensures)
+
+returns-5 : tie.Need-returns-5
+returns-5 c = let a = (c .before .before .before .before .before .before .args) in pledges (a .count) (marksFrom (a .sort .now) (a .live .now) (a .tm .now)) (a .w .now) (a .under .now) (a .r) (c .before .before .before .before .match .keys5) (c .pledge .ensures)
+
+returns-6 : tie.Need-returns-6
+returns-6 c = let a = (c .before .before .before .before .before .before .args) in unpledges (a .count) (marksFrom (a .sort .now) (a .live .now) (a .tm .now)) (a .w .now) (a .under .now) (a .r) (c .before .before .before .before .match .keys6) (c .unpledge .ensures)
+
+returns-7 : tie.Need-returns-7
+returns-7 c = let a = (c .before .before .before .before .before .before .args) in sets-margin (a .count) (marksFrom (a .sort .now) (a .live .now) (a .tm .now)) (a .w .now) (a .under .now) (a .r) (c .before .before .before .before .match .keys7) (c .before .before .before .before .before .before .pre .amounts .margin) (c .set-margin .ensures)
+
+returns-8 : tie.Need-returns-8
+returns-8 c =
+    let a = (c .before .before .before .before .before .args) in
+    let g = c .before .before .before .match .rest in
+    retires (a .count) (marksFrom (a .sort .now) (a .live .now) (a .tm .now)) (a .w .now) (a .under .now) (a .r)
+    (last-code (a .r .code) (c .before .before .before .before .before .pre .known) (c .before .before .before .before .before .pre .low) (g .0 .0 .0 .0 .0 .0 .1) (g .0 .0 .0 .0 .0 .1) (g .0 .0 .0 .0 .1) (g .0 .0 .0 .1) (g .0 .0 .1) (g .0 .1) (g .1)) (c .retire .ensures)
+
+pub amend-spec : {M : Type 1} → statement M
+amend-spec =
+    tie.close
+    (tie.spec
+    cast-i
+    receive-requires
+    hand-back-requires
+    allocate-requires
+    release-requires
+    pledge-requires
+    unpledge-requires
+    set-margin-requires
+    retire-requires
+    returns
+    returns-2
+    returns-3
+    returns-4
+    returns-5
+    returns-6
+    returns-7
+    returns-8)

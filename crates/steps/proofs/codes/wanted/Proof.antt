@@ -1,0 +1,17 @@
+-- `steps::codes::wanted` meets its contract.
+use mathlib.Core.Path.{_≡_, refl}
+use borrow.Author.Tests.{eq-eqb, ne-eqb}
+use Rattle.sums.specs.Choice.{pick}
+use Rattle.steps.proofs.codes.wanted.Statement.{statement}
+use Rattle.steps.proofs.codes.wanted.Tie as tie
+
+returns : tie.Need-returns
+unfolding pick
+returns c = rw (eq-eqb (c .before .args .code) 2 (c .if1 .taken))
+
+returns-2 : tie.Need-returns-2
+unfolding pick
+returns-2 c = rw (ne-eqb (c .before .args .code) 2 (c .if1 .left))
+
+pub wanted-spec : {M : Type 1} → statement M
+wanted-spec = tie.close (tie.spec returns returns-2)
