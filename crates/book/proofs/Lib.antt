@@ -1,4 +1,5 @@
 pub mod Differences
+pub mod EveningTold
 pub mod FreshSound
 pub mod Keeps
 pub mod UnderPut

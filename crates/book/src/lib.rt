@@ -1,13 +1,16 @@
-// The collateral book of one clearing member: its rows, its soundness, an account's standing.
+// The collateral book of one clearing member, by amount: its rows, its soundness, an account's standing, the evening sums.
 ghost use mathlib.Core.Path.{_≡_};
 ghost use Rattle.rows.specs.Rows.{freshBook};
+ghost use Rattle.table.specs.Words.{turned, turnedBack};
 ghost use Rattle.book.specs.Sound.{soundB};
 ghost use Rattle.book.specs.Asked.{standingOf};
+ghost use Rattle.book.specs.Evening.{eveningOf};
 
 mod blocking;
+mod evening;
 mod sound;
 
-use rows::Book;
+use table::Table;
 
 // A standing's five figures, behind the refusal number or 0.
 pub struct Figures {
@@ -19,51 +22,89 @@ pub struct Figures {
     pub free: u64,
 }
 
-pub fn fresh() -> Book
-    ensures { λ r. ⌜ r ≡ freshBook ⌝ }
+// An amount that every account has.
+pub enum Amount {
+    ReceivedCash,
+    ReceivedDeposits,
+    ReceivedGuarantees,
+    ReceivedSecurities,
+    AllocatedCash,
+    AllocatedDeposits,
+    AllocatedGuarantees,
+    AllocatedSecurities,
+    Pledged,
+    Margin,
+}
+
+// An amount of all accounts, behind the refusal number or 0.
+pub struct Summed {
+    pub refusal: u8,
+    pub total: u64,
+}
+
+pub fn fresh() -> Table
+    ensures { λ r. ⌜ r ≡ turned freshBook ⌝ }
 {
-    let blank = rows::words::no_row();
-    let mut table = [blank; 256];
-    table[0] = rows::words::opened_row(0, 0);
-    Book {
+    let mut live = [false; 256];
+    live[0] = true;
+    Table {
         count: 1,
         serial: 0,
-        rows: table,
+        sort: [0u8; 256],
+        live,
+        tm: [0u16; 256],
+        amounts: [0u64; 2560],
     }
 }
 
 // Ranges are tested before anything is added, so that no sum can pass a word.
-pub fn is_sound(b: Book) -> bool
-    ensures { λ r. ⌜ r ≡ soundB b ⌝ }
+pub fn is_sound(t: Table) -> bool
+    ensures { λ r. ⌜ r ≡ soundB (turnedBack t) ⌝ }
 {
-    if b.count < 1 {
+    let count = t.count;
+    if count < 1 {
         return false;
     }
-    if b.count > 256 {
+    if count > 256 {
         return false;
     }
-    if !sound::rows_sound(b) {
+    if !sound::rows_sound(&t.sort, &t.live, &t.tm, &t.amounts, count) {
         return false;
     }
-    let table = b.rows;
-    sound::width(table);
-    let need = rows::needs::need_cm(b);
-    need <= rows::needs::collateral_of(b.rows[0])
+    let need = table::needs::need_cm(&t.sort, &t.tm, &t.amounts, count);
+    let cm = table::needs::account_at(&t.sort, &t.tm, &t.amounts, 0);
+    need <= cm.collateral
 }
 
-pub fn standing(b: Book, account: u16) -> Figures
-    ensures { λ r. ⌜ r ≡ standingOf b account ⌝ }
+pub fn standing(t: Table, account: u16) -> Figures
+    ensures { λ r. ⌜ r ≡ standingOf (turnedBack t) account ⌝ }
 {
-    if !is_sound(b) {
+    if !is_sound(t) {
         return blocking::refused(1);
     }
+    let count = t.count;
+    if account >= count {
+        return blocking::refused(7);
+    }
     let i = account as usize;
-    let n = b.count as usize;
-    if i >= n {
+    if !t.live[i] {
         return blocking::refused(7);
     }
-    if !b.rows[i].live {
-        return blocking::refused(7);
+    blocking::figures(&t.sort, &t.tm, &t.amounts, count, i)
+}
+
+// The evening sums: an amount of all accounts, out of its own run of words.
+pub fn amount_sum(t: Table, amount: Amount) -> Summed
+    ensures { λ r. ⌜ r ≡ eveningOf (turnedBack t) amount ⌝ }
+{
+    if !is_sound(t) {
+        return Summed {
+            refusal: 1,
+            total: 0,
+        };
     }
-    blocking::figures(b, i)
+    let n = t.count as usize;
+    let k = evening::run_of(amount);
+    let total = table::evening::amount_sum(&t.amounts, k, n);
+    Summed { refusal: 0, total }
 }

@@ -4,14 +4,12 @@ use mathlib.Core.Path.{_≡_, ap, sym, _∙_}
 use Prim.Native.Nat.{ℕ, _<_}
 use native.Mathlib.Omega.{arith}
 use native.Mathlib.Decide.{decLt}
-use Rattle.rows.specs.declared.Row.{Row}
-use Rattle.rows.specs.declared.Account.{Account}
 use Rattle.rows.specs.declared.Book.{Book}
 use Rattle.rows.specs.Rows.{rowAt, accountOf, view}
 use Rattle.rows.specs.Under.{accountAt}
 use Rattle.rows.specs.Inner.{Ranged}
 use Rattle.rows.proofs.RowPut.{row-far}
-use Rattle.table.specs.Words.{Marks, marksFrom, rowIn, bookFrom}
+use Rattle.table.specs.Words.{Marks, marksFrom, bookFrom}
 use Rattle.table.specs.Facts.{seenBook}
 use Rattle.table.proofs.Gathered.{rows-length, row-in}
 

@@ -95,12 +95,7 @@ pub fn unders<'a>(
     owed
 }
 
-pub fn need_cm<'a>(
-    sort: &'a [u8; 256],
-    tm: &'a [u16; 256],
-    w: &'a [u64; 2560],
-    count: u16,
-) -> u64
+pub fn need_cm<'a>(sort: &'a [u8; 256], tm: &'a [u16; 256], w: &'a [u64; 2560], count: u16) -> u64
     requires { ⌜ Ranged (seenBook count (now sort) (now tm) (now w)) × (0 < count) ⌝ }
     ensures { λ x. ⌜ x ≡ needCM (view (seenBook count (now (sort .entry)) (now (tm .entry)) (now (w .entry)))) ⌝ }
 {

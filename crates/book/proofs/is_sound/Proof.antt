@@ -1,12 +1,18 @@
 -- `book::is_sound` meets its contract.
 use mathlib.Core.Bool.{true, and-true, and-false}
-use mathlib.Core.Path.{_≡_, sym, _∙_}
+use mathlib.Core.Path.{_≡_, sym, ap, _∙_}
 use native.Mathlib.Omega.{arith}
 use borrow.Author.Needs.{needs}
 use borrow.Author.Tests.{lt-leb, le-leb, eq-eqb, not-true, not-false}
 use Rattle.sums.specs.Sum.{all}
-use Rattle.book.specs.Sound.{rowSound, formedB, coveredB, soundB}
+use Rattle.rows.specs.View.{needCM}
 use Rattle.rows.specs.Inner.{Ranged}
+use Rattle.table.specs.declared.Table.{Table}
+use Rattle.table.specs.Words.{marksOf, turnedBack}
+use Rattle.table.specs.Facts.{seenBook}
+use Rattle.table.proofs.Gathered.{rows-length}
+use Rattle.table.proofs.Seen.{seen-view, seen-account, seen-ranged}
+use Rattle.book.specs.Sound.{rowSound, formedB, coveredB, soundB}
 use Rattle.book.proofs.RowTests.{rows-ranged}
 use Rattle.book.proofs.is_sound.Statement.{statement}
 use Rattle.book.proofs.is_sound.Tie as tie
@@ -22,43 +28,49 @@ returns-2 c = simp (lt-leb (c .before .before .args .t1 .count) 256 (c .if2 .tak
 rows-sound-requires : tie.Need-rows-sound-requires
 rows-sound-requires c κs = search needs
 
+-- where the rows are tested, and the table
+abbrev numbered : tie.After-rows-sound → tie.Else2
+numbered c = c .before .before .before .before .before .before
+
+abbrev tableOf : tie.After-rows-sound → Table
+tableOf c = numbered c .before .before .args .t1
+
 returns-3 : tie.Need-returns-3
-unfolding soundB formedB
+unfolding soundB formedB rowSound
 returns-3 c = simp (sym (c .before .rows-sound .ensures) ∙ not-true _ (c .if3 .taken), and-false)
 
-width-requires : tie.Need-width-requires
-width-requires c κs = search needs
-
 -- past the tests of the number and of the rows
-rows-hold : (c : tie.Else3) → all 256 (rowSound (c .before .before .before .before .args .t1)) ≡ true
+rows-hold : (c : tie.Else3) → all 256 (rowSound (turnedBack (tableOf (c .before)))) ≡ true
+unfolding rowSound
 rows-hold c = sym (c .before .rows-sound .ensures) ∙ not-false _ (c .if3 .left)
 
-ranged : (c : tie.After-width) → Ranged (c .before .before .before .before .before .before .args .t1)
+ranged : (c : tie.Else3) → Ranged (seenBook (tableOf (c .before) .count) (tableOf (c .before) .sort) (tableOf (c .before) .tm) (tableOf (c .before) .amounts))
 ranged c =
-    let b = c .before .before .before .before .before .before .args .t1 in
-    rows-ranged b (c .width .ensures) (omega arith) (rows-hold (c .before .before))
+    let t = tableOf (c .before) in
+    seen-ranged (t .count) (t .serial) (marksOf t) (t .amounts)
+    (rows-ranged (turnedBack t) (rows-length (marksOf t) (t .amounts)) (numbered (c .before) .if2 .left) (rows-hold c))
 
 need-cm-requires : tie.Need-need-cm-requires
-need-cm-requires c κs = (ranged c, omega arith)
+need-cm-requires c κs = (ranged (c .before .before .before .before), omega arith)
 
-element-copy-out-collateral-of : tie.Need-element-copy-out-collateral-of
-element-copy-out-collateral-of c = search needs
-
-collateral-of-requires : tie.Need-collateral-of-requires
-collateral-of-requires c κs = ranged (c .before .before) .ranges 0 (omega arith)
+account-at-requires : tie.Need-account-at-requires
+account-at-requires c κs = (omega arith, ranged (c .before .before .before .before .before .before .before .before .before) .ranges 0 (omega arith))
 
 returns-4 : tie.Need-returns-4
 unfolding soundB formedB coveredB
 returns-4 c =
-    let w = c .before .before .before in
-    let b = w .before .before .before .before .before .before .args .t1 in
+    let cm = c .before in
+    let all = cm .before .before .before .before .before in
+    let rows = all .before .before .before .before .before in
+    let t = tableOf (rows .before) in
+    let number = numbered (rows .before) in
     simp (
-      c .collateral-of .ensures,
-      c .before .before .need-cm .ensures,
-      le-leb 1 (b .count) (omega arith),
-      le-leb (b .count) 256 (omega arith),
-      rows-hold (w .before .before),
-      eq-eqb _ 256 (w .width .ensures),
+      ap (λ a. a .collateral) (cm .account-at .ensures ∙ seen-account (t .count) (t .serial) (marksOf t) (t .amounts) 0),
+      all .need-cm .ensures ∙ ap needCM (seen-view (t .count) (t .serial) (marksOf t) (t .amounts)),
+      le-leb 1 (t .count) (number .before .if1 .left),
+      le-leb (t .count) 256 (number .if2 .left),
+      rows-hold rows,
+      eq-eqb _ 256 (rows-length (marksOf t) (t .amounts)),
       and-true,
     )
 
@@ -70,8 +82,6 @@ is-sound-spec =
     returns-2
     rows-sound-requires
     returns-3
-    width-requires
     need-cm-requires
-    element-copy-out-collateral-of
-    collateral-of-requires
+    account-at-requires
     returns-4)

@@ -1,6 +1,5 @@
 -- `table::needs::account_at` meets its contract.
 use mathlib.Core.List.{[]}
-use mathlib.Core.Path.{_≡_}
 use native.Mathlib.Omega.{arith}
 use borrow.Author.Needs.{needs}
 use Rattle.rows.specs.Ranges.{ceilings}
