@@ -1,5 +1,5 @@
 -- `book::is_sound` meets its contract.
-use mathlib.Core.Bool.{true, and-true, and-false}
+use mathlib.Core.Bool.{true, and-false}
 use mathlib.Core.Path.{_≡_, sym, ap, _∙_}
 use native.Mathlib.Omega.{arith}
 use borrow.Author.Needs.{needs}
@@ -71,7 +71,6 @@ returns-4 c =
       le-leb (t .count) 256 (number .if2 .left),
       rows-hold rows,
       eq-eqb _ 256 (rows-length (marksOf t) (t .amounts)),
-      and-true,
     )
 
 pub is-sound-spec : {M : Type 1} → statement M
