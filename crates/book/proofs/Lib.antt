@@ -12,5 +12,6 @@ pub mod SoundRanges
 pub mod RowFacts
 pub mod RowTests
 pub mod SoundAfter
+pub mod SoundInPlace
 pub mod SoundTest
 pub mod StandingRefusals

@@ -1,12 +1,10 @@
 -- What the test of a row says, and which row the sort may take for a row's TM.
 use mathlib.Core.Path.{_≡_, sym, ap, _∙_}
 use mathlib.Core.Bool.{Bool, true, false, _&&_, and-false}
-use mathlib.Core.List.{List}
 use Prim.Native.Nat.{ℕ, _≤_, _<_}
 use native.Mathlib.Omega.{arith}
 use native.Mathlib.Decide.{decLt}
 use lib.Dec.{eqb, ltb, leb}
-use lib.ListN.{getD}
 use borrow.Author.Tests.{lt-ltb, le-ltb, leb-true, eqb-true}
 use Rattle.sums.specs.Sum.{all}
 use Rattle.sums.specs.Choice.{pick}
@@ -21,8 +19,6 @@ use Rattle.rows.specs.Facts.{KindsWithin, InRange}
 use Rattle.book.specs.Sound.{isBlank, isTop, goodClient, goodSort, goodRetired, goodRow, rowSound, formedB, coveredB, soundB}
 use Rattle.book.specs.Facts.{Sound}
 use Rattle.rows.specs.Inner.{Ranged, Slot}
-use Rattle.table.specs.Words.{Marks, rowIn, bookFrom}
-use Rattle.table.proofs.Gathered.{row-in}
 
 and-four : (a b c d : Bool) → (a && b && c && d) ≡ true → (a ≡ true) × (b ≡ true) × (c ≡ true) × (d ≡ true)
 and-four a b c d h =
@@ -46,14 +42,6 @@ row-slot b i s l slot = by (decLt (rowAt b i .tm) 256)
         let r = rowAt b i in
         let out : i ≤ r .tm = omega arith in
         rw (client-out i r (rowAt b s) out, client-out i r (rowAt b (r .tm)) out)
-
--- the row's test on its words in place
-pub row-in-place : (n : ℕ) (m : Marks) (w : List ℕ) (i s : ℕ) → i < 256 → Slot (getD (m .tm) i 0) s → {x : Bool} → x ≡ goodRow n i (rowIn m w i) (rowIn m w s)
-    → x ≡ rowSound (bookFrom n 0 m w) i
-row-in-place n m w i s l slot h =
-    let b = bookFrom n 0 m w in
-    let own = row-in m w i l in
-    h ∙ rw (own, row-in m w s (slot .inside)) at (row-slot b i s l (rw own slot))
 
 within : (a b : Kinds) → kindsWithin a b ≡ true → KindsWithin a b
 within a b h =

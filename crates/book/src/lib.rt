@@ -8,8 +8,9 @@ ghost use Rattle.book.specs.Evening.{eveningOf};
 
 mod blocking;
 mod evening;
-mod sound;
+pub mod sound;
 
+use sound::table_sound;
 use table::Table;
 
 // A standing's five figures, behind the refusal number or 0.
@@ -57,32 +58,20 @@ pub fn fresh() -> Table
     }
 }
 
-// Ranges are tested before anything is added, so that no sum can pass a word.
 pub fn is_sound(t: Table) -> bool
     ensures { λ r. ⌜ r ≡ soundB (turnedBack t) ⌝ }
 {
     let count = t.count;
-    if count < 1 {
-        return false;
-    }
-    if count > 256 {
-        return false;
-    }
-    if !sound::rows_sound(&t.sort, &t.live, &t.tm, &t.amounts, count) {
-        return false;
-    }
-    let need = table::needs::need_cm(&t.sort, &t.tm, &t.amounts, count);
-    let cm = table::needs::account_at(&t.sort, &t.tm, &t.amounts, 0);
-    need <= cm.collateral
+    table_sound(&t.sort, &t.live, &t.tm, &t.amounts, count)
 }
 
 pub fn standing(t: Table, account: u16) -> Figures
     ensures { λ r. ⌜ r ≡ standingOf (turnedBack t) account ⌝ }
 {
-    if !is_sound(t) {
+    let count = t.count;
+    if !table_sound(&t.sort, &t.live, &t.tm, &t.amounts, count) {
         return blocking::refused(1);
     }
-    let count = t.count;
     if account >= count {
         return blocking::refused(7);
     }
@@ -97,13 +86,14 @@ pub fn standing(t: Table, account: u16) -> Figures
 pub fn amount_sum(t: Table, amount: Amount) -> Summed
     ensures { λ r. ⌜ r ≡ eveningOf (turnedBack t) amount ⌝ }
 {
-    if !is_sound(t) {
+    let count = t.count;
+    if !table_sound(&t.sort, &t.live, &t.tm, &t.amounts, count) {
         return Summed {
             refusal: 1,
             total: 0,
         };
     }
-    let n = t.count as usize;
+    let n = count as usize;
     let k = evening::run_of(amount);
     let total = table::evening::amount_sum(&t.amounts, k, n);
     Summed { refusal: 0, total }

@@ -8,12 +8,14 @@ ghost use Rattle.sums.specs.Sum.{all};
 ghost use Rattle.sums.specs.Choice.{pick};
 ghost use Rattle.rows.specs.Ranges.{noAmounts, inRange};
 ghost use Rattle.table.specs.Words.{marksFrom, bookFrom};
-ghost use Rattle.book.specs.Sound.{isTop, goodSort, rowSound};
+ghost use Rattle.book.specs.Sound.{isTop, goodSort, rowSound, soundB};
 ghost use Rattle.book.specs.Inner.{marked, amountsAt};
 use rows::CEILING;
 use rows::needs::slot;
 use rows::ranges::kinds_capped;
 use rows::ranges::kinds_within;
+use table::needs::account_at;
+use table::needs::need_cm;
 use table::places::kinds_at;
 use table::places::word_at;
 
@@ -104,7 +106,7 @@ fn good_row<'a>(
     }
 }
 
-pub(crate) fn rows_sound<'a>(
+fn rows_sound<'a>(
     sort: &'a [u8; 256],
     live: &'a [bool; 256],
     tm: &'a [u16; 256],
@@ -121,4 +123,28 @@ pub(crate) fn rows_sound<'a>(
         i += 1;
     }
     ok
+}
+
+// The test of a table's arrays where they are. Ranges are tested before anything is added, so that no sum can pass a word.
+pub fn table_sound<'a>(
+    sort: &'a [u8; 256],
+    live: &'a [bool; 256],
+    tm: &'a [u16; 256],
+    w: &'a [u64; 2560],
+    count: u16,
+) -> bool
+    ensures { λ x. ⌜ x ≡ soundB (bookFrom count 0 (marksFrom (now (sort .entry)) (now (live .entry)) (now (tm .entry))) (now (w .entry))) ⌝ }
+{
+    if count < 1 {
+        return false;
+    }
+    if count > 256 {
+        return false;
+    }
+    if !rows_sound(sort, live, tm, w, count) {
+        return false;
+    }
+    let need = need_cm(sort, tm, w, count);
+    let cm = account_at(sort, tm, w, 0);
+    need <= cm.collateral
 }

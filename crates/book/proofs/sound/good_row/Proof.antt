@@ -8,7 +8,7 @@ use Rattle.sums.proofs.Choices.{pass, stop}
 use Rattle.rows.specs.Inner.{Slot}
 use Rattle.table.specs.Words.{marksFrom, rowIn, bookFrom}
 use Rattle.book.specs.Sound.{goodRow, rowSound}
-use Rattle.book.proofs.RowTests.{row-in-place}
+use Rattle.book.proofs.SoundInPlace.{row-in-place}
 use Rattle.book.proofs.sound.good_row.Statement.{statement}
 use Rattle.book.proofs.sound.good_row.Tie as tie
 
