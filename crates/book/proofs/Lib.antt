@@ -1,4 +1,5 @@
 pub mod Differences
+pub mod EveningTold
 pub mod FreshSound
 pub mod Keeps
 pub mod UnderPut
@@ -11,5 +12,6 @@ pub mod SoundRanges
 pub mod RowFacts
 pub mod RowTests
 pub mod SoundAfter
+pub mod SoundInPlace
 pub mod SoundTest
 pub mod StandingRefusals

@@ -1,3 +1,5 @@
 pub mod Sound
 pub mod Asked
+pub mod Evening
 pub mod Facts
+pub mod Inner

@@ -2,20 +2,26 @@
 ghost use mathlib.Core.Path.{_≡_};
 ghost use Prim.Native.Nat.{_<_};
 ghost use Rattle.rows.specs.Rows.{view};
-ghost use Rattle.book.specs.Asked.{figuresOf, noFigures};
 ghost use Rattle.rows.specs.Inner.{Ranged};
+ghost use Rattle.table.specs.Facts.{seenBook};
+ghost use Rattle.book.specs.Asked.{figuresOf, noFigures};
 use super::Figures;
-use rows::Book;
 use rows::needs::blocked_of;
-use rows::needs::collateral_of;
-use rows::needs::need_of;
+use table::needs::account_at;
+use table::needs::need_of;
 
-pub(crate) fn figures(b: Book, i: usize) -> Figures
-    requires { ⌜ Ranged b × (i < b .count) ⌝ }
-    ensures { λ x. ⌜ x ≡ figuresOf (view b) i ⌝ }
+pub(crate) fn figures<'a>(
+    sort: &'a [u8; 256],
+    tm: &'a [u16; 256],
+    w: &'a [u64; 2560],
+    count: u16,
+    i: usize,
+) -> Figures
+    requires { ⌜ Ranged (seenBook count (now sort) (now tm) (now w)) × (i < count) ⌝ }
+    ensures { λ x. ⌜ x ≡ figuresOf (view (seenBook count (now (sort .entry)) (now (tm .entry)) (now (w .entry)))) i ⌝ }
 {
-    let n = need_of(b, i);
-    let c = collateral_of(b.rows[i]);
+    let n = need_of(sort, tm, w, count, i);
+    let c = account_at(sort, tm, w, i).collateral;
     let k = blocked_of(n, c);
     Figures {
         refusal: 0,

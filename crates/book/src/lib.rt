@@ -1,14 +1,16 @@
-// The collateral book of one clearing member: its rows, its soundness, an account's standing.
+// The collateral book of one clearing member, by amount: its rows, its soundness, an account's standing, the evening sums.
 ghost use mathlib.Core.Path.{_≡_};
 ghost use Rattle.rows.specs.Rows.{freshBook};
 ghost use Rattle.table.specs.Words.{turned, turnedBack};
 ghost use Rattle.book.specs.Sound.{soundB};
 ghost use Rattle.book.specs.Asked.{standingOf};
+ghost use Rattle.book.specs.Evening.{eveningOf};
 
 mod blocking;
-mod sound;
+mod evening;
+pub mod sound;
 
-use rows::Book;
+use sound::table_sound;
 use table::Table;
 
 // A standing's five figures, behind the refusal number or 0.
@@ -21,69 +23,78 @@ pub struct Figures {
     pub free: u64,
 }
 
-pub(crate) fn fresh_rows() -> Book
-    ensures { λ r. ⌜ r ≡ freshBook ⌝ }
-{
-    let blank = rows::words::no_row();
-    let mut table = [blank; 256];
-    table[0] = rows::words::opened_row(0, 0);
-    Book {
-        count: 1,
-        serial: 0,
-        rows: table,
-    }
+// An amount that every account has.
+pub enum Amount {
+    ReceivedCash,
+    ReceivedDeposits,
+    ReceivedGuarantees,
+    ReceivedSecurities,
+    AllocatedCash,
+    AllocatedDeposits,
+    AllocatedGuarantees,
+    AllocatedSecurities,
+    Pledged,
+    Margin,
 }
 
-// Ranges are tested before anything is added, so that no sum can pass a word.
-pub fn is_sound_rows(b: Book) -> bool
-    ensures { λ r. ⌜ r ≡ soundB b ⌝ }
-{
-    if b.count < 1 {
-        return false;
-    }
-    if b.count > 256 {
-        return false;
-    }
-    if !sound::rows_sound(b) {
-        return false;
-    }
-    let table = b.rows;
-    sound::width(table);
-    let need = rows::needs::need_cm(b);
-    need <= rows::needs::collateral_of(b.rows[0])
-}
-
-fn standing_rows(b: Book, account: u16) -> Figures
-    ensures { λ r. ⌜ r ≡ standingOf b account ⌝ }
-{
-    if !is_sound_rows(b) {
-        return blocking::refused(1);
-    }
-    let i = account as usize;
-    let n = b.count as usize;
-    if i >= n {
-        return blocking::refused(7);
-    }
-    if !b.rows[i].live {
-        return blocking::refused(7);
-    }
-    blocking::figures(b, i)
+// An amount of all accounts, behind the refusal number or 0.
+pub struct Summed {
+    pub refusal: u8,
+    pub total: u64,
 }
 
 pub fn fresh() -> Table
     ensures { λ r. ⌜ r ≡ turned freshBook ⌝ }
 {
-    table::turn(fresh_rows())
+    let mut live = [false; 256];
+    live[0] = true;
+    Table {
+        count: 1,
+        serial: 0,
+        sort: [0u8; 256],
+        live,
+        tm: [0u16; 256],
+        amounts: [0u64; 2560],
+    }
 }
 
 pub fn is_sound(t: Table) -> bool
     ensures { λ r. ⌜ r ≡ soundB (turnedBack t) ⌝ }
 {
-    is_sound_rows(table::turn_back(t))
+    let count = t.count;
+    table_sound(&t.sort, &t.live, &t.tm, &t.amounts, count)
 }
 
 pub fn standing(t: Table, account: u16) -> Figures
     ensures { λ r. ⌜ r ≡ standingOf (turnedBack t) account ⌝ }
 {
-    standing_rows(table::turn_back(t), account)
+    let count = t.count;
+    if !table_sound(&t.sort, &t.live, &t.tm, &t.amounts, count) {
+        return blocking::refused(1);
+    }
+    if account >= count {
+        return blocking::refused(7);
+    }
+    let i = account as usize;
+    if !t.live[i] {
+        return blocking::refused(7);
+    }
+    blocking::figures(&t.sort, &t.tm, &t.amounts, count, i)
+}
+
+// The evening sums: an amount of all accounts, out of its own run of words.
+pub fn amount_sum(t: Table, amount: Amount) -> Summed
+    ensures { λ r. ⌜ r ≡ eveningOf (turnedBack t) amount ⌝ }
+{
+    let count = t.count;
+    if !table_sound(&t.sort, &t.live, &t.tm, &t.amounts, count) {
+        return Summed {
+            refusal: 1,
+            total: 0,
+        };
+    }
+    let n = count as usize;
+    let k = evening::run_of(amount);
+    let total = table::evening::amount_sum(&t.amounts, k, n);
+    Summed { refusal: 0, total }
 }

@@ -1,68 +1,150 @@
-// The test of a sound book's rows, a sentence of 'A sound book' each.
+// The test of a sound book's rows, a sentence of 'A sound book' each, on the words in their places.
 ghost use mathlib.Core.Path.{_≡_};
+ghost use mathlib.Core.Bool.{false};
+ghost use Prim.Native.Nat.{_<_};
 ghost use lib.Dec.{eqb};
-ghost use lib.ListN.{length};
+ghost use lib.ListN.{getD};
 ghost use Rattle.sums.specs.Sum.{all};
 ghost use Rattle.sums.specs.Choice.{pick};
-ghost use Rattle.book.specs.Sound.{isTop, goodSort, goodRow, rowSound};
-use rows::Book;
-use rows::Row;
+ghost use Rattle.rows.specs.Ranges.{noAmounts, inRange};
+ghost use Rattle.table.specs.Words.{marksFrom, bookFrom};
+ghost use Rattle.book.specs.Sound.{isTop, goodSort, rowSound, soundB};
+ghost use Rattle.book.specs.Inner.{marked, amountsAt};
+use rows::CEILING;
 use rows::needs::slot;
-use rows::ranges::in_range;
-use rows::ranges::no_amounts;
+use rows::ranges::kinds_capped;
+use rows::ranges::kinds_within;
+use table::needs::account_at;
+use table::needs::need_cm;
+use table::places::kinds_at;
+use table::places::word_at;
 
-fn is_top(r: Row) -> bool
-    ensures { λ x. ⌜ x ≡ isTop r ⌝ }
-{
-    (r.sort == 0) & r.live & (r.tm == 0)
+// What of an account is no amount.
+pub(crate) struct Mark {
+    pub sort: u8,
+    pub live: bool,
+    pub tm: u16,
 }
 
-// The sort of an account other than 0, where t is the row that it names as its TM.
-fn good_sort(i: usize, r: Row, t: Row) -> bool
-    ensures { λ x. ⌜ x ≡ goodSort i r t ⌝ }
+fn mark_at<'a>(sort: &'a [u8; 256], live: &'a [bool; 256], tm: &'a [u16; 256], i: usize) -> Mark
+    requires { ⌜ i < 256 ⌝ }
+    ensures { λ x. ⌜ x ≡ record { sort = getD (now (sort .entry)) i 0; live = getD (now (live .entry)) i false; tm = getD (now (tm .entry)) i 0 } ⌝ }
 {
-    (((r.sort == 1) | (r.sort == 3)) & (r.tm == 0))
-        | ((r.sort == 2) & ((r.tm as usize) < i) & (t.sort == 1) & (!r.live | t.live))
+    Mark {
+        sort: sort[i],
+        live: live[i],
+        tm: tm[i],
+    }
 }
 
-fn good_place(i: usize, r: Row, t: Row) -> bool
-    ensures { λ x. ⌜ x ≡ pick (eqb i 0) (isTop r) (goodSort i r t) ⌝ }
+fn is_top(m: Mark) -> bool
+    ensures { λ x. ⌜ x ≡ isTop (marked m) ⌝ }
+{
+    (m.sort == 0) & m.live & (m.tm == 0)
+}
+
+// The sort of an account other than 0, where t is the one that it names as its TM.
+fn good_sort(i: usize, m: Mark, t: Mark) -> bool
+    ensures { λ x. ⌜ x ≡ goodSort i (marked m) (marked t) ⌝ }
+{
+    (((m.sort == 1) | (m.sort == 3)) & (m.tm == 0))
+        | ((m.sort == 2) & ((m.tm as usize) < i) & (t.sort == 1) & (!m.live | t.live))
+}
+
+fn good_place(i: usize, m: Mark, t: Mark) -> bool
+    ensures { λ x. ⌜ x ≡ pick (eqb i 0) (isTop (marked m)) (goodSort i (marked m) (marked t)) ⌝ }
 {
     if i == 0 {
-        is_top(r)
+        is_top(m)
     } else {
-        good_sort(i, r, t)
+        good_sort(i, m, t)
     }
 }
 
-fn good_row(n: usize, i: usize, r: Row, t: Row) -> bool
-    ensures { λ x. ⌜ x ≡ goodRow n i r t ⌝ }
+fn no_amounts(w: &[u64; 2560], i: usize) -> bool
+    requires { ⌜ i < 256 ⌝ }
+    ensures { λ x. ⌜ x ≡ noAmounts (amountsAt (now (w .entry)) i) ⌝ }
 {
+    ((w[256 * 0 + i] == 0) & (w[256 * 1 + i] == 0) & (w[256 * 2 + i] == 0) & (w[256 * 3 + i] == 0))
+        & ((w[256 * 4 + i] == 0)
+            & (w[256 * 5 + i] == 0)
+            & (w[256 * 6 + i] == 0)
+            & (w[256 * 7 + i] == 0))
+        & (w[256 * 8 + i] == 0)
+        & (w[256 * 9 + i] == 0)
+}
+
+fn in_range(w: &[u64; 2560], i: usize) -> bool
+    requires { ⌜ i < 256 ⌝ }
+    ensures { λ x. ⌜ x ≡ inRange (amountsAt (now (w .entry)) i) ⌝ }
+{
+    let received = kinds_at(w, 0, i);
+    let allocated = kinds_at(w, 4, i);
+    kinds_capped(received)
+        & kinds_within(allocated, received)
+        & (word_at(w, 8, i) <= CEILING)
+        & (word_at(w, 9, i) <= CEILING)
+}
+
+fn good_row<'a>(
+    sort: &'a [u8; 256],
+    live: &'a [bool; 256],
+    tm: &'a [u16; 256],
+    w: &'a [u64; 2560],
+    n: usize,
+    i: usize,
+) -> bool
+    requires { ⌜ i < 256 ⌝ }
+    ensures { λ x. ⌜ x ≡ rowSound (bookFrom n 0 (marksFrom (now (sort .entry)) (now (live .entry)) (now (tm .entry))) (now (w .entry))) i ⌝ }
+{
+    let own = mark_at(sort, live, tm, i);
+    let its = mark_at(sort, live, tm, slot(own.tm));
     if i < n {
-        good_place(i, r, t) & (r.live | no_amounts(r)) & in_range(r)
+        good_place(i, own, its) & (own.live | no_amounts(w, i)) & in_range(w, i)
     } else {
-        (r.sort == 0) & !r.live & (r.tm == 0) & no_amounts(r)
+        (own.sort == 0) & !own.live & (own.tm == 0) & no_amounts(w, i)
     }
 }
 
-pub(crate) fn rows_sound(b: Book) -> bool
-    ensures { λ x. ⌜ x ≡ all 256 (rowSound b) ⌝ }
+fn rows_sound<'a>(
+    sort: &'a [u8; 256],
+    live: &'a [bool; 256],
+    tm: &'a [u16; 256],
+    w: &'a [u64; 2560],
+    count: u16,
+) -> bool
+    ensures { λ x. ⌜ x ≡ all 256 (rowSound (bookFrom count 0 (marksFrom (now (sort .entry)) (now (live .entry)) (now (tm .entry))) (now (w .entry)))) ⌝ }
 {
-    let n = b.count as usize;
+    let n = count as usize;
     let mut ok = true;
     let mut i: usize = 0;
     while i < 256 {
-        let r = b.rows[i];
-        let s = slot(r.tm);
-        ok = ok & good_row(n, i, r, b.rows[s]);
+        ok = ok & good_row(sort, live, tm, w, n, i);
         i += 1;
     }
     ok
 }
 
-// For a proof to cite: a table has 256 rows, by its type.
-pub(crate) fn width(a: [Row; 256]) -> bool
-    ensures { λ x. ⌜ length a ≡ 256 ⌝ }
+// The test of a table's arrays where they are. Ranges are tested before anything is added, so that no sum can pass a word.
+pub fn table_sound<'a>(
+    sort: &'a [u8; 256],
+    live: &'a [bool; 256],
+    tm: &'a [u16; 256],
+    w: &'a [u64; 2560],
+    count: u16,
+) -> bool
+    ensures { λ x. ⌜ x ≡ soundB (bookFrom count 0 (marksFrom (now (sort .entry)) (now (live .entry)) (now (tm .entry))) (now (w .entry))) ⌝ }
 {
-    true
+    if count < 1 {
+        return false;
+    }
+    if count > 256 {
+        return false;
+    }
+    if !rows_sound(sort, live, tm, w, count) {
+        return false;
+    }
+    let need = need_cm(sort, tm, w, count);
+    let cm = account_at(sort, tm, w, 0);
+    need <= cm.collateral
 }

@@ -1,8 +1,9 @@
-// Books to ask about, made as values.
+// Books to ask about, made as values of the old order, row by row; each is turned over to be asked.
 use rows::Book;
 use rows::Kinds;
 use rows::Row;
 use rows::words;
+use table::turn_back;
 
 // The amount in one kind: 0 cash, 1 fixed deposits, 2 bank guarantees, 3 government securities.
 pub fn kinds(kind: u8, n: u64) -> Kinds {
@@ -49,6 +50,11 @@ pub fn retired(sort: u8, tm: u16) -> Row {
     words::with_live(words::opened_row(sort, tm), false)
 }
 
+// A fresh book in the old order.
+pub fn fresh() -> Book {
+    turn_back(book::fresh())
+}
+
 // The book with row i put anew.
 pub fn with(book: Book, i: u8, r: Row) -> Book {
     let mut b = book;
@@ -66,7 +72,7 @@ pub fn with_last(book: Book, i: u8, r: Row) -> Book {
 
 // Annexure 4: CM 1000, TM-1 500, its clients A 300 and B 300, in rupees; A's margin is a and B's is b.
 pub fn annexure(a: u64, b: u64) -> Book {
-    let cm = with_last(book::fresh(), 0, account(0, 0, 100_000, 0));
+    let cm = with_last(fresh(), 0, account(0, 0, 100_000, 0));
     let tm = with_last(cm, 1, account(1, 0, 50_000, 0));
     let first = with_last(tm, 2, account(2, 1, 30_000, a));
     with_last(first, 3, account(2, 1, 30_000, b))
@@ -75,7 +81,7 @@ pub fn annexure(a: u64, b: u64) -> Book {
 // 255 TMs under the CM.
 pub fn full() -> Book {
     let tm = words::opened_row(1, 0);
-    let mut b = book::fresh();
+    let mut b = fresh();
     b.count = 256;
     let mut i: usize = 1;
     while i < 256 {

@@ -1,42 +1,51 @@
-// Prints the figures of Annexure 4's book, P1 to P5, and which books are sound, of books that differ from a sound one in
-// one way each. Amounts are in paise.
+// Prints the figures of Annexure 4's book, P1 to P5, evening sums, and which books are sound, of books that differ from a
+// sound one in one way each. Amounts are in paise.
 mod books;
+mod evening;
 mod print;
 mod unsound;
 
 use print::figures;
 use print::word;
 use rows::Book;
+use table::Table;
+use table::turn;
+
+// An account's standing, by the book turned over.
+fn standing(name: &[u8], b: Book, account: u16) {
+    figures(name, book::standing(turn(b), account));
+}
 
 // The standings of the CM, TM-1, A and B, where A's margin is a and B's is b.
 fn standings(name: &[u8], a: u64, b: u64) {
     let book = books::annexure(a, b);
     print::text(name);
     print::end();
-    figures(b"  CM", book::standing(book, 0));
-    figures(b"  TM-1", book::standing(book, 1));
-    figures(b"  A", book::standing(book, 2));
-    figures(b"  B", book::standing(book, 3));
+    standing(b"  CM", book, 0);
+    standing(b"  TM-1", book, 1);
+    standing(b"  A", book, 2);
+    standing(b"  B", book, 3);
 }
 
-fn fresh(b: Book) {
-    word(b"fresh: accounts ", b.count as u64);
-    word(b" serial ", b.serial as u64);
-    word(b" sound ", print::bit(book::is_sound(b)));
+fn fresh(t: Table) {
+    word(b"fresh: accounts ", t.count as u64);
+    word(b" serial ", t.serial as u64);
+    word(b" sound ", print::bit(book::is_sound(t)));
     print::end();
-    figures(b"  CM", book::standing(b, 0));
-    figures(b"  account 1", book::standing(b, 1));
+    figures(b"  CM", book::standing(t, 0));
+    figures(b"  account 1", book::standing(t, 1));
 }
 
 fn refused() {
     let b = books::annexure(0, 10_000);
-    figures(b"account 4 of 4", book::standing(b, 4));
-    figures(b"account 65535 of 4", book::standing(b, 65535));
+    standing(b"account 4 of 4", b, 4);
+    standing(b"account 65535 of 4", b, 65535);
     let gone = books::with(b, 2, books::retired(2, 1));
-    figures(b"a retired account", book::standing(gone, 2));
-    figures(
+    standing(b"a retired account", gone, 2);
+    standing(
         b"of a book that is not sound",
-        book::standing(books::annexure(60_000, 150_001), 0),
+        books::annexure(60_000, 150_001),
+        0,
     );
 }
 
@@ -49,4 +58,5 @@ fn main() {
     standings(b"P5", 60_000, 150_000);
     refused();
     unsound::all();
+    evening::all();
 }

@@ -5,10 +5,11 @@ use rows::Book;
 use rows::CEILING;
 use rows::Row;
 use rows::words;
+use table::turn;
 
 fn sound(name: &[u8], b: Book) {
     print::text(name);
-    print::word(b": sound ", print::bit(book::is_sound(b)));
+    print::word(b": sound ", print::bit(book::is_sound(turn(b))));
     print::end();
 }
 
@@ -38,7 +39,7 @@ fn counts() {
 }
 
 fn top(name: &[u8], r: Row) {
-    sound(name, books::with(book::fresh(), 0, r));
+    sound(name, books::with(books::fresh(), 0, r));
 }
 
 // "account 0 is the CM and live"
@@ -99,7 +100,7 @@ fn clients() {
 fn family(name: &[u8], tm: Row, client: Row) {
     sound(
         name,
-        books::with_last(books::with_last(book::fresh(), 1, tm), 2, client),
+        books::with_last(books::with_last(books::fresh(), 1, tm), 2, client),
     );
 }
 

@@ -54,13 +54,13 @@ pub fn account_of(r: Row) -> Account
     }
 }
 
-pub(crate) fn client_due(a: Account) -> u64
+pub fn client_due(a: Account) -> u64
     ensures { λ x. ⌜ x ≡ clientDue a ⌝ }
 {
     only_if((a.sort == 2) & (a.tm < 256), deemed(a.margin, a.collateral))
 }
 
-pub(crate) fn member_due(a: Account, d: u64) -> u64
+pub fn member_due(a: Account, d: u64) -> u64
     requires { ⌜ (a .margin ≤ 100_000_000_000_000) × (d ≤ 30_000_000_000_000_000) ⌝ }
     ensures { λ x. ⌜ x ≡ memberDue a d ⌝ }
 {

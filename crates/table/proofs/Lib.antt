@@ -3,3 +3,4 @@ pub mod InPlace
 pub mod RowsPut
 pub mod Turning
 pub mod EveningSums
+pub mod Seen

@@ -66,9 +66,13 @@ turned b = record {
   amounts = listTo (λ n. amountOf (rowAt b (n % 256)) (n / 256)) 2560;
 }
 
+-- "the old order": the book that the words are
+abbrev pub bookFrom : ℕ → ℕ → Marks → List ℕ → Book
+bookFrom count serial m w = record { count = count; serial = serial; rows = rowsOf m w }
+
 -- "and back": the table as a book of the old order
 abbrev pub turnedBack : Table → Book
-turnedBack t = record { count = t .count; serial = t .serial; rows = rowsOf (marksOf t) (t .amounts) }
+turnedBack t = bookFrom (t .count) (t .serial) (marksOf t) (t .amounts)
 
 -- a row with amount k put anew
 abbrev pub withAmount : ℕ → ℕ → Row → Row

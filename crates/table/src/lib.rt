@@ -9,6 +9,7 @@ use rows::Book;
 use rows::Row;
 
 pub mod evening;
+pub mod needs;
 pub mod places;
 
 // Amount k of account i is word 256 k + i: 0 to 3 received, 4 to 7 allocated, 8 pledged, 9 margin.

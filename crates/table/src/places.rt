@@ -6,6 +6,14 @@ ghost use Rattle.table.specs.Words.{wordAt, kindsFrom, marksFrom, rowIn,
 use rows::Kinds;
 use rows::Row;
 
+// Amount k of account i.
+pub fn word_at(w: &[u64; 2560], k: usize, i: usize) -> u64
+    requires { ⌜ (k < 10) × (i < 256) ⌝ }
+    ensures { λ x. ⌜ x ≡ wordAt (now (w .entry)) k i ⌝ }
+{
+    w[256 * k + i]
+}
+
 // Four amounts from number k on.
 pub fn kinds_at(w: &[u64; 2560], k: usize, i: usize) -> Kinds
     requires { ⌜ (k ≤ 6) × (i < 256) ⌝ }

@@ -1,0 +1,41 @@
+-- Only for internal functions: no promise of a public call cites it.
+use mathlib.Core.Bool.{false}
+use mathlib.Core.List.{List}
+use Prim.Native.Nat.{ℕ}
+use Rattle.rows.specs.declared.Row.{Row}
+use Rattle.table.specs.Words.{wordAt, rowFrom}
+use Rattle.book.specs.declared.sound.Mark.{Mark}
+use Rattle.book.specs.declared.Amount.{Amount}
+use Rattle.book.specs.declared.Amount.the-variants.{
+  ReceivedCash,
+  ReceivedDeposits,
+  ReceivedGuarantees,
+  ReceivedSecurities,
+  AllocatedCash,
+  AllocatedDeposits,
+  AllocatedGuarantees,
+  AllocatedSecurities,
+  Pledged,
+  Margin,
+}
+
+-- a row for a test that looks at no amount
+abbrev pub marked : Mark → Row
+marked m = rowFrom (m .sort) (m .live) (m .tm) (λ k. 0)
+
+-- account i's row for a test that looks at amounts alone
+abbrev pub amountsAt : List ℕ → ℕ → Row
+amountsAt w i = rowFrom 0 false 0 (λ k. wordAt w k i)
+
+-- the run of words that an amount has
+abbrev pub runOf : Amount → ℕ
+runOf ReceivedCash = 0
+runOf ReceivedDeposits = 1
+runOf ReceivedGuarantees = 2
+runOf ReceivedSecurities = 3
+runOf AllocatedCash = 4
+runOf AllocatedDeposits = 5
+runOf AllocatedGuarantees = 6
+runOf AllocatedSecurities = 7
+runOf Pledged = 8
+runOf Margin = 9

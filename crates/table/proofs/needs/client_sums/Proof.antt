@@ -1,0 +1,135 @@
+-- `table::needs::client_sums` meets its contract.
+use mathlib.Core.Path.{_≡_, refl, sym, ap, subst, _∙_}
+use Prim.Native.Nat.{ℕ, _+_, _-_, _≤_, _<_}
+use native.Mathlib.Omega.{arith}
+use lib.Dec.{eqb}
+use lib.ListN.{length, getD, length-set, getD-replicate, length-replicate}
+use borrow.Author.Needs.{needs}
+use Rattle.sums.specs.Sum.{only}
+use Rattle.rows.specs.declared.Account.{Account}
+use Rattle.rows.specs.View.{isClientOf, ownDeemed}
+use Rattle.rows.specs.Rows.{rowAt, accountOf, view}
+use Rattle.rows.specs.Under.{clientDue}
+use Rattle.rows.specs.Inner.{Slot, clientsBelow}
+use Rattle.rows.proofs.NeedSums.{clients-none, clients-step, clients-most, due-most, due-at, add-at}
+use Rattle.table.specs.Facts.{seenBook}
+use Rattle.table.proofs.needs.client_sums.Statement.{statement}
+use Rattle.table.proofs.needs.client_sums.Tie as tie
+
+abbrev Inv-loop : tie.InvT-loop
+Inv-loop sort tm w count owed₀ n i₀ owed i =
+    (n ≡ count) × (i ≤ n) × (length owed ≡ 256) × ((t : ℕ) → t < 256 → getD owed t 0 ≡ clientsBelow (view (seenBook count sort tm w)) t i)
+
+abbrev μ-loop : tie.MeasureT-loop
+μ-loop sort tm w count owed₀ n i₀ owed i = n - i
+
+zeros-requires : tie.Need-zeros-requires Inv-loop μ-loop
+zeros-requires c κs = search needs
+
+loop-holds : tie.Need-loop-holds Inv-loop μ-loop
+loop-holds c =
+    let a = c .before .args in (
+      refl,
+      omega arith,
+      ap length (c .zeros .ensures) ∙ length-replicate {A = ℕ} 256 0,
+      λ t h. rw (c .zeros .ensures) (getD-replicate 256 t 0 0 h ∙ sym (clients-none (view (seenBook (a .count) (a .sort .now) (a .tm .now) (a .w .now))) t)),
+    )
+
+account-at-requires : tie.Need-account-at-requires Inv-loop μ-loop
+account-at-requires c κs =
+    let start = c .before .before .before in
+    let most = start .pre .most in
+    (omega arith, start .pre .ranges (c .before .loop .i) (omega arith))
+
+slot-requires : tie.Need-slot-requires Inv-loop μ-loop
+slot-requires c κs = search needs
+
+client-due-requires : tie.Need-client-due-requires Inv-loop μ-loop
+client-due-requires c κs = search needs
+
+mul-owed : tie.Need-mul-owed Inv-loop μ-loop
+mul-owed c = omega (arith, c .before .slot .ensures .inside)
+
+array-read-owed : tie.Need-array-read-owed Inv-loop μ-loop
+array-read-owed c = omega (arith, c .before .slot .ensures .inside)
+
+add-owed : tie.Need-add-owed Inv-loop μ-loop
+add-owed c =
+    let at = c .before .before .before .before in
+    let start = at .before .before in
+    let a = start .args in
+    let b = seenBook (a .count) (a .sort .now) (a .tm .now) (a .w .now) in
+    let i = at .loop .i in
+    let t = c .before .slot .result in
+    let most = start .pre .most in
+    omega (
+      arith,
+      at .loop .inv .3 t (c .before .slot .ensures .inside),
+      clients-most b (start .pre) t i (omega arith),
+      c .client-due .ensures ∙ ap clientDue (c .before .before .account-at .ensures),
+      due-most (accountOf (rowAt b i)),
+      start .pre .ranges i (omega arith) .margin,
+    )
+
+mul-owed-2 : tie.Need-mul-owed-2 Inv-loop μ-loop
+mul-owed-2 c = omega (arith, c .before .slot .ensures .inside)
+
+array-write-owed : tie.Need-array-write-owed Inv-loop μ-loop
+array-write-owed c = omega (arith, c .before .slot .ensures .inside)
+
+add-i : tie.Need-add-i Inv-loop μ-loop
+add-i c = omega arith
+
+loop-less : tie.Need-loop-less Inv-loop μ-loop
+loop-less c = omega arith
+
+loop-again : tie.Need-loop-again Inv-loop μ-loop
+loop-again c =
+    let at = c .before .before .before .before in
+    let a = at .before .before .args in
+    let b = seenBook (a .count) (a .sort .now) (a .tm .now) (a .w .now) in
+    let i = at .loop .i in
+    let owed = at .loop .owed in
+    let s = c .before .slot .result in
+    let d = c .client-due .result in
+    let inside = c .before .slot .ensures .inside in
+    let is-account = c .before .before .account-at .ensures in
+    let is-due : d ≡ clientDue (accountOf (rowAt b i)) = c .client-due .ensures ∙ ap clientDue is-account in
+    let is-slot : Slot (rowAt b i .tm) s = subst (λ (x : Account). Slot (x .tm) s) is-account (c .before .slot .ensures) in (
+      refl,
+      omega arith,
+      length-set owed s (getD owed s 0 + d) ∙ at .loop .inv .2,
+      λ t h.
+          let due : only (isClientOf (view b) t i) (ownDeemed (view b) i) ≡ only (eqb s t) d =
+          rw (is-due) (due-at (accountOf (rowAt b i)) s t h is-slot) in
+          omega (arith, add-at owed s d t (omega arith), at .loop .inv .3 t h, clients-step (view b) t i),
+    )
+
+returns : tie.Need-returns Inv-loop μ-loop
+returns c =
+    let a = c .before .before .before .args in
+    record {
+      size = c .before .loop .inv .2;
+      each = λ t h. c .before .loop .inv .3 t h ∙ ap (clientsBelow (view (seenBook (a .count) (a .sort .now) (a .tm .now) (a .w .now))) t) (omega arith);
+    }
+
+pub client-sums-spec : {M : Type 1} → statement M
+client-sums-spec =
+    tie.close
+    (tie.spec
+    Inv-loop
+    μ-loop
+    zeros-requires
+    loop-holds
+    account-at-requires
+    slot-requires
+    client-due-requires
+    mul-owed
+    array-read-owed
+    add-owed
+    mul-owed-2
+    array-write-owed
+    add-i
+    loop-less
+    loop-again
+    returns)

@@ -1,0 +1,103 @@
+-- `table::needs::members_sum` meets its contract.
+use mathlib.Core.Path.{_≡_, refl, ap, _∙_}
+use Prim.Native.Nat.{ℕ, _-_, _≤_}
+use native.Mathlib.Omega.{arith}
+use Rattle.rows.specs.declared.Account.{Account}
+use Rattle.rows.specs.declared.Book.{Book}
+use Rattle.rows.specs.Rows.{view}
+use Rattle.rows.specs.Under.{accountAt, memberDue}
+use Rattle.rows.specs.Inner.{clientsBelow, membersBelow}
+use Rattle.rows.proofs.NeedSums.{members-none, members-step, members-most, member-most, clients-top}
+use Rattle.table.specs.Facts.{seenBook}
+use Rattle.table.proofs.needs.members_sum.Statement.{statement}
+use Rattle.table.proofs.needs.members_sum.Tie as tie
+
+abbrev Inv-loop : tie.InvT-loop
+Inv-loop sort tm w count owed sum₀ n i₀ sum i = (n ≡ count) × (i ≤ n) × (sum ≡ membersBelow (view (seenBook count sort tm w)) i)
+
+abbrev μ-loop : tie.MeasureT-loop
+μ-loop sort tm w count owed sum₀ n i₀ sum i = n - i
+
+abbrev bookOf : tie.Start Inv-loop μ-loop → Book
+bookOf c = seenBook (c .args .count) (c .args .sort .now) (c .args .tm .now) (c .args .w .now)
+
+loop-holds : tie.Need-loop-holds Inv-loop μ-loop
+loop-holds c = (refl, omega arith, omega (arith, members-none (view (bookOf c))))
+
+account-at-requires : tie.Need-account-at-requires Inv-loop μ-loop
+account-at-requires c κs =
+    let start = c .before .before in
+    let most = start .pre .0 .most in
+    (omega arith, start .pre .0 .ranges (c .before .loop .i) (omega arith))
+
+mul-member-due : tie.Need-mul-member-due Inv-loop μ-loop
+mul-member-due c = omega (arith, c .before .before .before .pre .0 .most)
+
+array-read-member-due : tie.Need-array-read-member-due Inv-loop μ-loop
+array-read-member-due c = omega (arith, c .before .before .before .pre .0 .most)
+
+member-due-requires : tie.Need-member-due-requires Inv-loop μ-loop
+member-due-requires c κs =
+    let start = c .before .before .before in
+    let i = c .before .before .loop .i in
+    let most = start .pre .0 .most in (
+      rw (c .account-at .ensures) (omega (arith, start .pre .0 .ranges i (omega arith) .margin)),
+      omega (arith, start .pre .1 .each i (omega arith), clients-top (bookOf start) (start .pre .0) i),
+    )
+
+both : {a a′ : Account} {d d′ : ℕ} → a ≡ a′ → d ≡ d′ → memberDue a d ≡ memberDue a′ d′
+both p q = cc
+
+-- what the account adds, by the sum of its clients
+adds : (c : tie.After-member-due Inv-loop μ-loop)
+    → c .member-due .result ≡ memberDue (accountAt (view (bookOf (c .before .before .before .before))) (c .before .before .before .loop .i)) (clientsBelow (view (bookOf (c .before .before .before .before))) (c .before .before .before .loop .i) (c .before .before .before .before .args .count))
+adds c =
+    let start = c .before .before .before .before in
+    let i = c .before .before .before .loop .i in
+    let most = start .pre .0 .most in
+    c .member-due .ensures ∙ both (c .before .account-at .ensures) (start .pre .1 .each i (omega arith))
+
+add-sum : tie.Need-add-sum Inv-loop μ-loop
+add-sum c =
+    let start = c .before .before .before .before in
+    let b = bookOf start in
+    let i = c .before .before .before .loop .i in
+    let most = start .pre .0 .most in
+    omega (
+      arith,
+      adds c,
+      members-most b (start .pre .0) i (omega arith),
+      member-most (accountAt (view b) i) (clientsBelow (view b) i (b .count)),
+      start .pre .0 .ranges i (omega arith) .margin,
+      clients-top b (start .pre .0) i,
+    )
+
+add-i : tie.Need-add-i Inv-loop μ-loop
+add-i c = omega arith
+
+loop-less : tie.Need-loop-less Inv-loop μ-loop
+loop-less c = omega arith
+
+loop-again : tie.Need-loop-again Inv-loop μ-loop
+loop-again c =
+    (refl, omega arith, omega (arith, adds c, members-step (view (bookOf (c .before .before .before .before))) (c .before .before .before .loop .i)))
+
+returns : tie.Need-returns Inv-loop μ-loop
+returns c = c .before .loop .inv .2 ∙ ap (membersBelow (view (bookOf (c .before .before)))) (omega arith)
+
+pub members-sum-spec : {M : Type 1} → statement M
+members-sum-spec =
+    tie.close
+    (tie.spec
+    Inv-loop
+    μ-loop
+    loop-holds
+    account-at-requires
+    mul-member-due
+    array-read-member-due
+    member-due-requires
+    add-sum
+    add-i
+    loop-less
+    loop-again
+    returns)
