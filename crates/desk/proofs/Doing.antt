@@ -4,10 +4,11 @@ use mathlib.Core.List.{List}
 use mathlib.Core.Logic.{_⊎_, inl, inr}
 use mathlib.Core.Path.{_≡_, refl, sym, ap, _∙_}
 use Prim.Native.Nat.{ℕ, _+_, _≤_, _<_}
-use lib.ListN.{set}
 use borrow.Author.Tests.{ne-eqb, le-leb, lt-leb}
 use Rattle.sums.specs.Choice.{pick, unlessRefused}
-use Rattle.sums.proofs.Choices.{pass, stop}
+use native.Mathlib.Omega.{arith}
+use lib.Dec.{eqb}
+use Rattle.sums.proofs.Choices.{pass, stop, pick-no}
 use Rattle.sums.proofs.Tables.{first-here}
 use Rattle.rows.specs.declared.Row.{Row}
 use Rattle.rows.specs.declared.Book.{Book}
@@ -20,51 +21,50 @@ use Rattle.dayfile.specs.Reading.{foundAt}
 use Rattle.rules.specs.declared.Change.{Change}
 use Rattle.rules.specs.declared.Change.the-variants.{Refuse, Put, Open}
 use Rattle.rules.specs.Refusals.{namedRow, refusalOf}
-use Rattle.rules.specs.Effects.{effectOf, changeOf, nextSerial, movedOn}
-use Rattle.rules.proofs.Deciding.{never-one, refuse-number}
+use Rattle.rules.specs.Effects.{effectOf, changeOf, bookAfter}
+use Rattle.rules.proofs.Deciding.{never-one, refuse-some, refuse-number}
+use Rattle.steps.specs.Steps.{refusalShown, givenShown}
+use Rattle.table.specs.declared.Table.{Table}
+use Rattle.table.specs.Words.{marksOf, turnedBack}
+use Rattle.table.specs.Facts.{Sized}
+use Rattle.table.proofs.Turning.{turned-from}
+use Rattle.desk.specs.declared.Outcome.{Outcome}
 use Rattle.desk.specs.declared.Outcome.the-variants.{CarriedOut, Opened, Refused}
 use Rattle.desk.specs.declared.Answer.{Answer}
 use Rattle.desk.specs.declared.Done.{Done}
 use Rattle.desk.specs.declared.Next.{Next}
-use Rattle.desk.specs.Answers.{nobody, ofRecord}
+use Rattle.desk.specs.declared.Carried.{Carried}
+use Rattle.desk.specs.Answers.{nobody, ofRecord, answerOf}
+use Rattle.desk.specs.Inner.{outcomeBy}
+use Rattle.desk.specs.Over.{overDone}
 use Rattle.desk.specs.Steps.{doneBy, stepOf, onFound, nextOf}
 
 pub step-by : (b : Book) (r : Record) (c : Change) → changeOf b r ≡ c → doneBy b r c ≡ stepOf b r
 unfolding stepOf
 step-by b r c e = ap (doneBy b r) (sym e)
 
--- what a refusal from 3 on leaves: the serial moved on from 4 on
-abbrev pub Refusing : Book → ℕ → Book → Type 0
-Refusing b n after = ((3 < n) × (after ≡ movedOn b)) ⊎ ((n ≤ 3) × (after ≡ b))
+-- the answer by the numbers that the change shows
+pub answer-by : (b : Book) (r : Record) → Sound b → (c : Change) → changeOf b r ≡ c
+    → ofRecord r (outcomeBy (refusalShown c) (givenShown (b .count) c)) ≡ answerOf (b .count) r c
+unfolding pick
+answer-by b r s (Refuse n) e =
+    ap (ofRecord r) (pick-no (eqb n 0) _ (Refused n) (ne-eqb n 0 (refuse-some b r n e)))
+    ∙ sym (pick-no (eqb n 1) (nobody (Refused n)) _ (ne-eqb n 1 (λ q. never-one b r s (refuse-number b r n e ∙ q))))
+answer-by b r s (Put x) e = refl
+answer-by b r s (Open x) e = ap (ofRecord r) (pick-no (eqb (b .count) 0) CarriedOut _ (ne-eqb (b .count) 0 (λ q. omega (arith, s .shaped .some))))
 
-pub refused-step : (b : Book) (r : Record) → Sound b → (n : ℕ) (a : Answer) (after : Book) → changeOf b r ≡ Refuse n
-    → a ≡ ofRecord r (Refused n) → Refusing b n after → _≡_ {A = Done} (record { answer = a; book = after }) (stepOf b r)
-refused-step b r s n a after e ea eb = (λ j. record { answer = answer j; book = book eb j }) ∙ step-by b r (Refuse n) e
+-- one record on words in place is the old order's, turned over
+pub stepped-over : (b : Book) (r : Record) → Sound b → (n g : ℕ) (o : Outcome) (t : Table) → o ≡ outcomeBy n g → n ≡ refusalShown (changeOf b r) → g ≡ givenShown (b .count) (changeOf b r)
+    → Sized (marksOf t) (t .amounts) → turnedBack t ≡ bookAfter b (r .account) (changeOf b r)
+    → _≡_ {A = Carried} (record { answer = ofRecord r o; table = t }) (overDone (stepOf b r))
+unfolding stepOf
+stepped-over b r s n g o t eo en eg h e =
+    ap (λ o. record { answer = ofRecord r o; table = t }) (eo ∙ both en eg)
+    ∙ ap (λ a. record { answer = a; table = t }) (answer-by b r s (changeOf b r) refl)
+    ∙ ap (λ x. record { answer = answerOf (b .count) r (changeOf b r); table = x }) (turned-from t _ h e)
   where
-    answer : a ≡ doneBy b r (Refuse n) .answer
-    answer = stop _ (ne-eqb n 1 (λ q. never-one b r s (refuse-number b r n e ∙ q))) ea
-
-    book : Refusing b n after → after ≡ doneBy b r (Refuse n) .book
-    book (inl h) = stop _ (lt-leb n 3 (h .0)) (h .1)
-    book (inr h) = pass _ (le-leb n 3 (h .0)) (h .1)
-
--- a row put anew, and one opened, with the serial moved on
-module _ (b : Book) (r : Record) (row : Row) (next : ℕ) (d : Done) where
-  pub put-step : changeOf b r ≡ Put row → next ≡ nextSerial (b .serial)
-      → d ≡ record { answer = ofRecord r CarriedOut; book = withSerial (withRow b (r .account) row) next }
-      → d ≡ stepOf b r
-  put-step e n h =
-      h
-      ∙ ap (λ (x : ℕ). record { answer = ofRecord r CarriedOut; book = withSerial (withRow b (r .account) row) x }) n
-      ∙ step-by b r (Put row) e
-
-  pub open-step : changeOf b r ≡ Open row → next ≡ nextSerial (b .serial)
-      → d ≡ record { answer = ofRecord r (Opened (b .count)); book = withSerial (withNew b row) next }
-      → d ≡ stepOf b r
-  open-step e n h =
-      h
-      ∙ ap (λ (x : ℕ). record { answer = ofRecord r (Opened (b .count)); book = withSerial (withNew b row) x }) n
-      ∙ step-by b r (Open row) e
+    both : {n n′ g g′ : ℕ} → n ≡ n′ → g ≡ g′ → outcomeBy n g ≡ outcomeBy n′ g′
+    both p q = cc
 
 -- "1: the book isn't sound"
 pub unsound-step : (b : Book) (r : Record) → soundB b ≡ false → _≡_ {A = Done} (record { answer = nobody (Refused 1); book = b }) (stepOf b r)

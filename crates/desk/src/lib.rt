@@ -1,15 +1,15 @@
 // The desk: a record is carried out or refused.
 ghost use mathlib.Core.Path.{_≡_};
 ghost use Rattle.book.specs.Facts.{Sound};
-ghost use Rattle.desk.specs.Answers.{nobody, ofRecord};
+ghost use Rattle.desk.specs.Answers.{nobody};
 ghost use Rattle.desk.specs.Steps.{stepOf, nextOf};
 ghost use Rattle.desk.specs.Over.{overDone, overNext};
-ghost use Rattle.table.specs.Words.{turnedBack};
+ghost use Rattle.desk.specs.Inner.{outcomeBy};
+ghost use Rattle.table.specs.Words.{turned, turnedBack};
 use dayfile::Found;
 use dayfile::Record;
 use rows::Book;
 use table::Table;
-use rules::Change;
 
 // What became of a record; the end is no refusal.
 pub enum Outcome {
@@ -26,7 +26,7 @@ pub struct Answer {
     pub outcome: Outcome,
 }
 
-// The old order's: what the definitions speak of.
+// What the definitions speak of: the old order's book after a record.
 pub struct Done {
     pub answer: Answer,
     pub book: Book,
@@ -62,104 +62,80 @@ fn about_nobody(outcome: Outcome) -> Answer
     }
 }
 
-// The answer to a record, and the book after it.
-fn answered(r: Record, outcome: Outcome, book: Book) -> Done
-    ensures { λ d. ⌜ d ≡ record { answer = ofRecord r outcome; book = book } ⌝ }
+// By document 01's numbers: the refusal or 0, and the number given or 0.
+fn outcome_of(refusal: u8, given: u16) -> Outcome
+    ensures { λ o. ⌜ o ≡ outcomeBy refusal given ⌝ }
 {
+    if refusal != 0 {
+        return Outcome::Refused(refusal);
+    }
+    if given != 0 {
+        return Outcome::Opened(given);
+    }
+    Outcome::CarriedOut
+}
+
+// A record at a sound table.
+fn step_at(t: Table, r: Record) -> Carried
+    requires { ⌜ Sound (turnedBack t) ⌝ }
+    ensures { λ d. ⌜ d ≡ overDone (stepOf (turnedBack t) r) ⌝ }
+{
+    let mut sort = t.sort;
+    let mut live = t.live;
+    let mut tm = t.tm;
+    let mut amounts = t.amounts;
+    table::sizes(sort, live, tm, amounts);
+    let mut under = table::needs::unders(&sort, &tm, &amounts, t.count);
+    let gone = steps::step(
+        &mut sort,
+        &mut live,
+        &mut tm,
+        &mut amounts,
+        &mut under,
+        t.count,
+        t.serial,
+        r,
+    );
+    let outcome = outcome_of(gone.refusal, gone.given);
     let answer = Answer {
         serial: r.serial,
         code: r.code,
         account: r.account,
         outcome,
     };
-    Done { answer, book }
+    let table = Table {
+        count: gone.count,
+        serial: gone.serial,
+        sort,
+        live,
+        tm,
+        amounts,
+    };
+    Carried { answer, table }
 }
 
-// A record at a sound book.
-fn step(b: Book, r: Record) -> Done
-    requires { ⌜ Sound b ⌝ }
-    ensures { λ d. ⌜ d ≡ stepOf b r ⌝ }
+// Nobody is named, and the table stays.
+fn stays(t: Table, outcome: Outcome) -> Carried
+    ensures { λ d. ⌜ d ≡ record { answer = nobody outcome; table = turned (turnedBack t) } ⌝ }
 {
-    let mut book = b;
-    let i = r.account as usize;
-    let count = book.count;
-    let serial = book.serial;
-    let mut row = rows::words::no_row();
-    if i < 256 {
-        row = book.rows[i];
-    }
-    let mut seen = rules::seeing::nothing_seen();
-    if (r.code == 7) | (r.code == 9) | (r.code == 10) | (r.code == 11) {
-        seen = rules::seeing::look(b, r);
-    }
-    let change = rules::effects::change(row, count, serial, seen, r);
-    let next = std::num::wrapping_add_u16(serial, 1);
-    match change {
-        Change::Refuse(n) => {
-            if 3 < n {
-                book.serial = next;
-            }
-            answered(r, Outcome::Refused(n), book)
-        }
-        Change::Put(new) => {
-            book.serial = next;
-            book.rows[i] = new;
-            answered(r, Outcome::CarriedOut, book)
-        }
-        Change::Open(new) => {
-            let at = count as usize;
-            book.serial = next;
-            book.count = count + 1;
-            book.rows[at] = new;
-            answered(r, Outcome::Opened(count), book)
-        }
-    }
+    let sort = t.sort;
+    let live = t.live;
+    let tm = t.tm;
+    let amounts = t.amounts;
+    table::sizes(sort, live, tm, amounts);
+    let answer = about_nobody(outcome);
+    Carried { answer, table: t }
 }
 
-fn carry_out_rows(b: Book, record: Record) -> Done
-    ensures { λ d. ⌜ d ≡ stepOf b «record» ⌝ }
+fn at(c: Carried, place: usize) -> CarriedNext
+    ensures { λ n. ⌜ n ≡ record { answer = c .answer; table = c .table; place = place } ⌝ }
 {
-    if !book::is_sound_rows(b) {
-        return Done {
-            answer: about_nobody(Outcome::Refused(1)),
-            book: b,
-        };
-    }
-    step(b, record)
-}
-
-fn carry_out_next_rows(b: Book, piece: &[u8], place: usize) -> Next
-    ensures { λ n. ⌜ n ≡ nextOf b (now (piece .entry)) place ⌝ }
-{
-    if !book::is_sound_rows(b) {
-        return Next {
-            answer: about_nobody(Outcome::Refused(1)),
-            book: b,
-            place,
-        };
-    }
-    let found = dayfile::found_at(piece, place);
-    match found {
-        Found::End => Next {
-            answer: about_nobody(Outcome::End),
-            book: b,
-            place,
-        },
-        Found::Cut => Next {
-            answer: about_nobody(Outcome::Refused(2)),
-            book: b,
-            place,
-        },
-        Found::Whole(record, next) => {
-            let done = step(b, record);
-            let answer = done.answer;
-            let book = done.book;
-            Next {
-                answer,
-                book,
-                place: next,
-            }
-        }
+    let answer = c.answer;
+    let table = c.table;
+    CarriedNext {
+        answer,
+        table,
+        place,
     }
 }
 
@@ -167,24 +143,23 @@ fn carry_out_next_rows(b: Book, piece: &[u8], place: usize) -> Next
 pub fn carry_out(t: Table, record: Record) -> Carried
     ensures { λ d. ⌜ d ≡ overDone (stepOf (turnedBack t) «record») ⌝ }
 {
-    let done = carry_out_rows(table::turn_back(t), record);
-    let answer = done.answer;
-    let book = done.book;
-    let table = table::turn(book);
-    Carried { answer, table }
+    if !book::is_sound(t) {
+        return stays(t, Outcome::Refused(1));
+    }
+    step_at(t, record)
 }
 
 // The record at a place of a piece of the day file.
 pub fn carry_out_next(t: Table, piece: &[u8], place: usize) -> CarriedNext
     ensures { λ n. ⌜ n ≡ overNext (nextOf (turnedBack t) (now (piece .entry)) place) ⌝ }
 {
-    let next = carry_out_next_rows(table::turn_back(t), piece, place);
-    let answer = next.answer;
-    let book = next.book;
-    let table = table::turn(book);
-    CarriedNext {
-        answer,
-        table,
-        place: next.place,
+    if !book::is_sound(t) {
+        return at(stays(t, Outcome::Refused(1)), place);
+    }
+    let found = dayfile::found_at(piece, place);
+    match found {
+        Found::End => at(stays(t, Outcome::End), place),
+        Found::Cut => at(stays(t, Outcome::Refused(2)), place),
+        Found::Whole(record, next) => at(step_at(t, record), next),
     }
 }

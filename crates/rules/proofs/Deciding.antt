@@ -131,6 +131,19 @@ never-one b r s e =
       ),
     )
 
+-- a refusal has a number
+pub refuse-some : (b : Book) (r : Record) (n : ℕ) → changeOf b r ≡ Refuse n → n ≡ 0 → ⊥
+unfolding changeOf pick
+refuse-some b r n = by (refusalOf b r)
+  where
+    by : (m : ℕ) → unlessRefused m (effectOf (namedRow b r) (placeOf b (r .account)) r) Refuse ≡ Refuse n → n ≡ 0 → ⊥
+    by zero h z = passes-not (isOpening r) h
+      where
+        passes-not : (t : Bool) → pick t (Open (openedRow (r .code) (r .account))) (Put (amended (namedRow b r) r)) ≡ Refuse n → ⊥
+        passes-not true q = let z : _≡_ {A = ℕ} 0 1 = cc in omega arith
+        passes-not false q = let z : _≡_ {A = ℕ} 0 1 = cc in omega arith
+    by (suc m) h z = let e : suc m ≡ n = cc in omega arith
+
 pub refuse-number : (b : Book) (r : Record) (n : ℕ) → changeOf b r ≡ Refuse n → refusalOf b r ≡ n
 unfolding changeOf pick
 refuse-number b r n = by (refusalOf b r)

@@ -21,7 +21,7 @@ use Rattle.desk.specs.declared.Outcome.the-variants.{Refused}
 use Rattle.desk.specs.Answers.{nobody, ofRecord, answerOf, carriedIn}
 use Rattle.desk.specs.Steps.{stepOf}
 use Rattle.run.specs.Told.{five}
-use Rattle.run.specs.Inner.{refusalShown, givenShown, carriedShown}
+use Rattle.steps.specs.Steps.{refusalShown, givenShown, carriedShown}
 
 -- the numbers of a record at a sound book, by its change
 abbrev pub numbersBy : Record → ℕ → Change → List ℕ

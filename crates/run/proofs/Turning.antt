@@ -22,7 +22,8 @@ use Rattle.run.specs.declared.Closing.{Closing}
 use Rattle.run.specs.declared.Closing.the-variants.{End, Cut, Long}
 use Rattle.run.specs.Runs.{endedWith, stopped, runOf}
 use Rattle.run.specs.Told.{five}
-use Rattle.run.specs.Inner.{putFive, tellOf, carriedShown}
+use Rattle.run.specs.Inner.{putFive, tellOf}
+use Rattle.steps.specs.Steps.{carriedShown}
 use Rattle.run.proofs.Numbers.{numbersBy, carried-shown, numbers-by}
 
 -- s is the piece; with ₀ what was there where the loop began

@@ -3,12 +3,14 @@ use mathlib.Core.List.{List}
 use Prim.Native.Nat.{ℕ, zero, suc, _+_, _*_}
 use lib.Seq.{sets}
 use Rattle.rows.specs.declared.Book.{Book}
-use Rattle.rules.specs.declared.Change.{Change}
-use Rattle.rules.specs.declared.Change.the-variants.{Refuse, Put, Open}
+use Rattle.table.specs.Words.{Marks}
+use Rattle.steps.specs.Steps.{bookOf}
 use Rattle.dayfile.specs.declared.Found.{Found}
 use Rattle.dayfile.specs.declared.Found.the-variants.{End as NoBytes, Cut as TooFew, Whole}
 use Rattle.dayfile.specs.Reading.{foundAt}
 use Rattle.desk.specs.Steps.{stepOf}
+use Rattle.run.specs.declared.Ran.{Ran}
+use Rattle.run.specs.declared.Went.{Went}
 use Rattle.run.specs.Told.{five}
 
 -- the room with the numbers of the record that is number k put in
@@ -26,18 +28,6 @@ unfoldable pub tellOf : List ℕ → ℕ → Book → ℕ → ℕ → List ℕ �
 tellOf s zero b place k room = room
 tellOf s (suc most) b place k room = telling (tellOf s most) (foundAt s place) b k room
 
--- what a change shows of its record: the refusal or 0, the number given or 0, and 1 for one carried out
-abbrev pub refusalShown : Change → ℕ
-refusalShown (Refuse n) = n
-refusalShown (Put row) = 0
-refusalShown (Open row) = 0
-
-abbrev pub givenShown : ℕ → Change → ℕ
-givenShown count (Refuse n) = 0
-givenShown count (Put row) = 0
-givenShown count (Open row) = count
-
-abbrev pub carriedShown : Change → ℕ
-carriedShown (Refuse n) = 0
-carriedShown (Put row) = 1
-carriedShown (Open row) = 1
+-- what the loop came to, with the words that it left
+abbrev pub ranIn : Went → Marks → List ℕ → Ran
+ranIn x m w = record { book = bookOf (x .count) (x .serial) m w; place = x .place; closing = x .closing; read = x .read; done = x .done }

@@ -9,11 +9,12 @@ ghost use Rattle.book.specs.Facts.{Sound};
 ghost use Rattle.run.specs.Runs.{endedWith, runOf, ranOf};
 ghost use Rattle.run.specs.Told.{toldOf, roomFor};
 ghost use Rattle.run.specs.Over.{overRan};
-ghost use Rattle.table.specs.Words.{turnedBack};
-ghost use Rattle.run.specs.Inner.{putFive, tellOf, refusalShown, givenShown, carriedShown};
+ghost use Rattle.table.specs.Words.{marksFrom, turnedBack};
+ghost use Rattle.run.specs.Inner.{putFive, tellOf, ranIn};
+ghost use Rattle.steps.specs.Steps.{bookOf, Ready};
 use dayfile::Found;
 use rows::Book;
-use rules::Change;
+use steps::step;
 use table::Table;
 
 // Why the records stopped: at the end, at a cut, at the stated number, or since the book isn't sound.
@@ -24,7 +25,7 @@ pub enum Closing {
     Unsound,
 }
 
-// The old order's: what the definitions speak of.
+// What the definitions speak of: the old order's book after the records.
 pub struct Ran {
     pub book: Book,
     pub place: usize,
@@ -42,34 +43,14 @@ pub struct Ended {
     pub done: u64,
 }
 
-fn refusal_shown(c: Change) -> u16
-    ensures { λ n. ⌜ n ≡ refusalShown c ⌝ }
-{
-    match c {
-        Change::Refuse(n) => n as u16,
-        Change::Put(_) => 0,
-        Change::Open(_) => 0,
-    }
-}
-
-fn given_shown(count: u16, c: Change) -> u16
-    ensures { λ n. ⌜ n ≡ givenShown count c ⌝ }
-{
-    match c {
-        Change::Refuse(_) => 0,
-        Change::Put(_) => 0,
-        Change::Open(_) => count,
-    }
-}
-
-fn carried_shown(c: Change) -> u64
-    ensures { λ n. ⌜ n ≡ carriedShown c ⌝ }
-{
-    match c {
-        Change::Refuse(_) => 0,
-        Change::Put(_) => 1,
-        Change::Open(_) => 1,
-    }
+// The same without the table's arrays, which are lent.
+pub(crate) struct Went {
+    count: u16,
+    serial: u16,
+    place: usize,
+    closing: Closing,
+    read: u64,
+    done: u64,
 }
 
 // Puts the numbers of the record that is number k.
@@ -85,14 +66,26 @@ fn put_five(room: &mut [u16], k: u64, serial: u16, code: u8, account: u16, refus
     room[at + 4] = given;
 }
 
-// The records of a piece at a sound book, with their numbers told where that is asked for.
-fn run(b: Book, piece: &[u8], most: u64, room: &mut [u16], tell: bool) -> Ran
-    requires { ⌜ Sound b × (tell ≡ true → 5 * most ≤ length (now room)) ⌝ }
-    ensures { λ r. ⌜ r ≡ runOf (now (piece .entry)) most b 0 0 0 ⌝ }
-    ensures { λ r. ⌜ now (room .exit) ≡ pick tell (tellOf (now (piece .entry)) most b 0 0 (now (room .entry))) (now (room .entry)) ⌝ }
+// The records of a piece at a sound table, whose arrays are lent, with their numbers told where that is asked for.
+fn go(
+    sort: &mut [u8; 256],
+    live: &mut [bool; 256],
+    tm: &mut [u16; 256],
+    w: &mut [u64; 2560],
+    under: &mut [u64; 256],
+    first: u16,
+    due: u16,
+    piece: &[u8],
+    most: u64,
+    room: &mut [u16],
+    tell: bool,
+) -> Went
+    requires { ⌜ Ready first due (marksFrom (now sort) (now live) (now tm)) (now w) (now under) × (tell ≡ true → 5 * most ≤ length (now room)) ⌝ }
+    ensures { λ x. ⌜ ranIn x (marksFrom (now (sort .exit)) (now (live .exit)) (now (tm .exit))) (now (w .exit)) ≡ runOf (now (piece .entry)) most (bookOf first due (marksFrom (now (sort .entry)) (now (live .entry)) (now (tm .entry))) (now (w .entry))) 0 0 0 ⌝ }
+    ensures { λ x. ⌜ now (room .exit) ≡ pick tell (tellOf (now (piece .entry)) most (bookOf first due (marksFrom (now (sort .entry)) (now (live .entry)) (now (tm .entry))) (now (w .entry))) 0 0 (now (room .entry))) (now (room .entry)) ⌝ }
 {
-    let mut owed = rows::needs::unders(b);
-    let mut book = b;
+    let mut count = first;
+    let mut serial = due;
     let mut place: usize = 0;
     let mut read: u64 = 0;
     let mut done: u64 = 0;
@@ -112,27 +105,7 @@ fn run(b: Book, piece: &[u8], most: u64, room: &mut [u16], tell: bool) -> Ran
                 if most <= read {
                     break Closing::Long;
                 }
-                let i = r.account as usize;
-                let count = book.count;
-                let serial = book.serial;
-                let mut row = rows::words::no_row();
-                let mut under: u64 = 0;
-                if i < 256 {
-                    row = book.rows[i];
-                    under = owed[i];
-                }
-                let t = rows::needs::slot(row.tm);
-                let tm = book.rows[t];
-                let tm_owed = owed[t];
-                let top = book.rows[0];
-                let all = owed[0];
-                let mut tied = false;
-                if (r.code == 11) & (row.sort == 1) {
-                    tied = rows::asking::has_live_client(book, i);
-                }
-                let a = rules::seeing::accounts_of(row, tm, top);
-                let seen = rules::seeing::see(a.named, under, a.tm, tm_owed, a.cm, all, tied, r);
-                let change = rules::effects::change(row, count, serial, seen, r);
+                let gone = step(sort, live, tm, w, under, count, serial, r);
                 if tell {
                     put_five(
                         room,
@@ -140,41 +113,21 @@ fn run(b: Book, piece: &[u8], most: u64, room: &mut [u16], tell: bool) -> Ran
                         r.serial,
                         r.code,
                         r.account,
-                        refusal_shown(change),
-                        given_shown(count, change),
+                        gone.refusal as u16,
+                        gone.given,
                     );
                 }
-                let after = std::num::wrapping_add_u16(serial, 1);
+                count = gone.count;
+                serial = gone.serial;
                 place = next;
                 read += 1;
-                done += carried_shown(change);
-                match change {
-                    Change::Refuse(n) => {
-                        if 3 < n {
-                            book.serial = after;
-                        }
-                    }
-                    Change::Put(new) => {
-                        let n = rows::needs::account_of(new);
-                        let tm_after = rows::kept::under_tm(a.named, n, tm_owed);
-                        let all_after = rows::kept::under_cm(a.named, n, under, a.tm, tm_owed, all);
-                        book.serial = after;
-                        book.rows[i] = new;
-                        owed[t] = tm_after;
-                        owed[0] = all_after;
-                    }
-                    Change::Open(new) => {
-                        let at = count as usize;
-                        book.serial = after;
-                        book.count = count + 1;
-                        book.rows[at] = new;
-                    }
-                }
+                done += gone.carried;
             }
         }
     };
-    Ran {
-        book,
+    Went {
+        count,
+        serial,
         place,
         closing,
         read,
@@ -182,11 +135,62 @@ fn run(b: Book, piece: &[u8], most: u64, room: &mut [u16], tell: bool) -> Ran
     }
 }
 
-fn unsound(b: Book) -> Ran
-    ensures { λ r. ⌜ r ≡ endedWith Closing.Unsound b 0 0 0 ⌝ }
+// The records of a piece at a sound table.
+fn run(t: Table, piece: &[u8], most: u64, room: &mut [u16], tell: bool) -> Ended
+    requires { ⌜ Sound (turnedBack t) × (tell ≡ true → 5 * most ≤ length (now room)) ⌝ }
+    ensures { λ r. ⌜ r ≡ overRan (runOf (now (piece .entry)) most (turnedBack t) 0 0 0) ⌝ }
+    ensures { λ r. ⌜ now (room .exit) ≡ pick tell (tellOf (now (piece .entry)) most (turnedBack t) 0 0 (now (room .entry))) (now (room .entry)) ⌝ }
 {
-    Ran {
-        book: b,
+    let mut sort = t.sort;
+    let mut live = t.live;
+    let mut tm = t.tm;
+    let mut amounts = t.amounts;
+    table::sizes(sort, live, tm, amounts);
+    let count = t.count;
+    let serial = t.serial;
+    let mut under = table::needs::unders(&sort, &tm, &amounts, count);
+    let went = go(
+        &mut sort,
+        &mut live,
+        &mut tm,
+        &mut amounts,
+        &mut under,
+        count,
+        serial,
+        piece,
+        most,
+        room,
+        tell,
+    );
+    table::sizes(sort, live, tm, amounts);
+    let closing = went.closing;
+    let table = Table {
+        count: went.count,
+        serial: went.serial,
+        sort,
+        live,
+        tm,
+        amounts,
+    };
+    Ended {
+        table,
+        place: went.place,
+        closing,
+        read: went.read,
+        done: went.done,
+    }
+}
+
+fn unsound(t: Table) -> Ended
+    ensures { λ r. ⌜ r ≡ overRan (endedWith Closing.Unsound (turnedBack t) 0 0 0) ⌝ }
+{
+    let sort = t.sort;
+    let live = t.live;
+    let tm = t.tm;
+    let amounts = t.amounts;
+    table::sizes(sort, live, tm, amounts);
+    Ended {
+        table: t,
         place: 0,
         closing: Closing::Unsound,
         read: 0,
@@ -194,50 +198,15 @@ fn unsound(b: Book) -> Ran
     }
 }
 
-fn day_rows(b: Book, piece: &[u8], most: u64) -> Ran
-    ensures { λ r. ⌜ r ≡ ranOf b (now (piece .entry)) most ⌝ }
-{
-    if !book::is_sound_rows(b) {
-        return unsound(b);
-    }
-    let mut nowhere = [0u16; 1];
-    run(b, piece, most, &mut nowhere, false)
-}
-
-fn day_told_rows(b: Book, piece: &[u8], most: u64, room: &mut [u16]) -> Ran
-    ensures { λ r. ⌜ r ≡ ranOf b (now (piece .entry)) (roomFor most (now (room .entry))) ⌝ }
-    ensures { λ r. ⌜ now (room .exit) ≡ toldOf b (now (piece .entry)) most (now (room .entry)) ⌝ }
-{
-    if !book::is_sound_rows(b) {
-        return unsound(b);
-    }
-    let fit = room.len() as u64 / 5;
-    if most < fit {
-        return run(b, piece, most, room, true);
-    }
-    run(b, piece, fit, room, true)
-}
-
-fn over(r: Ran) -> Ended
-    ensures { λ x. ⌜ x ≡ overRan r ⌝ }
-{
-    let book = r.book;
-    let closing = r.closing;
-    let table = table::turn(book);
-    Ended {
-        table,
-        place: r.place,
-        closing,
-        read: r.read,
-        done: r.done,
-    }
-}
-
 // The records of a piece from its start, up to a stated number.
 pub fn day(t: Table, piece: &[u8], most: u64) -> Ended
     ensures { λ r. ⌜ r ≡ overRan (ranOf (turnedBack t) (now (piece .entry)) most) ⌝ }
 {
-    over(day_rows(table::turn_back(t), piece, most))
+    if !book::is_sound(t) {
+        return unsound(t);
+    }
+    let mut nowhere = [0u16; 1];
+    run(t, piece, most, &mut nowhere, false)
 }
 
 // The same, with each record's numbers put into a lent room, as far as there is room for five of each.
@@ -245,5 +214,12 @@ pub fn day_told(t: Table, piece: &[u8], most: u64, room: &mut [u16]) -> Ended
     ensures { λ r. ⌜ r ≡ overRan (ranOf (turnedBack t) (now (piece .entry)) (roomFor most (now (room .entry)))) ⌝ }
     ensures { λ r. ⌜ now (room .exit) ≡ toldOf (turnedBack t) (now (piece .entry)) most (now (room .entry)) ⌝ }
 {
-    over(day_told_rows(table::turn_back(t), piece, most, room))
+    if !book::is_sound(t) {
+        return unsound(t);
+    }
+    let fit = room.len() as u64 / 5;
+    if most < fit {
+        return run(t, piece, most, room, true);
+    }
+    run(t, piece, fit, room, true)
 }

@@ -1,28 +1,27 @@
 -- `desk::carry_out` meets its contract.
-use mathlib.Core.Path.{_≡_, ap, _∙_}
-use borrow.Author.Needs.{needs}
-use Rattle.table.specs.declared.Table.{Table}
-use Rattle.desk.specs.declared.Answer.{Answer}
-use Rattle.desk.specs.declared.Carried.{Carried}
-use Rattle.desk.specs.Steps.{stepOf}
+use borrow.Author.Tests.{not-true, not-false}
+use mathlib.Core.Path.{sym, ap, _∙_}
+use Rattle.book.proofs.SoundTest.{sound→}
 use Rattle.desk.specs.Over.{overDone}
+use Rattle.desk.proofs.Doing.{unsound-step}
+use borrow.Author.Needs.{needs}
 use Rattle.desk.proofs.carry_out.Statement.{statement}
 use Rattle.desk.proofs.carry_out.Tie as tie
 
-turn-back-requires : tie.Need-turn-back-requires
-turn-back-requires c κs = search needs
+is-sound-requires : tie.Need-is-sound-requires
+is-sound-requires c κs = search needs
 
-carry-out-rows-requires : tie.Need-carry-out-rows-requires
-carry-out-rows-requires c κs = search needs
-
-turn-requires : tie.Need-turn-requires
-turn-requires c κs = search needs
+stays-requires : tie.Need-stays-requires
+stays-requires c κs = search needs
 
 returns : tie.Need-returns
-returns c =
-    let done = c .before .before .before in
-    ap (λ (x : Table). record { answer = done .carry-out-rows .result .answer; table = x }) (c .turn .ensures)
-    ∙ ap overDone (done .carry-out-rows .ensures ∙ ap (λ b. stepOf b (done .before .before .args .record)) (done .before .turn-back .ensures))
+returns c = c .stays .ensures ∙ ap overDone (unsound-step _ _ (sym (c .before .before .is-sound .ensures) ∙ not-true _ (c .before .if1 .taken)))
+
+step-at-requires : tie.Need-step-at-requires
+step-at-requires c κs = sound→ _ (sym (c .before .is-sound .ensures) ∙ not-false _ (c .if1 .left))
+
+returns-2 : tie.Need-returns-2
+returns-2 c = search needs
 
 pub carry-out-spec : {M : Type 1} → statement M
-carry-out-spec = tie.close (tie.spec turn-back-requires carry-out-rows-requires turn-requires returns)
+carry-out-spec = tie.close (tie.spec is-sound-requires stays-requires returns step-at-requires returns-2)

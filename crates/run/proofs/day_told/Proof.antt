@@ -1,33 +1,76 @@
--- `run::day_told` meets its contract.
-use mathlib.Core.Path.{_≡_, ap, _∙_}
+-- `run::day_told_rows` meets its contract.
+use borrow.Author.Tests.{not-true, not-false}
+use mathlib.Core.Bool.{true}
+use mathlib.Core.Path.{_≡_, refl, sym, ap, _∙_}
+use Prim.Native.Nat.{_/_}
+use native.Mathlib.Omega.{arith}
+use lib.ListN.{length}
+use Rattle.sums.proofs.Choices.{pick-yes}
+use Rattle.book.specs.Sound.{soundB}
+use Rattle.book.proofs.SoundTest.{sound→}
+use Rattle.run.specs.Runs.{runOf}
+use Rattle.run.specs.Told.{roomFor}
+use Rattle.run.proofs.Tellings.{ran-unsound, ran-sound, told-unsound, told-sound}
 use borrow.Author.Needs.{needs}
-use denote.Ref.{now}
-use Rattle.run.specs.Runs.{ranOf}
-use Rattle.run.specs.Told.{roomFor, toldOf}
-use Rattle.run.specs.Over.{overRan}
-use Rattle.run.proofs.day_told.Statement.{statement}
-use Rattle.run.proofs.day_told.Tie as tie
+use Rattle.run.proofs.day_told_rows.Statement.{statement}
+use Rattle.run.proofs.day_told_rows.Tie as tie
 
-turn-back-requires : tie.Need-turn-back-requires
-turn-back-requires c κs = search needs
+-- past the first test
+tested : (c : tie.Else1) → soundB (c .before .before .before .before .args .b) ≡ true
+tested c = sym (c .before .is-sound-rows .ensures) ∙ not-false _ (c .if1 .left)
 
-day-told-rows-requires : tie.Need-day-told-rows-requires
-day-told-rows-requires c κs = search needs
+is-sound-rows-requires : tie.Need-is-sound-rows-requires
+is-sound-rows-requires c κs = search needs
 
-over-requires : tie.Need-over-requires
-over-requires c κs = search needs
+unsound-requires : tie.Need-unsound-requires
+unsound-requires c κs = search needs
+
+returns : tie.Need-returns
+returns c =
+    let a = c .before .before .before .before .before .args in
+    let e = sym (c .before .before .is-sound-rows .ensures) ∙ not-true _ (c .before .if1 .taken) in
+    (c .unsound .ensures ∙ ran-unsound (a .b) (a .piece .now) _ e, told-unsound (a .b) (a .piece .now) (a .most) (a .room .now) e)
+
+run-requires : tie.Need-run-requires
+run-requires c κs = (sound→ _ (tested (c .before .before)), λ t. omega arith)
 
 same-length : tie.Need-same-length
 same-length c = search needs
 
-returns : tie.Need-returns
-returns c =
-    let told = c .before .before .before in
-    let back = told .before .before in
-    let a = back .before .before .before .args in (
-      c .over .ensures ∙ ap overRan (told .day-told-rows .ensures .0 ∙ ap (λ b. ranOf b (now (a .piece)) (roomFor (a .most) (now (a .room)))) (back .turn-back .ensures)),
-      told .day-told-rows .ensures .1 ∙ ap (λ b. toldOf b (now (a .piece)) (a .most) (now (a .room))) (back .turn-back .ensures),
+returns-2 : tie.Need-returns-2
+returns-2 c =
+    let a = c .before .before .before .before .before .before .before .before .before .args in
+    let t = tested (c .before .before .before .before .before) in
+    let n : a .most ≡ roomFor (a .most) (a .room .now) = omega (arith, c .before .before .before .before .if2 .taken) in (
+      c .before .before .run .ensures .0 ∙ ap (λ m. runOf (a .piece .now) m (a .b) 0 0 0) n ∙ ran-sound (a .b) (a .piece .now) _ t,
+      c .before .before .run .ensures .1 ∙ pick-yes true _ _ refl ∙ told-sound (a .b) (a .piece .now) (a .most) (a .room .now) _ n t,
     )
 
-pub day-told-spec : {M : Type 1} → statement M
-day-told-spec = tie.close (tie.spec turn-back-requires day-told-rows-requires over-requires same-length returns)
+run-requires-2 : tie.Need-run-requires-2
+run-requires-2 c κs = (sound→ _ (tested (c .before .before)), λ t. omega arith)
+
+same-length-2 : tie.Need-same-length-2
+same-length-2 c = search needs
+
+returns-3 : tie.Need-returns-3
+returns-3 c =
+    let a = c .before .before .before .before .before .before .before .before .before .args in
+    let t = tested (c .before .before .before .before .before) in
+    let n : length (a .room .now) / 5 ≡ roomFor (a .most) (a .room .now) = omega (arith, c .before .before .before .before .if2 .left) in (
+      c .before .before .run2 .ensures .0 ∙ ap (λ m. runOf (a .piece .now) m (a .b) 0 0 0) n ∙ ran-sound (a .b) (a .piece .now) _ t,
+      c .before .before .run2 .ensures .1 ∙ pick-yes true _ _ refl ∙ told-sound (a .b) (a .piece .now) (a .most) (a .room .now) _ n t,
+    )
+
+pub day-told-rows-spec : {M : Type 1} → statement M
+day-told-rows-spec =
+    tie.close
+    (tie.spec
+    is-sound-rows-requires
+    unsound-requires
+    returns
+    run-requires
+    same-length
+    returns-2
+    run-requires-2
+    same-length-2
+    returns-3)
