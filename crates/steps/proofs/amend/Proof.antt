@@ -1,5 +1,4 @@
 -- `steps::amend` meets its contract: each code's own lines are what the table has for it.
-use mathlib.Core.Path.{_≡_}
 use Rattle.table.specs.Words.{marksFrom}
 use Rattle.steps.proofs.ByCode.{last-code, receives, hands-back, allocates, releases, pledges, unpledges, sets-margin, retires}
 use borrow.Author.Needs.{needs}

@@ -1,8 +1,4 @@
 -- `steps::decide` meets its contract.
-use mathlib.Core.Bool.{Bool, true, false, _&&_}
-use mathlib.Core.Path.{_≡_, refl, sym, ap, _∙_}
-use native.Mathlib.Omega.{arith}
-use Rattle.rules.specs.Refusals.{isOpening}
 use Rattle.table.specs.Words.{marksFrom}
 use Rattle.steps.proofs.Carried.{early-is, held, amending, opening, opening-not, refused-at, amends-at, opens-at}
 use borrow.Author.Needs.{needs}

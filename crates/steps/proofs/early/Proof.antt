@@ -1,6 +1,6 @@
 -- `steps::early` meets its contract.
 use mathlib.Core.Bool.{not}
-use mathlib.Core.Path.{_≡_, sym, ap, _∙_}
+use mathlib.Core.Path.{sym, ap, _∙_}
 use borrow.Author.Tests.{eq-eqb, ne-eqb}
 use Rattle.sums.specs.Choice.{pick}
 use Rattle.sums.proofs.Tables.{first-here, first-later, first-some}

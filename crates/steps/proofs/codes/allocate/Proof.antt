@@ -1,9 +1,8 @@
 -- `steps::codes::allocate` meets its contract.
 use mathlib.Core.Bool.{not}
-use mathlib.Core.Path.{_≡_, refl, sym, ap, _∙_}
+use mathlib.Core.Path.{_≡_, sym, ap, _∙_}
 use native.Mathlib.Omega.{arith}
 use borrow.Author.Tests.{not-false}
-use Rattle.rows.specs.declared.Row.{Row}
 use Rattle.rows.specs.Rows.{plusKinds, lessKinds, withAllocated}
 use Rattle.rows.specs.Facts.{InRange}
 use Rattle.rows.specs.Ranges.{kindsWithin}

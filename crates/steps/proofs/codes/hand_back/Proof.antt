@@ -1,6 +1,6 @@
 -- `steps::codes::hand_back` meets its contract.
 use mathlib.Core.Bool.{not}
-use mathlib.Core.Path.{_≡_, refl, sym, ap, _∙_}
+use mathlib.Core.Path.{_≡_, sym, ap, _∙_}
 use native.Mathlib.Omega.{arith}
 use Rattle.rows.specs.Rows.{lessKinds, withReceived}
 use Rattle.rows.specs.Ranges.{kindsWithin}

@@ -1,6 +1,6 @@
 -- `steps::codes::receive` meets its contract.
 use mathlib.Core.Bool.{not}
-use mathlib.Core.Path.{_≡_, refl, sym, ap, _∙_}
+use mathlib.Core.Path.{_≡_, sym, ap, _∙_}
 use native.Mathlib.Omega.{arith}
 use Rattle.rows.specs.Rows.{plusKinds, withReceived}
 use Rattle.rows.specs.Ranges.{kindsCapped}

@@ -1,16 +1,15 @@
 -- `steps::codes::release` meets its contract.
 use mathlib.Core.Bool.{not}
 use mathlib.Core.List.{List}
-use mathlib.Core.Path.{_≡_, refl, sym, ap, _∙_}
+use mathlib.Core.Path.{_≡_, sym, ap, _∙_}
 use Prim.Native.Nat.{ℕ, _+_}
 use native.Mathlib.Omega.{arith}
-use lib.Dec.{ltb}
 use lib.ListN.{getD}
-use borrow.Author.Tests.{not-false, lt-ltb, le-ltb}
+use borrow.Author.Tests.{lt-ltb, le-ltb}
 use Rattle.sums.specs.Table.{Line}
 use Rattle.rows.specs.declared.Kinds.{Kinds}
 use Rattle.rows.specs.declared.Row.{Row}
-use Rattle.rows.specs.Rows.{addedUp, collateral, lessKinds, withAllocated}
+use Rattle.rows.specs.Rows.{collateral, lessKinds, withAllocated}
 use Rattle.rows.specs.Facts.{InRange}
 use Rattle.rows.specs.Ranges.{kindsWithin}
 use Rattle.rows.specs.View.{freeOf}

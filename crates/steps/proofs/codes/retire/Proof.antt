@@ -1,10 +1,9 @@
 -- `steps::codes::retire` meets its contract.
-use mathlib.Core.Bool.{false, not, _||_}
-use mathlib.Core.Path.{_≡_, refl, sym, ap, _∙_}
+use mathlib.Core.Bool.{false, not}
+use mathlib.Core.Path.{_≡_, sym, ap, _∙_}
 use native.Mathlib.Omega.{arith}
 use borrow.Author.Tests.{eq-eqb, ne-eqb}
 use Rattle.sums.proofs.Choices.{or-left, or-right}
-use Rattle.rows.specs.Rows.{withLive}
 use Rattle.rows.specs.Ranges.{noAmounts}
 use Rattle.table.specs.Words.{marksFrom}
 use Rattle.table.proofs.RowsPut.{live-put}

@@ -1,15 +1,9 @@
 -- `steps::codes::set_margin` meets its contract.
-use mathlib.Core.List.{List}
 use mathlib.Core.Path.{_≡_, refl, sym, ap, _∙_}
-use Prim.Native.Nat.{ℕ, _+_, _≤_}
 use native.Mathlib.Omega.{arith}
-use lib.Dec.{ltb}
-use Rattle.sums.specs.Table.{Line}
-use Rattle.rows.specs.declared.Row.{Row}
 use Rattle.rows.specs.Rows.{accountOf, withMargin}
 use Rattle.rows.specs.Facts.{InRange}
-use Rattle.rules.specs.Inner.{topMargin}
-use Rattle.table.specs.Words.{marksFrom, rowIn}
+use Rattle.table.specs.Words.{marksFrom}
 use Rattle.steps.specs.Own.{accountIn, owedIn, overIn, settled, marginLines}
 use Rattle.steps.proofs.Made.{here, next, none, refuses-all, moves, settles, ranged, margin-anew, margin-in, over-is, cm-most}
 use borrow.Author.Needs.{needs}

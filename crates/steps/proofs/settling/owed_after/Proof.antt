@@ -1,10 +1,9 @@
 -- `steps::settling::owed_after` meets its contract.
-use mathlib.Core.Path.{_≡_, refl, ap, _∙_}
-use Prim.Native.Nat.{_≤_}
+use mathlib.Core.Path.{_≡_, ap, _∙_}
 use native.Mathlib.Omega.{arith}
 use Rattle.rows.specs.Rows.{accountOf}
 use Rattle.rows.specs.Facts.{InRange}
-use Rattle.table.specs.Words.{marksFrom, rowIn}
+use Rattle.table.specs.Words.{marksFrom}
 use Rattle.steps.specs.Own.{accountIn}
 use borrow.Author.Needs.{needs}
 use Rattle.steps.proofs.settling.owed_after.Statement.{statement}

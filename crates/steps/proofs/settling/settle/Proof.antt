@@ -1,5 +1,5 @@
 -- `steps::settling::settle` meets its contract.
-use mathlib.Core.Path.{_≡_, ap, _∙_}
+use mathlib.Core.Path.{ap, _∙_}
 use Rattle.steps.specs.Own.{settled}
 use borrow.Author.Needs.{needs}
 use Rattle.steps.proofs.settling.settle.Statement.{statement}
