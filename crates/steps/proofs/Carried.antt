@@ -40,7 +40,7 @@ use Rattle.table.specs.Words.{Marks, rowIn}
 use Rattle.table.proofs.Gathered.{row-in}
 use Rattle.table.proofs.InPlace.{Anew}
 use Rattle.steps.specs.Steps.{bookOf, Ready, Stepped, stayed, wentOn, goneWith}
-use Rattle.steps.specs.Own.{before8, earlyNumber, aliveIn, from8, clientIn, tiedIn, seenIn, Held, Amends, Opens, Amending}
+use Rattle.steps.specs.Own.{before8, earlyNumber, aliveIn, from8, clientIn, tiedIn, seenIn, Held, Answered, Opens, Amending}
 use Rattle.steps.proofs.Lines.{open-own}
 
 -- ---- which codes open
@@ -267,7 +267,7 @@ module _ (count serial : ℕ) (m : Marks) (w under : List ℕ) (h : Ready count 
         (ev ∙ rw (er, ei))
 
     pub amends-at : isOpening r ≡ false → (q : ℕ) (n : Marks) (u v : List ℕ)
-        → Amends m w under (r .account) (amended (rowIn m w (r .account)) r) (from8 (rowIn m w (r .account)) count (seenIn count m w under r) r) q n u v
+        → Answered count m w under r q n u v
         → Stepped count serial m w r (goneWith q (isOpening r) count serial) n u v
     amends-at o q n u v a = by (ℕ-discrete q 0)
       where
