@@ -5,17 +5,16 @@ use mathlib.Core.Path.{_≡_, refl, ap, _∙_}
 use mathlib.Core.Bool.{true}
 use Prim.Native.Nat.{ℕ, _≤_}
 use native.Mathlib.Omega.{arith}
-use Rattle.sums.specs.Table.{Line, first}
+use Rattle.sums.specs.Table.{first}
 use Rattle.rows.specs.declared.Row.{Row}
 use Rattle.rows.specs.Rows.{ceiling}
 use Rattle.rows.specs.View.{blockedOf}
 use Rattle.dayfile.specs.declared.Record.{Record}
 use Rattle.dayfile.specs.Records.{knownCode}
-use Rattle.rules.specs.Effects.{amended}
 use Rattle.rules.proofs.Amending.{by-receive, by-hand-back, by-allocate, by-release, by-pledge, by-unpledge, by-margin, by-retire}
 use Rattle.rules.proofs.Codes.{Code, openTM, openClient, openCP, receive, handBack, allocate, release, pledge, unpledge, margin, retire, which}
 use Rattle.table.specs.Words.{Marks, rowIn}
-use Rattle.steps.specs.Own.{from8, seenIn, overIn, marginLines, Amends, Receives, HandsBack, Allocates, Releases, Pledges, Unpledges, SetsMargin, Retires}
+use Rattle.steps.specs.Own.{seenIn, overIn, marginLines, Answered, Receives, HandsBack, Allocates, Releases, Pledges, Unpledges, SetsMargin, Retires}
 use Rattle.steps.proofs.Lines.{receive-own, left-own, release-own, pledge-own, unpledge-own, margin-own, retire-own}
 use Rattle.steps.proofs.Made.{unmoved, as-amended}
 
@@ -40,38 +39,30 @@ module _ (count : ℕ) (m : Marks) (w under : List ℕ) (r : Record) where
   abbrev row : Row
   row = rowIn m w (r .account)
 
-  abbrev table : List Line
-  table = from8 (rowIn m w (r .account)) count (seenIn count m w under r) r
-
-  -- document 01's answer, for whichever code
-  abbrev pub Answered : ℕ → Marks → List ℕ → List ℕ → Type 0
-  Answered k n u v =
-      Amends m w under (r .account) (amended (rowIn m w (r .account)) r) (from8 (rowIn m w (r .account)) count (seenIn count m w under r) r) k n u v
-
   module _ {k : ℕ} {u : List ℕ} where
-    pub receives : r .code ≡ 4 → Receives m w (r .account) (r .kinds) k u → Answered k m u under
+    pub receives : r .code ≡ 4 → Receives m w (r .account) (r .kinds) k u → Answered count m w under r k m u under
     receives e h = as-amended (by-receive row r e) (receive-own row count (seenIn count m w under r) r e) (unmoved refl h)
 
-    pub hands-back : r .code ≡ 5 → HandsBack m w (r .account) (r .kinds) k u → Answered k m u under
+    pub hands-back : r .code ≡ 5 → HandsBack m w (r .account) (r .kinds) k u → Answered count m w under r k m u under
     hands-back e h = as-amended (by-hand-back row r e) (left-own row count (seenIn count m w under r) r (inl e)) (unmoved refl h)
 
-    pub allocates : {v : List ℕ} → r .code ≡ 6 → Allocates m w under (r .account) (r .kinds) k u v → Answered k m u v
+    pub allocates : {v : List ℕ} → r .code ≡ 6 → Allocates m w under (r .account) (r .kinds) k u v → Answered count m w under r k m u v
     allocates e h = as-amended (by-allocate row r e) (left-own row count (seenIn count m w under r) r (inr e)) h
 
-    pub releases : {v : List ℕ} → r .code ≡ 7 → Releases m w under (r .account) (r .kinds) k u v → Answered k m u v
+    pub releases : {v : List ℕ} → r .code ≡ 7 → Releases m w under (r .account) (r .kinds) k u v → Answered count m w under r k m u v
     releases e h = as-amended (by-release row r e) (release-own row count (seenIn count m w under r) r e) h
 
-    pub pledges : {v : List ℕ} → r .code ≡ 8 → Pledges m w under (r .account) (r .pledged) k u v → Answered k m u v
+    pub pledges : {v : List ℕ} → r .code ≡ 8 → Pledges m w under (r .account) (r .pledged) k u v → Answered count m w under r k m u v
     pledges e h = as-amended (by-pledge row r e) (pledge-own row count (seenIn count m w under r) r e) h
 
-    pub unpledges : {v : List ℕ} → r .code ≡ 9 → Unpledges m w under (r .account) (r .pledged) k u v → Answered k m u v
+    pub unpledges : {v : List ℕ} → r .code ≡ 9 → Unpledges m w under (r .account) (r .pledged) k u v → Answered count m w under r k m u v
     unpledges e h = as-amended (by-unpledge row r e) (unpledge-own row count (seenIn count m w under r) r e) h
 
-    pub sets-margin : {v : List ℕ} → r .code ≡ 10 → r .margin ≤ ceiling → SetsMargin m w under (r .account) (r .margin) k u v → Answered k m u v
+    pub sets-margin : {v : List ℕ} → r .code ≡ 10 → r .margin ≤ ceiling → SetsMargin m w under (r .account) (r .margin) k u v → Answered count m w under r k m u v
     sets-margin e l h =
         let q : blockedOf (r .margin) ceiling ≡ r .margin = omega arith in
         as-amended (by-margin row r e)
         (margin-own row count (seenIn count m w under r) r e ∙ ap (λ y. first (marginLines (overIn m w under (r .account) y))) q) h
 
-  pub retires : {k : ℕ} {n : Marks} → r .code ≡ 11 → Retires m w count (r .account) k n → Answered k n w under
+  pub retires : {k : ℕ} {n : Marks} → r .code ≡ 11 → Retires m w count (r .account) k n → Answered count m w under r k n w under
   retires e h = as-amended (by-retire row r e) (retire-own row count (seenIn count m w under r) r e) (unmoved refl h)

@@ -7,17 +7,16 @@ use Prim.Native.Nat.{ℕ, zero, suc, _+_, _≤_, _<_}
 use native.Mathlib.Omega.{arith}
 use native.Mathlib.Decide.{ℕ-discrete, decLt}
 use lib.Dec.{eqb, ltb, leb}
-use lib.ListN.{length, getD, set}
-use borrow.Author.Tests.{ltb-true, le-ltb, leb-true, le-leb, lt-leb, not-false, eq-eqb, ne-eqb, eqb-false, eqb-true}
+use lib.ListN.{getD, set}
+use borrow.Author.Tests.{ltb-true, le-ltb, leb-true, le-leb, lt-leb, not-false, eq-eqb, ne-eqb}
 use Rattle.sums.specs.Choice.{pick, unlessRefused}
 use Rattle.sums.specs.Sum.{any}
-use Rattle.sums.specs.Table.{Line, _when_, first}
+use Rattle.sums.specs.Table.{_when_, first}
 use Rattle.sums.proofs.Choices.{refused-by, and-split, and-join, clash, pick-yes, pick-no}
 use Rattle.sums.proofs.Tables.{first-some, first-none, first-fails, first-clear}
 use Rattle.rows.specs.declared.Row.{Row}
 use Rattle.rows.specs.declared.Book.{Book}
-use Rattle.rows.specs.Rows.{noRow, rowAt, accountOf, view, openedRow, hasLiveClient, isLiveClientOf}
-use Rattle.rows.specs.Facts.{InRange}
+use Rattle.rows.specs.Rows.{rowAt, accountOf, openedRow, hasLiveClient, isLiveClientOf}
 use Rattle.rows.specs.Inner.{Slot}
 use Rattle.rows.specs.Under.{underTM, underCM}
 use Rattle.book.specs.Facts.{Sound}
@@ -32,16 +31,16 @@ use Rattle.rules.specs.declared.Change.{Change}
 use Rattle.rules.specs.declared.Change.the-variants.{Refuse, Put, Open}
 use Rattle.rules.specs.Refusals.{isOpening, namedRow, refusalOf}
 use Rattle.rules.specs.Effects.{amended, effectOf, changeOf, bookAfter, nextSerial}
-use Rattle.rules.specs.Inner.{AmountsIn, SeenOf, refusalBy, seenWith}
+use Rattle.rules.specs.Inner.{SeenOf, refusalBy, seenWith}
 use Rattle.rules.proofs.Faults.{amounts-in}
 use Rattle.rules.proofs.WhatIsSeen.{toSee, refusal-seen}
 use Rattle.rules.proofs.SoundChange.{change-sound}
 use Rattle.rules.proofs.Kept.{sees-kept, put-keeps, open-keeps}
-use Rattle.table.specs.Words.{Marks, rowIn, rowsOf}
+use Rattle.table.specs.Words.{Marks, rowIn}
 use Rattle.table.proofs.Gathered.{row-in}
 use Rattle.table.proofs.InPlace.{Anew}
 use Rattle.steps.specs.Steps.{bookOf, Ready, Stepped, stayed, wentOn, goneWith}
-use Rattle.steps.specs.Own.{before8, earlyNumber, aliveIn, from8, clientIn, tiedIn, accountIn, settledWith, seenIn, Held, Answers, Amends, Opens, Amending}
+use Rattle.steps.specs.Own.{before8, earlyNumber, aliveIn, from8, clientIn, tiedIn, seenIn, Held, Answered, Opens, Amending}
 use Rattle.steps.proofs.Lines.{open-own}
 
 -- ---- which codes open
@@ -268,7 +267,7 @@ module _ (count serial : ℕ) (m : Marks) (w under : List ℕ) (h : Ready count 
         (ev ∙ rw (er, ei))
 
     pub amends-at : isOpening r ≡ false → (q : ℕ) (n : Marks) (u v : List ℕ)
-        → Amends m w under (r .account) (amended (rowIn m w (r .account)) r) (from8 (rowIn m w (r .account)) count (seenIn count m w under r) r) q n u v
+        → Answered count m w under r q n u v
         → Stepped count serial m w r (goneWith q (isOpening r) count serial) n u v
     amends-at o q n u v a = by (ℕ-discrete q 0)
       where

@@ -1,23 +1,19 @@
 -- Each code's own lines are all that is left of the table past 7.
 use mathlib.Core.Bool.{Bool, true, false, not, _||_}
-use mathlib.Core.List.{List, [], _∷_, _++_}
+use mathlib.Core.List.{[], _∷_, _++_}
 use mathlib.Core.Logic.{_⊎_, inl, inr}
-use mathlib.Core.Path.{_≡_, refl, sym, ap, _∙_}
-use Prim.Native.Nat.{ℕ, _+_, _≤_, _<_}
-use native.Mathlib.Omega.{arith}
-use lib.Dec.{eqb, ltb, leb}
+use mathlib.Core.Path.{_≡_, refl, ap, _∙_}
+use Prim.Native.Nat.{ℕ, _+_}
+use lib.Dec.{eqb}
 use borrow.Author.Tests.{eq-eqb}
 use Rattle.sums.specs.Choice.{pick}
-use Rattle.sums.specs.Table.{Line, _when_, first}
+use Rattle.sums.specs.Table.{_when_, first}
 use Rattle.sums.proofs.Tables.{first-later}
 use Rattle.rows.specs.declared.Row.{Row}
-use Rattle.rows.specs.Rows.{ceiling, addedUp, plusKinds, lessKinds}
-use Rattle.rows.specs.Ranges.{kindsCapped, kindsWithin}
 use Rattle.dayfile.specs.declared.Record.{Record}
 use Rattle.dayfile.specs.Records.{faults, faultOf}
 use Rattle.dayfile.proofs.Good.{past-faults}
 use Rattle.rules.specs.declared.Seen.{Seen}
-use Rattle.rules.specs.Refusals.{isOpening}
 use Rattle.steps.specs.Own.{earlyNumber, from8, openLines, receiveLines, leftLines, releaseLines, pledgeLines, unpledgeLines, marginLines, retireLines}
 
 -- with the serial that is due and no fault, only 7 is left before 8

@@ -24,7 +24,7 @@ use Rattle.table.proofs.RowsPut.{received-put, allocated-put, pledged-put, marg
 use Rattle.rows.proofs.NeedSums.{under-cm-most}
 use Rattle.rules.specs.Inner.{topMargin}
 use Rattle.steps.specs.declared.settling.Owed.{Owed}
-use Rattle.steps.specs.Own.{accountIn, overIn, owedIn, settled, settledWith, Held, Answers, Amends}
+use Rattle.steps.specs.Own.{accountIn, overIn, owedIn, settled, Held, Answers, Amends}
 
 -- the first line of two or of one
 pub here : (k : ℕ) (t : Bool) (rest : List Line) → t ≡ true → k ≡ first ((k when t) ∷ rest)

@@ -19,6 +19,7 @@ use Rattle.rows.specs.Under.{atMargin, underTM, underCM}
 use Rattle.dayfile.specs.declared.Record.{Record}
 use Rattle.dayfile.specs.Records.{faults, knownCode}
 use Rattle.rules.specs.declared.Seen.{Seen}
+use Rattle.rules.specs.Effects.{amended}
 use Rattle.rules.specs.Inner.{AmountsIn, from7, topMargin, seenWith}
 use Rattle.table.specs.Words.{Marks, rowIn}
 use Rattle.table.specs.Facts.{Sized}
@@ -164,7 +165,12 @@ SetsMargin m w under i y x = Amends m w under i (withMargin (rowIn m w i) y) (ma
 abbrev pub Retires : Marks → List ℕ → ℕ → ℕ → ℕ → Marks → Type 0
 Retires m w count i x n = Answers m w i (withLive (rowIn m w i) false) (retireLines (rowIn m w i) i (tiedIn m count i)) x n w
 
--- a record that is no opening and passed the lines before 8
+-- document 01's answer to a record that is no opening and passed the lines before 8, whichever its code
+abbrev pub Answered : ℕ → Marks → List ℕ → List ℕ → Record → ℕ → Marks → List ℕ → List ℕ → Type 0
+Answered count m w under r =
+    Amends m w under (r .account) (amended (rowIn m w (r .account)) r) (from8 (rowIn m w (r .account)) count (seenIn count m w under r) r)
+
+-- such a record
 pub record Amending (count : ℕ) (m : Marks) (w under : List ℕ) (r : Record) : Type 0 where
   pub held : Held m w under (r .account)
   pub amounts : AmountsIn r

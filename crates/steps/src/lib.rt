@@ -2,11 +2,10 @@
 ghost use mathlib.Core.Bool.{true};
 ghost use mathlib.Core.Path.{_≡_};
 ghost use Prim.Native.Nat.{_≤_, _<_};
-ghost use Rattle.rules.specs.Effects.{amended};
 ghost use Rattle.rules.specs.Refusals.{isOpening};
 ghost use Rattle.table.specs.Words.{marksFrom, rowIn};
 ghost use Rattle.steps.specs.Steps.{Ready, Stepped, goneWith};
-ghost use Rattle.steps.specs.Own.{aliveIn, earlyNumber, from8, seenIn, Amends, Amending};
+ghost use Rattle.steps.specs.Own.{aliveIn, earlyNumber, Answered, Amending};
 use codes::allocate;
 use codes::hand_back;
 use codes::open;
@@ -21,7 +20,7 @@ use rows::Row;
 use table::places::kinds_at;
 
 mod codes;
-pub mod settling;
+mod settling;
 
 // What a record came to: the refusal or 0, the number given or 0, 1 for one carried out, and the count and the serial after it.
 pub struct Gone {
@@ -87,7 +86,7 @@ fn amend(
     r: Record,
 ) -> u8
     requires { ⌜ Amending count (marksFrom (now sort) (now live) (now tm)) (now w) (now under) r ⌝ }
-    ensures { λ x. ⌜ Amends (marksFrom (now (sort .entry)) (now (live .entry)) (now (tm .entry))) (now (w .entry)) (now (under .entry)) (r .account) (amended (rowIn (marksFrom (now (sort .entry)) (now (live .entry)) (now (tm .entry))) (now (w .entry)) (r .account)) r) (from8 (rowIn (marksFrom (now (sort .entry)) (now (live .entry)) (now (tm .entry))) (now (w .entry)) (r .account)) count (seenIn count (marksFrom (now (sort .entry)) (now (live .entry)) (now (tm .entry))) (now (w .entry)) (now (under .entry)) r) r) x (marksFrom (now (sort .entry)) (now (live .exit)) (now (tm .entry))) (now (w .exit)) (now (under .exit)) ⌝ }
+    ensures { λ x. ⌜ Answered count (marksFrom (now (sort .entry)) (now (live .entry)) (now (tm .entry))) (now (w .entry)) (now (under .entry)) r x (marksFrom (now (sort .entry)) (now (live .exit)) (now (tm .entry))) (now (w .exit)) (now (under .exit)) ⌝ }
 {
     let i = r.account as usize;
     let code = r.code;

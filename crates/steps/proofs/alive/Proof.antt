@@ -1,5 +1,4 @@
 -- `steps::alive` meets its contract.
-use mathlib.Core.Path.{_≡_, refl}
 use borrow.Author.Tests.{le-ltb, lt-ltb}
 use borrow.Author.Needs.{needs}
 use Rattle.steps.proofs.alive.Statement.{statement}

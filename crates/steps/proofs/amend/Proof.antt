@@ -1,5 +1,4 @@
 -- `steps::amend` meets its contract: each code's own lines are what the table has for it.
-use mathlib.Core.Path.{_≡_}
 use Rattle.table.specs.Words.{marksFrom}
 use Rattle.steps.proofs.ByCode.{last-code, receives, hands-back, allocates, releases, pledges, unpledges, sets-margin, retires}
 use borrow.Author.Needs.{needs}
@@ -11,8 +10,9 @@ cast-i c = search needs
 
 receive-requires : tie.Need-receive-requires
 receive-requires c κs =
-    let h = c .before .before .before .before .pre .held in
-    (h .size, h .inside, h .ranges _ (h .inside), c .before .before .before .before .pre .amounts .kinds)
+    let pre = c .before .before .before .before .pre in
+    let h = pre .held in
+    (h .size, h .inside, h .ranges _ (h .inside), pre .amounts .kinds)
 
 hand-back-requires : tie.Need-hand-back-requires
 hand-back-requires c κs = search needs
@@ -58,10 +58,11 @@ returns-7 c = let a = (c .before .before .before .before .before .before .args) 
 
 returns-8 : tie.Need-returns-8
 returns-8 c =
+    let pre = c .before .before .before .before .before .pre in
     let a = (c .before .before .before .before .before .args) in
     let g = c .before .before .before .match .rest in
     retires (a .count) (marksFrom (a .sort .now) (a .live .now) (a .tm .now)) (a .w .now) (a .under .now) (a .r)
-    (last-code (a .r .code) (c .before .before .before .before .before .pre .known) (c .before .before .before .before .before .pre .low) (g .0 .0 .0 .0 .0 .0 .1) (g .0 .0 .0 .0 .0 .1) (g .0 .0 .0 .0 .1) (g .0 .0 .0 .1) (g .0 .0 .1) (g .0 .1) (g .1)) (c .retire .ensures)
+    (last-code (a .r .code) (pre .known) (pre .low) (g .0 .0 .0 .0 .0 .0 .1) (g .0 .0 .0 .0 .0 .1) (g .0 .0 .0 .0 .1) (g .0 .0 .0 .1) (g .0 .0 .1) (g .0 .1) (g .1)) (c .retire .ensures)
 
 pub amend-spec : {M : Type 1} → statement M
 amend-spec =

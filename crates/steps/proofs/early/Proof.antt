@@ -1,6 +1,6 @@
 -- `steps::early` meets its contract.
 use mathlib.Core.Bool.{not}
-use mathlib.Core.Path.{_≡_, sym, ap, _∙_}
+use mathlib.Core.Path.{sym, ap, _∙_}
 use borrow.Author.Tests.{eq-eqb, ne-eqb}
 use Rattle.sums.specs.Choice.{pick}
 use Rattle.sums.proofs.Tables.{first-here, first-later, first-some}
@@ -22,7 +22,7 @@ returns-2 : tie.Need-returns-2
 unfolding earlyNumber faultOf
 returns-2 c =
     let e = c .before .fault-of .ensures in
-    e ∙ sym (first-later 3 _ _ (ap not (eq-eqb _ _ (c .before .before .if1 .left))) ∙ first-some (faults (c .before .before .before .before .args .r)) _ (λ z. c .if2 .taken (e ∙ z)))
+    e ∙ sym (first-later 3 _ _ (ap not (eq-eqb _ _ (c .before .before .if1 .left))) ∙ first-some (faults (c .before .before .before .before .args .r)) _ (λ z. (c .if2) .taken (e ∙ z)))
 
 alive-requires : tie.Need-alive-requires
 alive-requires c κs = search needs

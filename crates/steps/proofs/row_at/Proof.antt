@@ -1,5 +1,4 @@
 -- `steps::row_at` meets its contract.
-use mathlib.Core.Path.{_≡_, refl}
 use borrow.Author.Needs.{needs}
 use Rattle.steps.proofs.row_at.Statement.{statement}
 use Rattle.steps.proofs.row_at.Tie as tie

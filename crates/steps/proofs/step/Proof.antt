@@ -1,6 +1,4 @@
 -- `steps::step` meets its contract.
-use mathlib.Core.Path.{_≡_, ap}
-use native.Mathlib.Omega.{arith}
 use Rattle.steps.proofs.Carried.{room}
 use borrow.Author.Needs.{needs}
 use Rattle.steps.proofs.step.Statement.{statement}

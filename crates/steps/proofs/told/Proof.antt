@@ -1,5 +1,4 @@
 -- `steps::told` meets its contract.
-use mathlib.Core.Path.{_≡_, refl}
 use native.Mathlib.Omega.{arith}
 use borrow.Author.Tests.{eq-eqb, ne-eqb, lt-leb, le-leb}
 use Rattle.sums.specs.Choice.{pick}
@@ -12,11 +11,15 @@ wrapping-add-u16-requires c κs = search needs
 
 returns : tie.Need-returns
 unfolding pick
-returns c = rw (ne-eqb (c .before .before .before .args .n) 0 (c .before .if1 .taken), lt-leb (c .before .before .before .args .n) 3 (c .if2 .taken), c .before .before .wrapping-add-u16 .ensures)
+returns c =
+    let args = c .before .before .before .args in
+    rw (ne-eqb (args .n) 0 (c .before .if1 .taken), lt-leb (args .n) 3 (c .if2 .taken), c .before .before .wrapping-add-u16 .ensures)
 
 returns-2 : tie.Need-returns-2
 unfolding pick
-returns-2 c = rw (ne-eqb (c .before .before .before .args .n) 0 (c .before .if1 .taken), le-leb (c .before .before .before .args .n) 3 (c .if2 .left))
+returns-2 c =
+    let args = c .before .before .before .args in
+    rw (ne-eqb (args .n) 0 (c .before .if1 .taken), le-leb (args .n) 3 (c .if2 .left))
 
 add-t18 : tie.Need-add-t18
 add-t18 c = let l = (c .before .before .before .pre) (c .before .if1 .left) (c .if3 .taken) in omega arith

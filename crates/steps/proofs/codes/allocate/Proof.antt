@@ -1,9 +1,8 @@
 -- `steps::codes::allocate` meets its contract.
 use mathlib.Core.Bool.{not}
-use mathlib.Core.Path.{_≡_, refl, sym, ap, _∙_}
+use mathlib.Core.Path.{_≡_, sym, ap, _∙_}
 use native.Mathlib.Omega.{arith}
 use borrow.Author.Tests.{not-false}
-use Rattle.rows.specs.declared.Row.{Row}
 use Rattle.rows.specs.Rows.{plusKinds, lessKinds, withAllocated}
 use Rattle.rows.specs.Facts.{InRange}
 use Rattle.rows.specs.Ranges.{kindsWithin}
@@ -21,8 +20,7 @@ new-is : (c : tie.After-with-allocated) → (c .with-allocated) .result ≡ with
 new-is c = c .with-allocated .ensures ∙ ap (withAllocated (c .before .before .before .before .before .row-at .result)) (c .before .plus-kinds .ensures)
 
 new-in : (c : tie.After-with-allocated) → InRange (c .with-allocated .result)
-new-in c =
-    rw (new-is c) (allocated-in _ _ (ranged _ (c .before .before .before .before .before .before .before .pre .0) (c .before .before .before .before .before .row-at .ensures)) (within→ _ _ (not-false _ (test-is (c .before .before .before) ∙ c .before .before .if1 .left))))
+new-in c = rw (new-is c) (allocated-in _ _ (ranged _ (c .before .before .before .before .before .before .before .pre .0) (c .before .before .before .before .before .row-at .ensures)) (within→ _ _ (not-false _ (test-is (c .before .before .before) ∙ c .before .before .if1 .left))))
 
 row-at-requires : tie.Need-row-at-requires
 row-at-requires c κs = search needs
@@ -37,7 +35,9 @@ returns : tie.Need-returns
 returns c = refuses-all 11 (λ q. leftLines q (c .before .before .before .before .before .args .k)) _ (c .before .before .before .row-at .ensures) (here 11 _ _ (test-is (c .before) ∙ c .if1 .taken)) (λ z. omega arith)
 
 plus-kinds-requires : tie.Need-plus-kinds-requires
-plus-kinds-requires c κs = (omega (arith, ranged _ (c .before .before .before .before .before .pre .0) (c .before .before .before .row-at .ensures)), c .before .before .before .before .before .pre .1)
+plus-kinds-requires c κs =
+    let pre = c .before .before .before .before .before .pre in
+    (omega (arith, ranged _ (pre .0) (c .before .before .before .row-at .ensures)), pre .1)
 
 with-allocated-requires : tie.Need-with-allocated-requires
 with-allocated-requires c κs = search needs
@@ -56,10 +56,13 @@ put-kinds-requires c κs = (omega arith, c .before .before .before .before .befo
 
 returns-2 : tie.Need-returns-2
 returns-2 c =
-    moves (λ q. withAllocated q (plusKinds (q .allocated) (c .before .before .before .before .before .before .before .before .before .before .before .before .before .before .args .k))) (λ q. leftLines q (c .before .before .before .before .before .before .before .before .before .before .before .before .before .before .args .k)) _ _ _ _ (c .before .before .before .before .before .before .before .before .before .before .before .before .row-at .ensures) (new-is (c .before .before .before .before .before .before .before))
+    let args = c .before .before .before .before .before .before .before .before .before .before .before .before .before .before .args in
+    let row-at = c .before .before .before .before .before .before .before .before .before .before .before .before .row-at in
+    let pre = c .before .before .before .before .before .before .before .before .before .before .before .before .before .before .pre in
+    moves (λ q. withAllocated q (plusKinds (q .allocated) (args .k))) (λ q. leftLines q (args .k)) _ _ _ _ (row-at .ensures) (new-is (c .before .before .before .before .before .before .before))
     (c .before .before .before .before .account-of .ensures) (c .before .before .before .account-of2 .ensures) (next 11 _ _ 0 (test-is (c .before .before .before .before .before .before .before .before .before .before) ∙ c .before .before .before .before .before .before .before .before .before .if1 .left) none)
-    (allocated-anew (c .before .before .before .before .before .before .before .before .before .before .before .before .before .before .pre .0 .size) (c .before .before .before .before .before .before .before .before .before .before .before .before .before .before .pre .0 .inside) _ _
-    (new-is (c .before .before .before .before .before .before .before) ∙ ap (λ q. withAllocated q (plusKinds (q .allocated) (c .before .before .before .before .before .before .before .before .before .before .before .before .before .before .args .k))) (c .before .before .before .before .before .before .before .before .before .before .before .before .row-at .ensures)) (c .put-kinds .ensures))
+    (allocated-anew (pre .0 .size) (pre .0 .inside) _ _
+    (new-is (c .before .before .before .before .before .before .before) ∙ ap (λ q. withAllocated q (plusKinds (q .allocated) (args .k))) (row-at .ensures)) (c .put-kinds .ensures))
     (c .before .before .settle .ensures)
 
 pub allocate-spec : {M : Type 1} → statement M

@@ -1,6 +1,6 @@
 -- `steps::codes::hand_back` meets its contract.
 use mathlib.Core.Bool.{not}
-use mathlib.Core.Path.{_≡_, refl, sym, ap, _∙_}
+use mathlib.Core.Path.{_≡_, sym, ap, _∙_}
 use native.Mathlib.Omega.{arith}
 use Rattle.rows.specs.Rows.{lessKinds, withReceived}
 use Rattle.rows.specs.Ranges.{kindsWithin}
@@ -36,9 +36,12 @@ put-kinds-requires c κs = search needs
 
 returns-2 : tie.Need-returns-2
 returns-2 c =
-    puts (λ q. leftLines q (c .before .before .before .before .before .before .before .before .before .args .k)) _ (c .before .before .before .before .before .before .before .row-at .ensures) (next 11 _ _ 0 (test-is (c .before .before .before .before .before) ∙ c .before .before .before .before .if1 .left) none)
-    (received-anew (c .before .before .before .before .before .before .before .before .before .pre .0) (c .before .before .before .before .before .before .before .before .before .pre .1) _ _
-    (c .before .before .with-received .ensures ∙ ap (withReceived (c .before .before .before .before .before .before .before .row-at .result)) (c .before .before .before .less-kinds2 .ensures) ∙ ap (λ q. withReceived q (lessKinds (q .received) (c .before .before .before .before .before .before .before .before .before .args .k))) (c .before .before .before .before .before .before .before .row-at .ensures))
+    let args = c .before .before .before .before .before .before .before .before .before .args in
+    let row-at = c .before .before .before .before .before .before .before .row-at in
+    let pre = c .before .before .before .before .before .before .before .before .before .pre in
+    puts (λ q. leftLines q (args .k)) _ (row-at .ensures) (next 11 _ _ 0 (test-is (c .before .before .before .before .before) ∙ c .before .before .before .before .if1 .left) none)
+    (received-anew (pre .0) (pre .1) _ _
+    (c .before .before .with-received .ensures ∙ ap (withReceived (row-at .result)) (c .before .before .before .less-kinds2 .ensures) ∙ ap (λ q. withReceived q (lessKinds (q .received) (args .k))) (row-at .ensures))
     (c .put-kinds .ensures))
 
 pub hand-back-spec : {M : Type 1} → statement M

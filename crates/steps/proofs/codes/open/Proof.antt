@@ -1,6 +1,6 @@
 -- `steps::codes::open` meets its contract.
 use mathlib.Core.Bool.{not}
-use mathlib.Core.Path.{_≡_, refl, sym, ap, _∙_}
+use mathlib.Core.Path.{sym, ap, _∙_}
 use native.Mathlib.Omega.{arith}
 use borrow.Author.Tests.{eq-eqb, ne-eqb, le-leb, lt-leb}
 use Rattle.table.specs.Words.{marksFrom}
@@ -30,10 +30,11 @@ put-row-requires c κs = search needs
 
 returns-3 : tie.Need-returns-3
 returns-3 c =
+    let if2 = c .before .before .before .before .before .before .if2 in
     let a = (c .before .before .before .before .before .before .before .before .before .before .args) in
     let e = c .put-row .ensures in
-    opens (next 8 _ _ 0 (ap not (eq-eqb _ _ (c .before .before .before .before .before .before .before .if1 .left ∙ c .before .before .before .before .before .before .before .before .wanted .ensures))) (next 9 _ _ 0 (lt-leb _ _ (c .before .before .before .before .before .before .if2 .left)) none))
-    (rw (e .0, e .1 .0, e .1 .1 .0, e .1 .1 .1, c .before .opened-row .ensures) (row-put (marksFrom (a .sort .now) (a .live .now) (a .tm .now)) (a .w .now) (a .count) (c .before .before .before .before .before .before .before .before .before .before .pre .0) (c .before .before .before .before .before .before .if2 .left) _))
+    opens (next 8 _ _ 0 (ap not (eq-eqb _ _ (c .before .before .before .before .before .before .before .if1 .left ∙ c .before .before .before .before .before .before .before .before .wanted .ensures))) (next 9 _ _ 0 (lt-leb _ _ (if2 .left)) none))
+    (rw (e .0, e .1 .0, e .1 .1 .0, e .1 .1 .1, c .before .opened-row .ensures) (row-put (marksFrom (a .sort .now) (a .live .now) (a .tm .now)) (a .w .now) (a .count) (c .before .before .before .before .before .before .before .before .before .before .pre .0) (if2 .left) _))
 
 pub open-spec : {M : Type 1} → statement M
 open-spec =

@@ -1,5 +1,5 @@
 -- `steps::codes::pledge` meets its contract.
-use mathlib.Core.Path.{_≡_, refl, sym, ap, _∙_}
+use mathlib.Core.Path.{refl, ap, _∙_}
 use Prim.Native.Nat.{_+_}
 use native.Mathlib.Omega.{arith}
 use borrow.Author.Tests.{lt-ltb, le-ltb}
@@ -18,7 +18,9 @@ row-at-requires : tie.Need-row-at-requires
 row-at-requires c κs = search needs
 
 add-sum : tie.Need-add-sum
-add-sum c = omega (arith, ranged _ (c .before .before .before .pre .0) (c .before .row-at .ensures), c .before .before .before .pre .1)
+add-sum c =
+    let pre = c .before .before .before .pre in
+    omega (arith, ranged _ (pre .0) (c .before .row-at .ensures), pre .1)
 
 returns : tie.Need-returns
 returns c = refuses-all 10 (λ q. pledgeLines q (c .before .before .before .before .args .y)) _ (c .before .before .row-at .ensures) (here 10 _ _ (lt-ltb _ _ (c .if1 .taken))) (λ z. omega arith)
@@ -49,10 +51,14 @@ element-write-w c = omega (arith, c .before .before .before .before .before .bef
 
 returns-2 : tie.Need-returns-2
 returns-2 c =
-    moves (λ q. withPledged q (q .pledged + (c .before .before .before .before .before .before .before .before .before .before .args) .y)) (λ q. pledgeLines q (c .before .before .before .before .before .before .before .before .before .before .args .y)) _ _ _ _ (c .before .before .before .before .before .before .before .before .row-at .ensures) (c .before .before .before .before .before .with-pledged .ensures)
+    let args = c .before .before .before .before .before .before .before .before .before .before .args in
+    let row-at = c .before .before .before .before .before .before .before .before .row-at in
+    let with-pledged = c .before .before .before .before .before .with-pledged in
+    let pre = c .before .before .before .before .before .before .before .before .before .before .pre in
+    moves (λ q. withPledged q (q .pledged + args .y)) (λ q. pledgeLines q (args .y)) _ _ _ _ (row-at .ensures) (with-pledged .ensures)
     (c .before .before .account-of .ensures) (c .before .account-of2 .ensures) (next 10 _ _ 0 (le-ltb _ _ (c .before .before .before .before .before .before .if1 .left)) none)
-    (pledged-anew (c .before .before .before .before .before .before .before .before .before .before .pre .0 .size) (c .before .before .before .before .before .before .before .before .before .before .pre .0 .inside) _ _
-    (c .before .before .before .before .before .with-pledged .ensures ∙ ap (λ q. withPledged q (q .pledged + (c .before .before .before .before .before .before .before .before .before .before .args) .y)) (c .before .before .before .before .before .before .before .before .row-at .ensures)) refl)
+    (pledged-anew (pre .0 .size) (pre .0 .inside) _ _
+    (with-pledged .ensures ∙ ap (λ q. withPledged q (q .pledged + args .y)) (row-at .ensures)) refl)
     (c .settle .ensures)
 
 pub pledge-spec : {M : Type 1} → statement M

@@ -1,16 +1,15 @@
 -- `steps::codes::release` meets its contract.
 use mathlib.Core.Bool.{not}
 use mathlib.Core.List.{List}
-use mathlib.Core.Path.{_≡_, refl, sym, ap, _∙_}
+use mathlib.Core.Path.{_≡_, sym, ap, _∙_}
 use Prim.Native.Nat.{ℕ, _+_}
 use native.Mathlib.Omega.{arith}
-use lib.Dec.{ltb}
 use lib.ListN.{getD}
-use borrow.Author.Tests.{not-false, lt-ltb, le-ltb}
+use borrow.Author.Tests.{lt-ltb, le-ltb}
 use Rattle.sums.specs.Table.{Line}
 use Rattle.rows.specs.declared.Kinds.{Kinds}
 use Rattle.rows.specs.declared.Row.{Row}
-use Rattle.rows.specs.Rows.{addedUp, collateral, lessKinds, withAllocated}
+use Rattle.rows.specs.Rows.{collateral, lessKinds, withAllocated}
 use Rattle.rows.specs.Facts.{InRange}
 use Rattle.rows.specs.Ranges.{kindsWithin}
 use Rattle.rows.specs.View.{freeOf}
@@ -28,7 +27,9 @@ test-is : (c : tie.After-kinds-within) → not (kindsWithin (c .before .before .
 test-is c = ap not (sym (c .kinds-within .ensures))
 
 free-is : (c : tie.After-free-with) → (c .free-with) .result ≡ freeOf (c .before .before .before .before .before .row-at .result .margin + getD (c .before .before .before .before .before .before .before .args .under .now) (c .before .before .before .before .before .before .before .args .i) 0) (collateral (c .before .before .before .before .before .row-at .result))
-free-is c = c .free-with .ensures ∙ ap (λ q. freeOf (q .margin + getD (c .before .before .before .before .before .before .before .args .under .now) (c .before .before .before .before .before .before .before .args .i) 0) (q .collateral)) (c .before .before .account-of .ensures)
+free-is c =
+    let args = c .before .before .before .before .before .before .before .args in
+    c .free-with .ensures ∙ ap (λ q. freeOf (q .margin + getD (args .under .now) (args .i) 0) (q .collateral)) (c .before .before .account-of .ensures)
 
 new-is : (c : tie.After-with-allocated) → (c .with-allocated) .result ≡ withAllocated (c .before .before .before .before .before .before .before .before .before .row-at .result) (lessKinds (c .before .before .before .before .before .before .before .before .before .row-at .result .allocated) (c .before .before .before .before .before .before .before .before .before .before .before .args .k))
 new-is c = c .with-allocated .ensures ∙ ap (withAllocated (c .before .before .before .before .before .before .before .before .before .row-at .result)) (c .before .less-kinds .ensures)
@@ -43,7 +44,9 @@ kinds-within-requires : tie.Need-kinds-within-requires
 kinds-within-requires c κs = search needs
 
 returns : tie.Need-returns
-returns c = refuses-all 11 (own (c .before .before .before .before .args .under .now) (c .before .before .before .before .args .i) (c .before .before .before .before .args .k)) _ (c .before .before .row-at .ensures) (here 11 _ _ (test-is (c .before) ∙ c .if1 .taken)) (λ z. omega arith)
+returns c =
+    let args = c .before .before .before .before .args in
+    refuses-all 11 (own (args .under .now) (args .i) (args .k)) _ (c .before .before .row-at .ensures) (here 11 _ _ (test-is (c .before) ∙ c .if1 .taken)) (λ z. omega arith)
 
 account-of-requires : tie.Need-account-of-requires
 account-of-requires c κs = ranged _ (c .before .before .before .before .pre .0) (c .before .before .row-at .ensures)
@@ -55,14 +58,17 @@ element-copy-out-free-with : tie.Need-element-copy-out-free-with
 element-copy-out-free-with c = search needs
 
 free-with-requires : tie.Need-free-with-requires
-free-with-requires c κs = (rw (c .before .account-of .ensures) (omega (arith, ranged _ (c .before .before .before .before .before .before .pre .0) (c .before .before .before .before .row-at .ensures))), omega (arith, c .before .before .before .before .before .before .pre .0 .most (c .before .before .before .before .before .before .args .i)))
+free-with-requires c κs =
+    let pre = c .before .before .before .before .before .before .pre in
+    (rw (c .before .account-of .ensures) (omega (arith, ranged _ (pre .0) (c .before .before .before .before .row-at .ensures))), omega (arith, pre .0 .most (c .before .before .before .before .before .before .args .i)))
 
 added-up-requires : tie.Need-added-up-requires
 added-up-requires c κs = search needs
 
 returns-2 : tie.Need-returns-2
 returns-2 c =
-    refuses-all 12 (own (c .before .before .before .before .before .before .before .before .before .args .under .now) (c .before .before .before .before .before .before .before .before .before .args .i) (c .before .before .before .before .before .before .before .before .before .args .k)) _ (c .before .before .before .before .before .before .before .row-at .ensures)
+    let args = c .before .before .before .before .before .before .before .before .before .args in
+    refuses-all 12 (own (args .under .now) (args .i) (args .k)) _ (c .before .before .before .before .before .before .before .row-at .ensures)
     (next 11 _ _ 12 (test-is (c .before .before .before .before .before .before) ∙ c .before .before .before .before .before .if1 .left) (here 12 _ _ (rw (← free-is (c .before .before), ← c .before .added-up .ensures) (lt-ltb _ _ (c .if2 .taken))))) (λ z. omega arith)
 
 less-kinds-requires : tie.Need-less-kinds-requires
@@ -82,11 +88,14 @@ put-kinds-requires c κs = (omega arith, c .before .before .before .before .befo
 
 returns-3 : tie.Need-returns-3
 returns-3 c =
-    moves (λ q. withAllocated q (lessKinds (q .allocated) (c .before .before .before .before .before .before .before .before .before .before .before .before .before .before .before .before .before .args .k))) (own (c .before .before .before .before .before .before .before .before .before .before .before .before .before .before .before .before .before .args .under .now) (c .before .before .before .before .before .before .before .before .before .before .before .before .before .before .before .before .before .args .i) (c .before .before .before .before .before .before .before .before .before .before .before .before .before .before .before .before .before .args .k)) _ _ _ _ (c .before .before .before .before .before .before .before .before .before .before .before .before .before .before .before .row-at .ensures) (new-is (c .before .before .before .before .before .before))
+    let args = c .before .before .before .before .before .before .before .before .before .before .before .before .before .before .before .before .before .args in
+    let row-at = c .before .before .before .before .before .before .before .before .before .before .before .before .before .before .before .row-at in
+    let pre = c .before .before .before .before .before .before .before .before .before .before .before .before .before .before .before .before .before .pre in
+    moves (λ q. withAllocated q (lessKinds (q .allocated) (args .k))) (own (args .under .now) (args .i) (args .k)) _ _ _ _ (row-at .ensures) (new-is (c .before .before .before .before .before .before))
     (c .before .before .before .before .before .before .before .before .before .before .before .before .account-of .ensures) (c .before .before .before .account-of2 .ensures)
     (next 11 _ _ 0 (test-is (c .before .before .before .before .before .before .before .before .before .before .before .before .before .before) ∙ c .before .before .before .before .before .before .before .before .before .before .before .before .before .if1 .left) (next 12 _ _ 0 (rw (← free-is (c .before .before .before .before .before .before .before .before .before .before), ← c .before .before .before .before .before .before .before .before .before .added-up .ensures) (le-ltb _ _ (c .before .before .before .before .before .before .before .before .if2 .left))) none))
-    (allocated-anew (c .before .before .before .before .before .before .before .before .before .before .before .before .before .before .before .before .before .pre .0 .size) (c .before .before .before .before .before .before .before .before .before .before .before .before .before .before .before .before .before .pre .0 .inside) _ _
-    (new-is (c .before .before .before .before .before .before) ∙ ap (λ q. withAllocated q (lessKinds (q .allocated) (c .before .before .before .before .before .before .before .before .before .before .before .before .before .before .before .before .before .args .k))) (c .before .before .before .before .before .before .before .before .before .before .before .before .before .before .before .row-at .ensures)) (c .put-kinds .ensures))
+    (allocated-anew (pre .0 .size) (pre .0 .inside) _ _
+    (new-is (c .before .before .before .before .before .before) ∙ ap (λ q. withAllocated q (lessKinds (q .allocated) (args .k))) (row-at .ensures)) (c .put-kinds .ensures))
     (c .before .before .settle .ensures)
 
 pub release-spec : {M : Type 1} → statement M

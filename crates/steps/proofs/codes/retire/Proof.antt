@@ -1,10 +1,9 @@
 -- `steps::codes::retire` meets its contract.
-use mathlib.Core.Bool.{false, not, _||_}
-use mathlib.Core.Path.{_≡_, refl, sym, ap, _∙_}
+use mathlib.Core.Bool.{false, not}
+use mathlib.Core.Path.{_≡_, sym, ap, _∙_}
 use native.Mathlib.Omega.{arith}
 use borrow.Author.Tests.{eq-eqb, ne-eqb}
 use Rattle.sums.proofs.Choices.{or-left, or-right}
-use Rattle.rows.specs.Rows.{withLive}
 use Rattle.rows.specs.Ranges.{noAmounts}
 use Rattle.table.specs.Words.{marksFrom}
 use Rattle.table.proofs.RowsPut.{live-put}
@@ -37,9 +36,10 @@ tied-requires c κs = search needs
 
 returns-3 : tie.Need-returns-3
 returns-3 c =
+    let row-at = c .before .before .before .before .before .row-at in
     let a = (c .before .before .before .before .before .before .before .before .args) in
-    refuses 14 (λ q. retireLines q (a .a) (tiedIn (marksFrom (a .sort .now) (a .live .now) (a .tm .now)) (a .count) (a .a))) _ (c .before .before .before .before .before .row-at .ensures)
-    (next 8 _ _ 14 (ne-eqb _ 0 (c .before .before .before .before .before .before .before .if1 .left)) (here 14 _ _ (or-right (not (noAmounts (c .before .before .before .before .before .row-at .result))) (sym (c .before .tied .ensures) ∙ c .if3 .taken)))) (λ z. omega arith)
+    refuses 14 (λ q. retireLines q (a .a) (tiedIn (marksFrom (a .sort .now) (a .live .now) (a .tm .now)) (a .count) (a .a))) _ (row-at .ensures)
+    (next 8 _ _ 14 (ne-eqb _ 0 (c .before .before .before .before .before .before .before .if1 .left)) (here 14 _ _ (or-right (not (noAmounts (row-at .result))) (sym (c .before .tied .ensures) ∙ c .if3 .taken)))) (λ z. omega arith)
 
 with-live-requires : tie.Need-with-live-requires
 with-live-requires c κs = search needs
@@ -49,11 +49,12 @@ element-write-live c = search needs
 
 returns-4 : tie.Need-returns-4
 returns-4 c =
+    let pre = c .before .before .before .before .before .before .before .before .before .pre in
     let a = (c .before .before .before .before .before .before .before .before .before .args) in
     let m = marksFrom (a .sort .now) (a .live .now) (a .tm .now) in
     puts (λ q. retireLines q (a .a) (tiedIn m (a .count) (a .a))) _ (c .before .before .before .before .before .before .row-at .ensures)
     (next 8 _ _ 0 (ne-eqb _ 0 (c .before .before .before .before .before .before .before .before .if1 .left)) (next 14 _ _ 0 (rw (none-is (c .before .before .before .before .before) ∙ c .before .before .before .before .if2 .left) (sym (c .before .before .tied .ensures) ∙ c .before .if3 .left)) none))
-    (rw (c .with-live .ensures) (live-put m (a .w .now) (a .a) (c .before .before .before .before .before .before .before .before .before .pre .0) (c .before .before .before .before .before .before .before .before .before .pre .1) false))
+    (rw (c .with-live .ensures) (live-put m (a .w .now) (a .a) (pre .0) (pre .1) false))
 
 pub retire-spec : {M : Type 1} → statement M
 retire-spec =

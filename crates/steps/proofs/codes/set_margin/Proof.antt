@@ -1,15 +1,9 @@
 -- `steps::codes::set_margin` meets its contract.
-use mathlib.Core.List.{List}
 use mathlib.Core.Path.{_≡_, refl, sym, ap, _∙_}
-use Prim.Native.Nat.{ℕ, _+_, _≤_}
 use native.Mathlib.Omega.{arith}
-use lib.Dec.{ltb}
-use Rattle.sums.specs.Table.{Line}
-use Rattle.rows.specs.declared.Row.{Row}
 use Rattle.rows.specs.Rows.{accountOf, withMargin}
 use Rattle.rows.specs.Facts.{InRange}
-use Rattle.rules.specs.Inner.{topMargin}
-use Rattle.table.specs.Words.{marksFrom, rowIn}
+use Rattle.table.specs.Words.{marksFrom}
 use Rattle.steps.specs.Own.{accountIn, owedIn, overIn, settled, marginLines}
 use Rattle.steps.proofs.Made.{here, next, none, refuses-all, moves, settles, ranged, margin-anew, margin-in, over-is, cm-most}
 use borrow.Author.Needs.{needs}
@@ -20,7 +14,9 @@ top-is : (c : tie.After-account-of) → (let a = (c .before .before .before .bef
 top-is c = c .account-of .ensures ∙ ap accountOf (c .before .row-at2 .ensures)
 
 new-in : (c : tie.After-with-margin) → InRange (c .with-margin .result)
-new-in c = rw (c .with-margin .ensures) (margin-in _ _ (ranged _ (c .before .before .before .before .before .before .pre .0) (c .before .before .before .before .row-at .ensures)) (c .before .before .before .before .before .before .pre .1))
+new-in c =
+    let pre = c .before .before .before .before .before .before .pre in
+    rw (c .with-margin .ensures) (margin-in _ _ (ranged _ (pre .0) (c .before .before .before .before .row-at .ensures)) (pre .1))
 
 test-is : (c : tie.After-over-with) → (let a = (c .before .before .before .before .before .before .before .before .before .before .before .before .args) in overIn (marksFrom (a .sort .now) (a .live .now) (a .tm .now)) (a .w .now) (a .under .now) (a .i) (a .y) ≡ (c .over-with) .result)
 test-is c =
@@ -50,8 +46,10 @@ owed-after-requires c κs = settles _ _ _ _ (c .before .before .before .before .
 
 over-with-requires : tie.Need-over-with-requires
 over-with-requires c κs =
-    let g = settles _ _ _ _ (c .before .before .before .before .before .before .before .before .before .before .before .pre .0) (c .before .before .before .before .before .before .before .before .before .row-at .ensures) (c .before .before .before .before .account-of2 .ensures) (c .before .account-of3 .ensures) (new-in (c .before .before .before .before .before)) in
-    (rw (top-is (c .before .before .before .before .before .before)) (c .before .before .before .before .before .before .before .before .before .before .before .pre .0 .ranges 0 (omega arith) .margin), c .before .before .before .before .before .before .before .before .before .before .before .pre .1, cm-most (c .before .before .before .before .account-of2 .result) (c .before .account-of3 .result) _ (c .before .before .before .before .before .before .before .before .before .before .before .pre .0) (g .1) (g .3) (c .owed-after .ensures))
+    let pre = c .before .before .before .before .before .before .before .before .before .before .before .pre in
+    let account-of2 = c .before .before .before .before .account-of2 in
+    let g = settles _ _ _ _ (pre .0) (c .before .before .before .before .before .before .before .before .before .row-at .ensures) (account-of2 .ensures) (c .before .account-of3 .ensures) (new-in (c .before .before .before .before .before)) in
+    (rw (top-is (c .before .before .before .before .before .before)) (pre .0 .ranges 0 (omega arith) .margin), pre .1, cm-most (account-of2 .result) (c .before .account-of3 .result) _ (pre .0) (g .1) (g .3) (c .owed-after .ensures))
 
 returns : tie.Need-returns
 returns c =
@@ -78,12 +76,17 @@ element-write-w c = omega (arith, c .before .before .before .before .before .bef
 
 returns-2 : tie.Need-returns-2
 returns-2 c =
-    let a = (c .before .before .before .before .before .before .before .before .before .before .before .before .before .before .before .before .args) in
-    moves (λ q. withMargin q (a .y)) (λ q. marginLines (overIn (marksFrom (a .sort .now) (a .live .now) (a .tm .now)) (a .w .now) (a .under .now) (a .i) (a .y))) _ _ _ _ (c .before .before .before .before .before .before .before .before .before .before .before .before .before .before .row-at .ensures) (c .before .before .before .before .before .before .before .before .before .before .with-margin .ensures)
-    (c .before .before .before .before .before .before .before .before .before .account-of2 .ensures) (c .before .before .before .before .before .before .account-of3 .ensures) (next 13 _ _ 0 (test-is (c .before .before .before .before) ∙ c .before .before .before .if1 .left) none)
-    (margin-anew (c .before .before .before .before .before .before .before .before .before .before .before .before .before .before .before .before .pre .0 .size) (c .before .before .before .before .before .before .before .before .before .before .before .before .before .before .before .before .pre .0 .inside) _ _
-    (c .before .before .before .before .before .before .before .before .before .before .with-margin .ensures ∙ ap (λ q. withMargin q (c .before .before .before .before .before .before .before .before .before .before .before .before .before .before .before .before .args .y)) (c .before .before .before .before .before .before .before .before .before .before .before .before .before .before .row-at .ensures)) refl)
-    (c .put-owed .ensures ∙ ap (settled (a .under .now) (c .before .before .before .before .before .before .before .before .before .before .before .before .before .before .row-at .result .tm)) (c .before .before .before .before .before .owed-after .ensures) ∙ ap (λ q. settled (a .under .now) (q .tm) (owedIn (marksFrom (a .sort .now) (a .live .now) (a .tm .now)) (a .w .now) (a .under .now) (a .i) (c .before .before .before .before .before .before .before .before .before .account-of2 .result) (c .before .before .before .before .before .before .account-of3 .result))) (sym (c .before .before .before .before .before .before .before .before .before .account-of2 .ensures)))
+    let a = c .before .before .before .before .before .before .before .before .before .before .before .before .before .before .before .before .args in
+    let row-at = c .before .before .before .before .before .before .before .before .before .before .before .before .before .before .row-at in
+    let with-margin = c .before .before .before .before .before .before .before .before .before .before .with-margin in
+    let account-of2 = c .before .before .before .before .before .before .before .before .before .account-of2 in
+    let account-of3 = c .before .before .before .before .before .before .account-of3 in
+    let pre = c .before .before .before .before .before .before .before .before .before .before .before .before .before .before .before .before .pre in
+    moves (λ q. withMargin q (a .y)) (λ q. marginLines (overIn (marksFrom (a .sort .now) (a .live .now) (a .tm .now)) (a .w .now) (a .under .now) (a .i) (a .y))) _ _ _ _ (row-at .ensures) (with-margin .ensures)
+    (account-of2 .ensures) (account-of3 .ensures) (next 13 _ _ 0 (test-is (c .before .before .before .before) ∙ c .before .before .before .if1 .left) none)
+    (margin-anew (pre .0 .size) (pre .0 .inside) _ _
+    (with-margin .ensures ∙ ap (λ q. withMargin q (a .y)) (row-at .ensures)) refl)
+    (c .put-owed .ensures ∙ ap (settled (a .under .now) (row-at .result .tm)) (c .before .before .before .before .before .owed-after .ensures) ∙ ap (λ q. settled (a .under .now) (q .tm) (owedIn (marksFrom (a .sort .now) (a .live .now) (a .tm .now)) (a .w .now) (a .under .now) (a .i) (account-of2 .result) (account-of3 .result))) (sym (account-of2 .ensures)))
 
 pub set-margin-spec : {M : Type 1} → statement M
 set-margin-spec =

@@ -1,6 +1,6 @@
 -- `steps::codes::unpledge` meets its contract.
 use mathlib.Core.List.{List}
-use mathlib.Core.Path.{_≡_, refl, sym, ap, _∙_}
+use mathlib.Core.Path.{_≡_, refl, ap, _∙_}
 use Prim.Native.Nat.{ℕ, _+_, _-_}
 use native.Mathlib.Omega.{arith}
 use lib.ListN.{getD}
@@ -21,7 +21,9 @@ abbrev own : List ℕ → ℕ → ℕ → Row → List Line
 own under i y q = unpledgeLines q (freeOf (q .margin + getD under i 0) (collateral q)) y
 
 free-is : (c : tie.After-free-with) → (c .free-with) .result ≡ freeOf (c .before .before .before .before .before .row-at .result .margin + getD (c .before .before .before .before .before .before .before .args .under .now) (c .before .before .before .before .before .before .before .args .i) 0) (collateral (c .before .before .before .before .before .row-at .result))
-free-is c = c .free-with .ensures ∙ ap (λ q. freeOf (q .margin + getD (c .before .before .before .before .before .before .before .args .under .now) (c .before .before .before .before .before .before .before .args .i) 0) (q .collateral)) (c .before .before .account-of .ensures)
+free-is c =
+    let args = c .before .before .before .before .before .before .before .args in
+    c .free-with .ensures ∙ ap (λ q. freeOf (q .margin + getD (args .under .now) (args .i) 0) (q .collateral)) (c .before .before .account-of .ensures)
 
 new-in : (c : tie.After-with-pledged) → InRange (c .with-pledged .result)
 new-in c =
@@ -32,7 +34,9 @@ row-at-requires : tie.Need-row-at-requires
 row-at-requires c κs = search needs
 
 returns : tie.Need-returns
-returns c = refuses-all 11 (own (c .before .before .before .before .args .under .now) (c .before .before .before .before .args .i) (c .before .before .before .before .args .y)) _ (c .before .before .row-at .ensures) (here 11 _ _ (lt-ltb _ _ (c .if1 .taken))) (λ z. omega arith)
+returns c =
+    let args = c .before .before .before .before .args in
+    refuses-all 11 (own (args .under .now) (args .i) (args .y)) _ (c .before .before .row-at .ensures) (here 11 _ _ (lt-ltb _ _ (c .if1 .taken))) (λ z. omega arith)
 
 account-of-requires : tie.Need-account-of-requires
 account-of-requires c κs = ranged _ ((c .before .before .before .before .pre)) (c .before .before .row-at .ensures)
@@ -44,11 +48,14 @@ element-copy-out-free-with : tie.Need-element-copy-out-free-with
 element-copy-out-free-with c = search needs
 
 free-with-requires : tie.Need-free-with-requires
-free-with-requires c κs = (rw (c .before .account-of .ensures) (omega (arith, ranged _ ((c .before .before .before .before .before .before .pre)) (c .before .before .before .before .row-at .ensures))), omega (arith, c .before .before .before .before .before .before .pre .most (c .before .before .before .before .before .before .args .i)))
+free-with-requires c κs =
+    let pre = c .before .before .before .before .before .before .pre in
+    (rw (c .before .account-of .ensures) (omega (arith, ranged _ pre (c .before .before .before .before .row-at .ensures))), omega (arith, pre .most (c .before .before .before .before .before .before .args .i)))
 
 returns-2 : tie.Need-returns-2
 returns-2 c =
-    refuses-all 12 (own (c .before .before .before .before .before .before .before .before .args .under .now) (c .before .before .before .before .before .before .before .before .args .i) (c .before .before .before .before .before .before .before .before .args .y)) _ (c .before .before .before .before .before .before .row-at .ensures)
+    let args = c .before .before .before .before .before .before .before .before .args in
+    refuses-all 12 (own (args .under .now) (args .i) (args .y)) _ (c .before .before .before .before .before .before .row-at .ensures)
     (next 11 _ _ 12 (le-ltb _ _ (c .before .before .before .before .if1 .left)) (here 12 _ _ (rw (← free-is (c .before)) (lt-ltb _ _ (c .if2 .taken))))) (λ z. omega arith)
 
 with-pledged-requires : tie.Need-with-pledged-requires
@@ -74,11 +81,15 @@ element-write-w c = omega (arith, c .before .before .before .before .before .bef
 
 returns-3 : tie.Need-returns-3
 returns-3 c =
-    moves (λ q. withPledged q (q .pledged - (c .before .before .before .before .before .before .before .before .before .before .before .before .before .before .args) .y)) (own (c .before .before .before .before .before .before .before .before .before .before .before .before .before .before .args .under .now) (c .before .before .before .before .before .before .before .before .before .before .before .before .before .before .args .i) (c .before .before .before .before .before .before .before .before .before .before .before .before .before .before .args .y)) _ _ _ _ (c .before .before .before .before .before .before .before .before .before .before .before .before .row-at .ensures) (c .before .before .before .before .with-pledged .ensures)
+    let args = c .before .before .before .before .before .before .before .before .before .before .before .before .before .before .args in
+    let row-at = c .before .before .before .before .before .before .before .before .before .before .before .before .row-at in
+    let with-pledged = c .before .before .before .before .with-pledged in
+    let pre = c .before .before .before .before .before .before .before .before .before .before .before .before .before .before .pre in
+    moves (λ q. withPledged q (q .pledged - args .y)) (own (args .under .now) (args .i) (args .y)) _ _ _ _ (row-at .ensures) (with-pledged .ensures)
     (c .before .before .before .before .before .before .before .before .before .account-of .ensures) (c .before .account-of2 .ensures)
     (next 11 _ _ 0 (le-ltb _ _ (c .before .before .before .before .before .before .before .before .before .before .if1 .left)) (next 12 _ _ 0 (rw (← free-is (c .before .before .before .before .before .before .before)) (le-ltb _ _ (c .before .before .before .before .before .before .if2 .left))) none))
-    (pledged-anew (c .before .before .before .before .before .before .before .before .before .before .before .before .before .before .pre .size) (c .before .before .before .before .before .before .before .before .before .before .before .before .before .before .pre .inside) _ _
-    (c .before .before .before .before .with-pledged .ensures ∙ ap (λ q. withPledged q (q .pledged - (c .before .before .before .before .before .before .before .before .before .before .before .before .before .before .args) .y)) (c .before .before .before .before .before .before .before .before .before .before .before .before .row-at .ensures)) refl)
+    (pledged-anew (pre .size) (pre .inside) _ _
+    (with-pledged .ensures ∙ ap (λ q. withPledged q (q .pledged - args .y)) (row-at .ensures)) refl)
     (c .settle .ensures)
 
 pub unpledge-spec : {M : Type 1} → statement M

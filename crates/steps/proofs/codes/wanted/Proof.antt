@@ -1,5 +1,4 @@
 -- `steps::codes::wanted` meets its contract.
-use mathlib.Core.Path.{_≡_, refl}
 use borrow.Author.Tests.{eq-eqb, ne-eqb}
 use Rattle.sums.specs.Choice.{pick}
 use Rattle.steps.proofs.codes.wanted.Statement.{statement}

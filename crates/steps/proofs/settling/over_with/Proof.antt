@@ -1,6 +1,5 @@
 -- `steps::settling::over_with` meets its contract.
 use mathlib.Core.Bool.{not}
-use mathlib.Core.Path.{_≡_, refl}
 use native.Mathlib.Omega.{arith}
 use lib.Dec.{eqb}
 use Rattle.sums.proofs.Sums.{only-most}

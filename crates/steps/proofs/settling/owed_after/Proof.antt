@@ -1,10 +1,9 @@
 -- `steps::settling::owed_after` meets its contract.
-use mathlib.Core.Path.{_≡_, refl, ap, _∙_}
-use Prim.Native.Nat.{_≤_}
+use mathlib.Core.Path.{_≡_, ap, _∙_}
 use native.Mathlib.Omega.{arith}
 use Rattle.rows.specs.Rows.{accountOf}
 use Rattle.rows.specs.Facts.{InRange}
-use Rattle.table.specs.Words.{marksFrom, rowIn}
+use Rattle.table.specs.Words.{marksFrom}
 use Rattle.steps.specs.Own.{accountIn}
 use borrow.Author.Needs.{needs}
 use Rattle.steps.proofs.settling.owed_after.Statement.{statement}
@@ -42,15 +41,18 @@ element-copy-out-all c = search needs
 
 under-tm-requires : tie.Need-under-tm-requires
 under-tm-requires c κs =
-    let o = c .before .before .before .before .before .before .pre .0 .most in
-    (omega (arith, (c .before .before .before .before .before .before .pre)), omega (arith, o (c .before .before .before .before .before .before .args .old .tm)))
+    let pre = c .before .before .before .before .before .before .pre in
+    let o = pre .0 .most in
+    (omega (arith, pre), omega (arith, o (c .before .before .before .before .before .before .args .old .tm)))
 
 under-cm-requires : tie.Need-under-cm-requires
 under-cm-requires c κs =
-    let o = c .before .before .before .before .before .before .before .pre .0 .most in
+    let pre = c .before .before .before .before .before .before .before .pre in
+    let args = c .before .before .before .before .before .before .before .args in
+    let o = pre .0 .most in
     let m = member-in (c .before .before .before .before .before) .margin in (
-      (omega (arith, (c .before .before .before .before .before .before .before .pre)), omega (arith, (c .before .before .before .before .before .before .before .pre)), rw (c .before .before .before .before .account-of .ensures) (omega (arith, m))),
-      (omega (arith, o (c .before .before .before .before .before .before .before .args .i)), omega (arith, o (c .before .before .before .before .before .before .before .args .old .tm)), omega (arith, o 0)),
+      (omega (arith, pre), omega (arith, pre), rw (c .before .before .before .before .account-of .ensures) (omega (arith, m))),
+      (omega (arith, o (args .i)), omega (arith, o (args .old .tm)), omega (arith, o 0)),
     )
 
 returns : tie.Need-returns
