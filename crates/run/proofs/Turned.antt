@@ -5,7 +5,8 @@ use Prim.Native.Nat.{ℕ}
 use Rattle.rows.specs.declared.Book.{Book}
 use Rattle.rows.specs.Rows.{places}
 use Rattle.table.specs.declared.Table.{Table}
-use Rattle.table.specs.Words.{turned, turnedBack}
+use Rattle.table.specs.Words.{marksOf, turned, turnedBack}
+use Rattle.table.specs.Facts.{Sized}
 use Rattle.table.proofs.Turning.{over-and-back, back-and-over, turned-sized}
 use Rattle.run.specs.declared.Ran.{Ran}
 use Rattle.run.specs.declared.Ended.{Ended}
@@ -26,3 +27,8 @@ back-ran b s most x h e =
     ap backRan e
     ∙ ap (λ c. record { book = c; place = ranOf b s most .place; closing = ranOf b s most .closing; read = ranOf b s most .read; done = ranOf b s most .done })
     (over-and-back (ranOf b s most .book) (ran-places b s most h))
+
+-- the words that a run left are those of its book, turned over
+pub left-over : (x : Ended) (r : Ran) → Sized (marksOf (x .table)) (x .table .amounts) → backRan x ≡ r → x ≡ overRan r
+left-over x r h e =
+    ap (λ (t : Table). record { table = t; place = x .place; closing = x .closing; read = x .read; done = x .done }) (sym (back-and-over (x .table) h)) ∙ ap overRan e

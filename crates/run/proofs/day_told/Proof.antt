@@ -1,4 +1,4 @@
--- `run::day_told_rows` meets its contract.
+-- `run::day_told` meets its contract.
 use borrow.Author.Tests.{not-true, not-false}
 use mathlib.Core.Bool.{true}
 use mathlib.Core.Path.{_≡_, refl, sym, ap, _∙_}
@@ -10,17 +10,19 @@ use Rattle.book.specs.Sound.{soundB}
 use Rattle.book.proofs.SoundTest.{sound→}
 use Rattle.run.specs.Runs.{runOf}
 use Rattle.run.specs.Told.{roomFor}
+use Rattle.table.specs.Words.{turnedBack}
+use Rattle.run.specs.Over.{overRan}
 use Rattle.run.proofs.Tellings.{ran-unsound, ran-sound, told-unsound, told-sound}
 use borrow.Author.Needs.{needs}
-use Rattle.run.proofs.day_told_rows.Statement.{statement}
-use Rattle.run.proofs.day_told_rows.Tie as tie
+use Rattle.run.proofs.day_told.Statement.{statement}
+use Rattle.run.proofs.day_told.Tie as tie
 
 -- past the first test
-tested : (c : tie.Else1) → soundB (c .before .before .before .before .args .b) ≡ true
-tested c = sym (c .before .is-sound-rows .ensures) ∙ not-false _ (c .if1 .left)
+tested : (c : tie.Else1) → soundB (turnedBack (c .before .before .before .before .args .t)) ≡ true
+tested c = sym (c .before .is-sound .ensures) ∙ not-false _ (c .if1 .left)
 
-is-sound-rows-requires : tie.Need-is-sound-rows-requires
-is-sound-rows-requires c κs = search needs
+is-sound-requires : tie.Need-is-sound-requires
+is-sound-requires c κs = search needs
 
 unsound-requires : tie.Need-unsound-requires
 unsound-requires c κs = search needs
@@ -28,8 +30,8 @@ unsound-requires c κs = search needs
 returns : tie.Need-returns
 returns c =
     let a = c .before .before .before .before .before .args in
-    let e = sym (c .before .before .is-sound-rows .ensures) ∙ not-true _ (c .before .if1 .taken) in
-    (c .unsound .ensures ∙ ran-unsound (a .b) (a .piece .now) _ e, told-unsound (a .b) (a .piece .now) (a .most) (a .room .now) e)
+    let e = sym (c .before .before .is-sound .ensures) ∙ not-true _ (c .before .if1 .taken) in
+    (c .unsound .ensures ∙ ap overRan (ran-unsound (turnedBack (a .t)) (a .piece .now) _ e), told-unsound (turnedBack (a .t)) (a .piece .now) (a .most) (a .room .now) e)
 
 run-requires : tie.Need-run-requires
 run-requires c κs = (sound→ _ (tested (c .before .before)), λ t. omega arith)
@@ -42,8 +44,8 @@ returns-2 c =
     let a = c .before .before .before .before .before .before .before .before .before .args in
     let t = tested (c .before .before .before .before .before) in
     let n : a .most ≡ roomFor (a .most) (a .room .now) = omega (arith, c .before .before .before .before .if2 .taken) in (
-      c .before .before .run .ensures .0 ∙ ap (λ m. runOf (a .piece .now) m (a .b) 0 0 0) n ∙ ran-sound (a .b) (a .piece .now) _ t,
-      c .before .before .run .ensures .1 ∙ pick-yes true _ _ refl ∙ told-sound (a .b) (a .piece .now) (a .most) (a .room .now) _ n t,
+      c .before .before .run .ensures .0 ∙ ap overRan (ap (λ m. runOf (a .piece .now) m (turnedBack (a .t)) 0 0 0) n ∙ ran-sound (turnedBack (a .t)) (a .piece .now) _ t),
+      c .before .before .run .ensures .1 ∙ pick-yes true _ _ refl ∙ told-sound (turnedBack (a .t)) (a .piece .now) (a .most) (a .room .now) _ n t,
     )
 
 run-requires-2 : tie.Need-run-requires-2
@@ -57,15 +59,15 @@ returns-3 c =
     let a = c .before .before .before .before .before .before .before .before .before .args in
     let t = tested (c .before .before .before .before .before) in
     let n : length (a .room .now) / 5 ≡ roomFor (a .most) (a .room .now) = omega (arith, c .before .before .before .before .if2 .left) in (
-      c .before .before .run2 .ensures .0 ∙ ap (λ m. runOf (a .piece .now) m (a .b) 0 0 0) n ∙ ran-sound (a .b) (a .piece .now) _ t,
-      c .before .before .run2 .ensures .1 ∙ pick-yes true _ _ refl ∙ told-sound (a .b) (a .piece .now) (a .most) (a .room .now) _ n t,
+      c .before .before .run2 .ensures .0 ∙ ap overRan (ap (λ m. runOf (a .piece .now) m (turnedBack (a .t)) 0 0 0) n ∙ ran-sound (turnedBack (a .t)) (a .piece .now) _ t),
+      c .before .before .run2 .ensures .1 ∙ pick-yes true _ _ refl ∙ told-sound (turnedBack (a .t)) (a .piece .now) (a .most) (a .room .now) _ n t,
     )
 
-pub day-told-rows-spec : {M : Type 1} → statement M
-day-told-rows-spec =
+pub day-told-spec : {M : Type 1} → statement M
+day-told-spec =
     tie.close
     (tie.spec
-    is-sound-rows-requires
+    is-sound-requires
     unsound-requires
     returns
     run-requires
