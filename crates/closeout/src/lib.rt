@@ -2,9 +2,10 @@
 ghost use mathlib.Core.Path.{_≡_};
 ghost use Prim.Native.Nat.{_≤_};
 ghost use lib.ListN.{length};
+ghost use Rattle.book.specs.Facts.{Sound};
 ghost use Rattle.table.specs.Words.{turnedBack};
 ghost use Rattle.closeout.specs.Closing.{goodLoss, goodLosses, noTotal, closedOf, roomOf};
-use book::is_sound_rows;
+use book::is_sound;
 use rows::Book;
 use rows::CEILING;
 use rows::Row;
@@ -47,13 +48,11 @@ fn refused(n: u8) -> Closed
     }
 }
 
-fn close_out_rows(b: Book, losses: &[u64], room: &mut [u64]) -> Closed
-    ensures answer { λ x. ⌜ x ≡ closedOf b (now (losses .entry)) (now (room .entry)) ⌝ }
-    ensures rows { λ _. ⌜ now (room .exit) ≡ roomOf b (now (losses .entry)) (now (room .entry)) ⌝ }
+fn close_out_at(b: Book, losses: &[u64], room: &mut [u64]) -> Closed
+    requires { ⌜ Sound b ⌝ }
+    ensures { λ x. ⌜ x ≡ closedOf b (now (losses .entry)) (now (room .entry)) ⌝ }
+    ensures { λ _. ⌜ now (room .exit) ≡ roomOf b (now (losses .entry)) (now (room .entry)) ⌝ }
 {
-    if !is_sound_rows(b) {
-        return refused(1);
-    }
     let n = b.count as usize;
     if losses.len() != n {
         return refused(15);
@@ -75,5 +74,8 @@ pub fn close_out(t: Table, losses: &[u64], room: &mut [u64]) -> Closed
     ensures answer { λ x. ⌜ x ≡ closedOf (turnedBack t) (now (losses .entry)) (now (room .entry)) ⌝ }
     ensures rows { λ _. ⌜ now (room .exit) ≡ roomOf (turnedBack t) (now (losses .entry)) (now (room .entry)) ⌝ }
 {
-    close_out_rows(table::turn_back(t), losses, room)
+    if !is_sound(t) {
+        return refused(1);
+    }
+    close_out_at(table::turn_back(t), losses, room)
 }
