@@ -3,6 +3,10 @@ use rows::Book;
 use rows::Kinds;
 use rows::Row;
 
+pub(crate) fn fresh() -> Book {
+    table::turn_back(book::fresh())
+}
+
 fn cash(amount: u64) -> Kinds {
     Kinds {
         cash: amount,
@@ -32,7 +36,7 @@ fn retired(sort: u8, tm: u16) -> Row {
 
 // The book of 004 Annexure 4: CM 1000, TM-1 500, A 300 and B 300, in rupees.
 fn annexure(margin_a: u64, margin_b: u64) -> Book {
-    let mut b = book::fresh();
+    let mut b = fresh();
     b.rows[0] = row(0, 0, 100_000, 0);
     b.rows[1] = row(1, 0, 50_000, 0);
     b.rows[2] = row(2, 1, 30_000, margin_a);
@@ -54,7 +58,7 @@ pub(crate) fn margin_of_a() -> Book {
 // Every account with a margin: CM 100 with margin 10, a TM 50 with 20, its clients 10 and 30 with 25 and 30, a CP 20 with 30, a TM with
 // nothing and margin 5. Blocked: of the first TM's collateral 35, of the CM's 25.
 pub(crate) fn margins() -> Book {
-    let mut b = book::fresh();
+    let mut b = fresh();
     b.rows[0] = row(0, 0, 100, 10);
     b.rows[1] = row(1, 0, 50, 20);
     b.rows[2] = row(2, 1, 10, 25);
@@ -67,7 +71,7 @@ pub(crate) fn margins() -> Book {
 
 // CM, a TM, a CP, a client of the first TM, a second TM, its client, a CP with nothing.
 pub(crate) fn mixed() -> Book {
-    let mut b = book::fresh();
+    let mut b = fresh();
     b.rows[0] = row(0, 0, 100, 0);
     b.rows[1] = row(1, 0, 50, 0);
     b.rows[2] = row(3, 0, 20, 0);
@@ -81,7 +85,7 @@ pub(crate) fn mixed() -> Book {
 
 // CM 100, a TM, a CP and a client of the TM with nothing.
 pub(crate) fn by_number() -> Book {
-    let mut b = book::fresh();
+    let mut b = fresh();
     b.rows[0] = row(0, 0, 100, 0);
     b.rows[1] = row(1, 0, 0, 0);
     b.rows[2] = row(3, 0, 0, 0);
@@ -92,7 +96,7 @@ pub(crate) fn by_number() -> Book {
 
 // CM, a TM, a retired client of it, a live one, a retired CP.
 pub(crate) fn with_retired() -> Book {
-    let mut b = book::fresh();
+    let mut b = fresh();
     b.rows[0] = row(0, 0, 100, 0);
     b.rows[1] = row(1, 0, 50, 0);
     b.rows[2] = retired(2, 1);
@@ -104,7 +108,7 @@ pub(crate) fn with_retired() -> Book {
 
 // A client that names a TM which comes after it.
 pub(crate) fn unsound() -> Book {
-    let mut b = book::fresh();
+    let mut b = fresh();
     b.rows[1] = row(2, 2, 0, 0);
     b.rows[2] = row(1, 0, 0, 0);
     b.count = 3;
@@ -113,7 +117,7 @@ pub(crate) fn unsound() -> Book {
 
 // The same two accounts the other way round.
 pub(crate) fn sound_again() -> Book {
-    let mut b = book::fresh();
+    let mut b = fresh();
     b.rows[1] = row(1, 0, 0, 0);
     b.rows[2] = row(2, 1, 0, 0);
     b.count = 3;

@@ -39,7 +39,7 @@ fn figures() {
     annexure(b"P7", &[0, 0, 60_000, 90_000]);
     annexure(b"P8", &[0, 0, 120_000, 120_000]);
     let mut room = [7u64; 4];
-    show::case(b"fresh", book::fresh(), &[5], &mut room);
+    show::case(b"fresh", books::fresh(), &[5], &mut room);
 }
 
 // What is blocked for an account stays for it: losses at the margins, a paisa beyond and a paisa within, and one account's loss alone.
@@ -116,7 +116,7 @@ fn sound_first() {
 fn full() {
     let losses = [3u64; 256];
     let mut room = [7u64; 1024];
-    let c = closeout::close_out(books::full(), &losses, &mut room);
+    let c = closeout::close_out(table::turn(books::full()), &losses, &mut room);
     show::begin(b"256 accounts, some rows", c);
     show::cells(&room[0..12]);
     show::cells(&room[96..108]);

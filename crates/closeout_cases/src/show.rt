@@ -31,7 +31,7 @@ pub(crate) fn cells(room: &[u64]) {
 }
 
 pub(crate) fn case(name: &[u8], b: Book, losses: &[u64], room: &mut [u64]) {
-    begin(name, closeout::close_out(b, losses, room));
+    begin(name, closeout::close_out(table::turn(b), losses, room));
     cells(room);
     end();
 }

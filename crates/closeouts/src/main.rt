@@ -5,17 +5,18 @@ ghost use Prim.Native.Nat.{_≤_};
 ghost use lib.ListN.{length, replicate};
 ghost use Rattle.sums.specs.Room.{over};
 ghost use Rattle.report.specs.Reports.{accounts as Reports·accounts};
+ghost use Rattle.table.specs.Words.{turnedBack};
 ghost use Rattle.closeouts.specs.Texts.{textOf};
 use libc::STDOUT_FILENO;
-use rows::Book;
+use table::Table;
 
 mod losses;
 
 // How many accounts have a row.
-fn accounts(b: Book) -> usize
-    ensures { λ n. ⌜ n ≡ Reports·accounts (b .count) ⌝ }
+fn accounts(t: Table) -> usize
+    ensures { λ n. ⌜ n ≡ Reports·accounts (t .count) ⌝ }
 {
-    let n = b.count as usize;
+    let n = t.count as usize;
     if n < 256 { n } else { 256 }
 }
 
@@ -26,13 +27,13 @@ fn zeros() -> [u64; 1024]
 }
 
 // The lines of the close-out: how long they are, and the lines in the room.
-fn close_out_text(b: Book, losses: &[u64], room: &mut [u8; 65536]) -> usize
-    ensures { λ n. ⌜ n ≡ length (textOf b (now (losses .entry))) ⌝ }
-    ensures { λ _. ⌜ now (room .exit) ≡ over (textOf b (now (losses .entry))) (now (room .entry)) ⌝ }
+fn close_out_text(t: Table, losses: &[u64], room: &mut [u8; 65536]) -> usize
+    ensures { λ n. ⌜ n ≡ length (textOf (turnedBack t) (now (losses .entry))) ⌝ }
+    ensures { λ _. ⌜ now (room .exit) ≡ over (textOf (turnedBack t) (now (losses .entry))) (now (room .entry)) ⌝ }
 {
     let mut amounts = zeros();
-    let wanted = 4 * accounts(b);
-    let closed = closeout::close_out(b, losses, &mut amounts[..wanted]);
+    let wanted = 4 * accounts(t);
+    let closed = closeout::close_out(t, losses, &mut amounts[..wanted]);
     report::close_out_text(
         closed.refusal,
         closed.total,
@@ -42,12 +43,12 @@ fn close_out_text(b: Book, losses: &[u64], room: &mut [u8; 65536]) -> usize
     )
 }
 
-fn close_out(b: Book, list: [u64; 256], count: usize)
+fn close_out(t: Table, list: [u64; 256], count: usize)
     requires { ⌜ count ≤ 256 ⌝ }
 {
     let losses = list;
     let mut room = [0u8; 65536];
-    let n = close_out_text(b, &losses[..count], &mut room);
+    let n = close_out_text(t, &losses[..count], &mut room);
     io::write_all(STDOUT_FILENO, &room[..n]);
 }
 
@@ -62,8 +63,8 @@ fn main() {
     }
     let day = feed::whole_day(false);
     let word = day.closing;
-    let book = day.book;
+    let table = day.table;
     let list = losses.list;
     report::closing(word, day.read, day.done);
-    close_out(book, list, losses.count);
+    close_out(table, list, losses.count);
 }

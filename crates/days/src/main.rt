@@ -44,9 +44,9 @@ fn size() -> Next
 fn run_day(bytes: &[u8]) {
     let ran = feed::carry(book::fresh(), bytes, feed::MILLION, true);
     let word = ran.closing;
-    let book = ran.book;
+    let table = ran.table;
     report::closing(word, ran.read, ran.done);
-    report::standings(book);
+    report::standings(table);
 }
 
 // Reads the next day and runs it, and answers whether there was one. What is cut short ends the bundle.

@@ -43,9 +43,9 @@ pub const MARGIN: u8 = 32;
 // What stands at a place of the first n bytes of a piece.
 pub fn carried(b: Book, piece: &[u8], n: usize, place: usize) -> Next {
     if n <= piece.len() {
-        return desk::carry_out_next(b, &piece[..n], place);
+        return crate::turned::carry_out_next(b, &piece[..n], place);
     }
-    desk::carry_out_next(b, piece, place)
+    crate::turned::carry_out_next(b, piece, place)
 }
 
 fn told(b: Book, piece: [u8; 70], n: usize, place: usize) -> Book {

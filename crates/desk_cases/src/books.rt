@@ -23,7 +23,7 @@ fn opened(b: Book, code: u8, account: u16) -> Book {
 
 // The CM, TM 1, its client 2, CP 3.
 pub fn four() -> Book {
-    let b = opened(book::fresh(), 1, 0);
+    let b = opened(crate::turned::fresh(), 1, 0);
     let b = opened(b, 2, 1);
     opened(b, 3, 0)
 }
@@ -38,7 +38,7 @@ pub fn funded() -> Book {
 
 // Document 01's figures: CM 1000, TM-1 500, its clients A 300 and B 300, in rupees of allocated cash.
 pub fn annexure() -> Book {
-    let b = opened(book::fresh(), 1, 0);
+    let b = opened(crate::turned::fresh(), 1, 0);
     let b = opened(b, 2, 1);
     let b = opened(b, 2, 1);
     let b = given(b, CASH, 0, 100_000);
@@ -49,7 +49,7 @@ pub fn annexure() -> Book {
 
 // TM 1 and clients of it up to number 254.
 pub fn nearly_full() -> Book {
-    let mut b = opened(book::fresh(), 1, 0);
+    let mut b = opened(crate::turned::fresh(), 1, 0);
     let mut i: u16 = 2;
     while i < 255 {
         b = opened(b, 2, 1);

@@ -19,7 +19,7 @@ use rows::Book;
 use rows::Kinds;
 
 fn hand(b: Book, r: Record) -> Book {
-    let done = desk::carry_out(b, r);
+    let done = crate::turned::carry_out(b, r);
     let answer = done.answer;
     let after = done.book;
     words::values(r);

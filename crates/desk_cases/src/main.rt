@@ -13,6 +13,7 @@ mod pieces;
 mod retired;
 mod serials;
 mod shown;
+mod turned;
 mod words;
 
 fn main() {

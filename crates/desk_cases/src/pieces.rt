@@ -5,7 +5,7 @@ use crate::shown;
 
 // As many times as said, what stands at the place reached, from a fresh book.
 fn run(piece: &[u8], n: usize, times: u8) {
-    let mut b = book::fresh();
+    let mut b = crate::turned::fresh();
     let mut place: usize = 0;
     let mut i: u8 = 0;
     while i < times {

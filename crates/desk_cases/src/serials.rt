@@ -8,7 +8,7 @@ use crate::shown;
 
 fn cuts() {
     shown::heading(b"2: too few bytes (P11: 0xFF)");
-    let b = book::fresh();
+    let b = crate::turned::fresh();
     let b = ask_bytes(b, OPEN_TM, 0, 0, 0, 0);
     let b = ask_bytes(b, OPEN_TM, 0, 0, 1, 0);
     let b = ask_bytes(b, OPEN_TM, 0, 0, 5, 0);
@@ -25,7 +25,7 @@ fn cuts() {
 
 fn others() {
     shown::heading(b"3: another serial than the next, which is 1");
-    let mut b = book::fresh();
+    let mut b = crate::turned::fresh();
     b.serial = 1;
     let b = ask_serial(b, RECEIVE, CASH, 0);
     let b = ask_serial(b, RECEIVE, CASH, 2);
@@ -36,7 +36,7 @@ fn others() {
 
 fn wrap() {
     shown::heading(b"the serial after 65535 is 0");
-    let mut last = book::fresh();
+    let mut last = crate::turned::fresh();
     last.serial = 65535;
     let b = ask_serial(last, OPEN_TM, 0, 0);
     let b = ask_serial(b, OPEN_TM, 0, 65535);

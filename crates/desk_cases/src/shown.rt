@@ -61,7 +61,7 @@ pub fn next(a: Answer, before: Book, after: Book, place: usize) {
 
 // An account's collateral, need, blocked, deemed and free.
 pub fn figures(text: &[u8], b: Book, account: u16) {
-    let s = book::standing(b, account);
+    let s = crate::turned::standing(b, account);
     say(text);
     number(s.collateral);
     number(s.need);
@@ -74,7 +74,7 @@ pub fn standing(b: Book, account: u16) {
     say(b"   standing of");
     number(account as u64);
     say(b": refusal");
-    number(book::standing(b, account).refusal as u64);
+    number(crate::turned::standing(b, account).refusal as u64);
     figures(b",", b, account);
     end_line();
 }

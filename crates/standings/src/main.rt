@@ -2,7 +2,7 @@
 fn main() {
     let day = feed::whole_day(false);
     let word = day.closing;
-    let book = day.book;
+    let table = day.table;
     report::closing(word, day.read, day.done);
-    report::standings(book);
+    report::standings(table);
 }

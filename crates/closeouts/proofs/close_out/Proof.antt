@@ -5,6 +5,7 @@ use Prim.Native.Nat.{_≤_}
 use lib.ListN.{length, take}
 use lib.Seq.{length-take-le}
 use Rattle.report.proofs.Puts.{front}
+use Rattle.table.specs.Words.{turnedBack}
 use Rattle.closeouts.specs.Texts.{textOf}
 use Rattle.closeouts.proofs.close_out.Statement.{statement}
 use Rattle.closeouts.proofs.close_out.Tie as tie
@@ -12,7 +13,7 @@ use Rattle.closeouts.proofs.close_out.Tie as tie
 fits : (c : tie.After-close-out-text) → c .close-out-text .result ≤ length (c .close-out-text .last .1 .1 .0)
 fits c =
     let a = c .before .before .before .args in
-    front _ (textOf (a .b) (take (a .count) (a .list))) _ _ (c .close-out-text .ensures .0) (c .close-out-text .ensures .1)
+    front _ (textOf (turnedBack (a .t)) (take (a .count) (a .list))) _ _ (c .close-out-text .ensures .0) (c .close-out-text .ensures .1)
 
 array-share-prefix-losses : tie.Need-array-share-prefix-losses
 array-share-prefix-losses c = search needs
