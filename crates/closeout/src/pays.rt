@@ -4,6 +4,7 @@ ghost use Prim.Native.Nat.{_+_, _≤_, min};
 ghost use lib.ListN.{length};
 ghost use Rattle.rows.specs.Rows.{accountOf, view};
 ghost use Rattle.rows.specs.Facts.{InRange};
+ghost use Rattle.rows.specs.Under.{Under};
 ghost use Rattle.closeout.specs.Columns.{four, rowsTo, total};
 ghost use Rattle.closeout.specs.Closing.{lossAt};
 ghost use Rattle.closeout.specs.Inner.{paidBy, roundsBy, afterOwn, fourOf, putAt, Checked};
@@ -13,7 +14,6 @@ use rows::kept::free_with;
 use rows::kept::less;
 use rows::needs::account_of;
 use rows::needs::only_if;
-use rows::needs::unders;
 use rows::needs::zeros;
 
 // What one account pays in one round, and what its purse keeps after its own part.
@@ -116,11 +116,10 @@ fn put(room: &mut [u64], at: usize, p: Both)
 // The rows, and the total left uncovered. left[t] is what account t's collateral has left in round one after its own part and the
 // clients passed, free[t] what its free collateral has left in round two: a TM's row comes before its clients'. cm and cm_free are
 // the same of the CM's, after its own parts and the accounts passed.
-pub(crate) fn fill(b: Book, losses: &[u64], room: &mut [u64]) -> u64
-    requires { ⌜ Checked b (now losses) (now room) ⌝ }
+pub(crate) fn fill(b: Book, under: [u64; 256], losses: &[u64], room: &mut [u64]) -> u64
+    requires { ⌜ Checked b (now losses) (now room) × Under (view b) under ⌝ }
     ensures { λ x. ⌜ (now (room .exit) ≡ rowsTo (four (view b) (lossAt (now (losses .entry)))) (b .count)) × (x ≡ total (view b) (lossAt (now (losses .entry)))) ⌝ }
 {
-    let under = unders(b);
     let mut left = zeros();
     let mut free = zeros();
     let start = after_own(b.rows[0], losses[0], under[0]);

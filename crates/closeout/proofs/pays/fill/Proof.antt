@@ -28,19 +28,19 @@ abbrev Turn : Type 0
 Turn = tie.In-loop Inv-loop μ-loop
 
 abbrev Bk : Turn → Book
-Bk c = c .before .before .before .before .before .before .before .before .before .before .args .t1
+Bk c = c .before .before .before .before .before .before .before .before .before .args .t1
 
 abbrev Ls : Turn → List ℕ
-Ls c = c .before .before .before .before .before .before .before .before .before .before .args .losses .now
+Ls c = c .before .before .before .before .before .before .before .before .before .args .losses .now
 
 abbrev R₀ : Turn → List ℕ
-R₀ c = c .before .before .before .before .before .before .before .before .before .before .args .room .now
+R₀ c = c .before .before .before .before .before .before .before .before .before .args .room .now
 
 abbrev Un : Turn → List ℕ
-Un c = c .before .before .before .before .before .before .before .unders .result
+Un c = c .before .before .before .before .before .before .before .before .before .args .t2
 
 checked : (c : Turn) → Checked (Bk c) (Ls c) (R₀ c)
-checked c = c .before .before .before .before .before .before .before .before .before .before .pre
+checked c = c .before .before .before .before .before .before .before .before .before .pre .0
 
 here : (c : Turn) → Passed (Bk c) (Ls c) (R₀ c) (c .before .loop .room) (c .before .loop .left) (c .before .loop .free) (c .before .loop .cm) (c .before .loop .cm-free)
     (c .before .loop .uncovered) (c .before .loop .i)
@@ -58,9 +58,6 @@ low c = omega (arith, checked c .sound .most, inside c, named-low (Bk c) (checke
 here-low : (c : Turn) → c .before .loop .i < 256
 here-low c = omega (arith, checked c .sound .most, inside c)
 
-unders-requires : tie.Need-unders-requires Inv-loop μ-loop
-unders-requires c κs = let h = c .before .before .pre .sound in (record { table = h .table; most = h .most; ranges = h .ranges }, h .shaped)
-
 zeros-requires : tie.Need-zeros-requires Inv-loop μ-loop
 zeros-requires c κs = search needs
 
@@ -71,24 +68,24 @@ element-copy-out-after-own : tie.Need-element-copy-out-after-own Inv-loop μ-loo
 element-copy-out-after-own c = omega arith
 
 shared-slice-read-after-own : tie.Need-shared-slice-read-after-own Inv-loop μ-loop
-shared-slice-read-after-own c = let pre = c .before .before .before .before .before .before .before .pre in omega (arith, pre .each, pre .sound .shaped .some)
+shared-slice-read-after-own c = let pre = c .before .before .before .before .before .before .pre .0 in omega (arith, pre .each, pre .sound .shaped .some)
 
 array-read-after-own : tie.Need-array-read-after-own Inv-loop μ-loop
 array-read-after-own c = omega arith
 
 after-own-requires : tie.Need-after-own-requires Inv-loop μ-loop
 after-own-requires c κs =
-    let pre = c .before .before .before .before .before .before .before .pre in
-    (pre .sound .ranges 0 (pre .sound .shaped .some), under-most _ (pre .sound) _ (c .before .before .before .before .unders .ensures) 0)
+    let pre = c .before .before .before .before .before .before .pre in
+    (pre .0 .sound .ranges 0 (pre .0 .sound .shaped .some), under-most _ (pre .0 .sound) _ (pre .1) 0)
 
 cast-n : tie.Need-cast-n Inv-loop μ-loop
 cast-n c = omega arith
 
 loop-holds : tie.Need-loop-holds Inv-loop μ-loop
 loop-holds c =
-    let under = c .before .before .before .before .before in
-    let pre = under .before .before .before .pre in
-    let kept = under .unders .ensures in (
+    let given = c .before .before .before .before .before .before .before .pre in
+    let pre = given .0 in
+    let kept = given .1 in (
       start _ _ _ _ _ _ (pre .sound) (ap length (c .before .before .before .before .zeros .ensures)) (ap length (c .before .before .before .zeros2 .ensures))
           (kept .each 0 (pre .sound .shaped .some)) (c .after-own .ensures),
       kept,
@@ -221,7 +218,7 @@ same-length : tie.Need-same-length Inv-loop μ-loop
 same-length c = c .before .loop .inv .0 .wide
 
 returns : tie.Need-returns Inv-loop μ-loop
-returns c = finish (c .before .loop .inv .0) (omega arith) (c .before .before .before .before .before .before .before .before .before .before .pre .wide)
+returns c = finish (c .before .loop .inv .0) (omega arith) (c .before .before .before .before .before .before .before .before .before .pre .0 .wide)
 
 pub fill-spec : {M : Type 1} → statement M
 fill-spec =
@@ -229,7 +226,6 @@ fill-spec =
     (tie.spec
     Inv-loop
     μ-loop
-    unders-requires
     zeros-requires
     zeros-requires-2
     element-copy-out-after-own
