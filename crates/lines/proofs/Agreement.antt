@@ -6,6 +6,9 @@ use Prim.Native.Nat.{ℕ}
 use Rattle.sums.specs.Room.{over}
 use Rattle.sums.proofs.Choices.{pick-no}
 use Rattle.rows.specs.declared.Book.{Book}
+use Rattle.rows.specs.Rows.{places}
+use Rattle.table.specs.Words.{turned, turnedBack}
+use Rattle.table.proofs.Turning.{over-and-back}
 use Rattle.book.specs.Sound.{soundB}
 use Rattle.run.specs.declared.Ended.{Ended}
 use Rattle.run.specs.Runs.{ranOf}
@@ -28,3 +31,8 @@ same-as-day b piece most room = refl
 pub unsound-leaves-room : (b : Book) (piece : List ℕ) (most : ℕ) (room : List ℕ) → soundB b ≡ false → over (textOf b piece most) room ≡ room
 unfolding textOf
 unsound-leaves-room b piece most room e = ap (λ x. over x room) (pick-no (soundB b) (linesOf (answersOf piece most b 0)) [] e)
+
+-- K12: at a book of the old order, turned over, the call gives what it gives at the book
+pub lines-as : (b : Book) (piece : List ℕ) (most : ℕ) → places b ≡ 256
+    → (linedOf (turnedBack (turned b)) piece most ≡ linedOf b piece most) × (textOf (turnedBack (turned b)) piece most ≡ textOf b piece most)
+lines-as b piece most h = (ap (λ c. linedOf c piece most) (over-and-back b h), ap (λ c. textOf c piece most) (over-and-back b h))

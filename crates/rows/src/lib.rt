@@ -1,5 +1,4 @@
 // The rows of the collateral book of one clearing member, and what is added up over them.
-pub mod asking;
 pub mod kept;
 pub mod needs;
 pub mod ranges;

@@ -1,15 +1,14 @@
-// Needs, in two rising passes over the table: what each TM's clients are deemed, then what the TMs and CPs are.
+// What one account is blocked and deemed, and what of it is due under its TM and under the CM.
 ghost use mathlib.Core.Path.{_≡_};
-ghost use Prim.Native.Nat.{_≤_, _<_};
+ghost use Prim.Native.Nat.{_≤_};
 ghost use lib.ListN.{replicate};
 ghost use Rattle.sums.specs.Sum.{only};
-ghost use Rattle.rows.specs.View.{blockedOf, deemedOf, needCM, need};
-ghost use Rattle.rows.specs.Rows.{collateral, accountOf, view};
-ghost use Rattle.rows.specs.Facts.{Shaped, InRange};
-ghost use Rattle.rows.specs.Under.{Under, clientDue, memberDue};
-ghost use Rattle.rows.specs.Inner.{Ranged, Slot, ClientSums, membersBelow};
+ghost use Rattle.rows.specs.View.{blockedOf, deemedOf};
+ghost use Rattle.rows.specs.Rows.{collateral, accountOf};
+ghost use Rattle.rows.specs.Facts.{InRange};
+ghost use Rattle.rows.specs.Under.{clientDue, memberDue};
+ghost use Rattle.rows.specs.Inner.{Slot};
 use super::Account;
-use super::Book;
 use super::Row;
 
 pub fn blocked_of(need: u64, collateral: u64) -> u64
@@ -79,74 +78,4 @@ pub fn zeros() -> [u64; 256]
     ensures { λ x. ⌜ x ≡ replicate 256 0 ⌝ }
 {
     [0u64; 256]
-}
-
-// What each account's clients are deemed, together.
-fn client_sums(b: Book) -> [u64; 256]
-    requires { ⌜ Ranged b ⌝ }
-    ensures { λ x. ⌜ ClientSums (view b) x ⌝ }
-{
-    let mut owed = zeros();
-    let n = b.count as usize;
-    let mut i: usize = 0;
-    while i < n {
-        let r = b.rows[i];
-        let a = account_of(r);
-        let t = slot(a.tm);
-        let d = client_due(a);
-        owed[t] = owed[t] + d;
-        i += 1;
-    }
-    owed
-}
-
-// What the TMs and CPs are deemed, together.
-fn members_sum(b: Book, owed: [u64; 256]) -> u64
-    requires { ⌜ Ranged b × ClientSums (view b) owed ⌝ }
-    ensures { λ x. ⌜ x ≡ membersBelow (view b) (b .count) ⌝ }
-{
-    let mut sum: u64 = 0;
-    let n = b.count as usize;
-    let mut i: usize = 0;
-    while i < n {
-        let r = b.rows[i];
-        let a = account_of(r);
-        sum += member_due(a, owed[i]);
-        i += 1;
-    }
-    sum
-}
-
-// What is deemed directly under each account: at the CM's place what the TMs and CPs are, at any other what its clients are.
-pub fn unders(b: Book) -> [u64; 256]
-    requires { ⌜ Ranged b × Shaped (view b) ⌝ }
-    ensures { λ x. ⌜ Under (view b) x ⌝ }
-{
-    let mut owed = client_sums(b);
-    let all = members_sum(b, owed);
-    owed[0] = all;
-    owed
-}
-
-pub fn need_cm(b: Book) -> u64
-    requires { ⌜ Ranged b × (0 < b .count) ⌝ }
-    ensures { λ x. ⌜ x ≡ needCM (view b) ⌝ }
-{
-    let owed = client_sums(b);
-    b.rows[0].margin + members_sum(b, owed)
-}
-
-pub fn need_of(b: Book, i: usize) -> u64
-    requires { ⌜ Ranged b × (i < b .count) ⌝ }
-    ensures { λ x. ⌜ x ≡ need (view b) i ⌝ }
-{
-    let r = b.rows[i];
-    if r.sort == 0 {
-        return need_cm(b);
-    }
-    if r.sort == 1 {
-        let owed = client_sums(b);
-        return r.margin + owed[i];
-    }
-    r.margin
 }

@@ -5,7 +5,6 @@ use mathlib.Core.Logic.{_⊎_, inl, inr}
 use mathlib.Core.Path.{_≡_, refl, sym, ap, _∙_}
 use Prim.Native.Nat.{ℕ, zero, suc, _≤_, _<_}
 use native.Mathlib.Omega.{arith}
-use Rattle.rows.proofs.RowPut.{row-far}
 use borrow.Author.Tests.{leb-false}
 use Rattle.sums.specs.Choice.{pick, unlessRefused}
 use Rattle.sums.specs.Table.{Line, first}
@@ -13,7 +12,7 @@ use Rattle.sums.proofs.Choices.{pick-no}
 use Rattle.sums.proofs.Tables.{From, first-from, first-later}
 use Rattle.rows.specs.declared.Row.{Row}
 use Rattle.rows.specs.declared.Book.{Book}
-use Rattle.rows.specs.Rows.{placeOf, noRow, openedRow}
+use Rattle.rows.specs.Rows.{placeOf, openedRow}
 use Rattle.book.specs.Facts.{Sound}
 use Rattle.book.proofs.SoundTest.{sound←}
 use Rattle.dayfile.specs.declared.Record.{Record}
@@ -49,10 +48,6 @@ module _ (b : Book) (r : Record) (x : Row) where
 
   pub open-passes : changeOf b r ≡ Open x → Passes b r
   open-passes e = passes-all b r (no-refusal b r (ap isRefusal e))
-
-  -- a row is put within the table
-  pub put-below : changeOf b r ≡ Put x → r .account < 256
-  put-below e = let p = put-passes e in omega (arith, p .account, p .sound .most)
 
   -- what is made where no refusal applies
   pub passes-as : Passes b r → refusalOf b r ≡ 0 → changeOf b r ≡ effectOf (namedRow b r) (placeOf b (r .account)) r
@@ -93,9 +88,6 @@ module _ (b : Book) (r : Record) (x : Row) where
       by : (t : Bool) → Open x ≡ pick t (Open (openedRow (r .code) (r .account))) (Put (amended (namedRow b r) r)) → x ≡ openedRow (r .code) (r .account)
       by true h = cc
       by false h = let z : _≡_ {A = ℕ} 0 1 = cc in absurd (omega arith)
-
-pub named-beyond : (b : Book) (r : Record) → Sound b → 256 ≤ r .account → noRow ≡ namedRow b r
-named-beyond b r s l = sym (row-far b (r .account) (omega (arith, s .table)))
 
 -- a sound book never meets refusal 1
 pub never-one : (b : Book) (r : Record) → Sound b → refusalOf b r ≡ 1 → ⊥

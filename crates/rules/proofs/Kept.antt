@@ -9,7 +9,6 @@ use lib.ListN.{getD, set}
 use borrow.Author.Tests.{eq-eqb, ne-eqb}
 use Rattle.sums.specs.Sum.{only}
 use Rattle.sums.specs.Choice.{pick}
-use Rattle.sums.proofs.Choices.{and-join, clash}
 use Rattle.rows.specs.declared.Row.{Row}
 use Rattle.rows.specs.declared.Account.{Account}
 use Rattle.rows.specs.declared.Book.{Book}
@@ -21,20 +20,17 @@ use Rattle.rows.specs.Inner.{Slot}
 use Rattle.rows.proofs.BySort.{Sort, cm, tm, client, cp, sort-of}
 use Rattle.rows.proofs.RowPut.{row-same, row-other, below, new}
 use Rattle.book.specs.Facts.{Sound}
-use Rattle.book.proofs.OneRow.{row-opened}
+use Rattle.book.proofs.OneRow.{at-all, row-opened}
 use Rattle.book.proofs.Differences.{RowChanged, row-changed}
 use Rattle.book.proofs.Opens.{Opened}
-use Rattle.book.proofs.LiveClients.{no-TM-none-live}
 use Rattle.book.proofs.SoundAfter.{in-table}
 use Rattle.book.proofs.UnderPut.{cm-after, under-put}
 use Rattle.book.proofs.UnderOpen.{under-open}
 use Rattle.dayfile.specs.declared.Record.{Record}
-use Rattle.rules.specs.declared.Seen.{Seen}
 use Rattle.rules.specs.declared.Change.the-variants.{Put, Open}
 use Rattle.rules.specs.Refusals.{namedRow, needOver, newMargin}
 use Rattle.rules.specs.Effects.{amended, changeOf, bookAfter}
 use Rattle.rules.specs.Inner.{SeenOf, seenWith, topMargin}
-use Rattle.rules.proofs.Looking.{same-collateral}
 use Rattle.rules.proofs.Deciding.{put-passes, open-below, made-put, made-open}
 use Rattle.rules.proofs.SoundChange.{change-sound}
 
@@ -44,17 +40,10 @@ right-zero n = omega arith
 left-zero : (n : ℕ) → 0 + n ≡ n
 left-zero n = omega arith
 
--- what is seen, part by part
-pub seen-made : (a : Account) (under : ℕ) (its : Account) (owed : ℕ) (top : Account) (all : ℕ) (t : Bool) (r : Record) (m x y z f : ℕ)
-    → m ≡ blockedOf (r .margin) ceiling → x ≡ only (eqb (a .sort) 0) m → y ≡ only (not (eqb (a .sort) 0)) (top .margin)
-    → z ≡ underCM a (atMargin a m) under its owed all → f ≡ freeOf (a .margin + under) (a .collateral)
-    → _≡_ {A = Seen} (record { free = f; over = ltb (top .collateral) (x + y + z); tied = t }) (seenWith a under its owed top all t r)
-seen-made a under its owed top all t r m x y z f em ex ey ez ef = rw (ef, ez, ey, ex, em)
-
--- only a TM has clients to look for
-pub tied-none : (b : Book) (r : Record) → Sound b → (eqb (r .code) 11 && eqb (namedRow b r .sort) 1) ≡ false → r .code ≡ 11 → false ≡ hasLiveClient b (r .account)
-tied-none b r s f e =
-    sym (no-TM-none-live b (r .account) s (λ q. clash (and-join (eq-eqb (r .code) 11 e) (eq-eqb (namedRow b r .sort) 1 q)) f))
+-- a new margin leaves the CM's collateral as it was
+same-collateral : (b : Book) (r : Record) → Sound b → r .account < b .count → collateral (rowAt (newMargin b r) 0) ≡ collateral (rowAt b 0)
+same-collateral b r s l =
+    at-all (λ j x y. collateral x ≡ collateral y) b (r .account) (withMargin (namedRow b r) (r .margin)) (in-table b s (r .account) l) refl (λ j. refl) 0
 
 module _ (b : Book) (s : Sound b) (owed : List ℕ) (h : Under (view b) owed) (r : Record) (p : ℕ) (sl : Slot (namedRow b r .tm) p) where
   abbrev row : Row

@@ -1,10 +1,8 @@
 pub mod Faults
 pub mod Amending
-pub mod Changing
 pub mod WhatIsSeen
 pub mod Codes
 pub mod Passing
 pub mod SoundChange
-pub mod Looking
 pub mod Deciding
 pub mod Kept

@@ -65,8 +65,3 @@ module _ (b : Book) (s : Sound b) (r : Record) (seen : Seen) (w : SeenOf b r see
   pub change-seen : changeBy (namedRow b r) (b .count) (b .serial) seen r ≡ changeOf b r
   unfolding changeBy changeOf
   change-seen = ap (λ n. unlessRefused n (effectOf (namedRow b r) (placeOf b (r .account)) r) Refuse) refusal-seen
-
--- the verdict of the code is the change of the rules
-pub verdict-is : (b : Book) → Sound b → (r : Record) (row : Row) (seen : Seen) (c : Change)
-    → row ≡ namedRow b r → SeenOf b r seen → c ≡ changeBy row (b .count) (b .serial) seen r → c ≡ changeOf b r
-verdict-is b s r row seen c e w h = h ∙ ap (λ x. changeBy x (b .count) (b .serial) seen r) e ∙ change-seen b s r seen w

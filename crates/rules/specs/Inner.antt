@@ -1,5 +1,5 @@
 -- Only for internal functions: no promise of a public call cites it.
-use mathlib.Core.Bool.{Bool, false, not, _&&_, _||_}
+use mathlib.Core.Bool.{Bool, not, _&&_}
 use mathlib.Core.List.{List, [], _∷_, _++_}
 use mathlib.Core.Path.{_≡_}
 use Prim.Native.Nat.{ℕ, _+_, _≤_, _<_}
@@ -58,14 +58,6 @@ pub record SeenOf (b : Book) (r : Record) (s : Seen) : Type 0 where
   pub free-pledge : r .code ≡ 9 → r .account < b .count → s .free ≡ free (view b) (placeOf b (r .account))
   pub cover : r .code ≡ 10 → r .account < b .count → r .margin ≤ ceiling → s .over ≡ needOver (view (newMargin b r))
   pub clients : r .code ≡ 11 → r .account < b .count → s .tied ≡ hasLiveClient b (placeOf b (r .account))
-
--- nothing seen
-abbrev pub nothing : Seen
-nothing = record { free = 0; over = false; tied = false }
-
--- the records that ask something of the other rows: 7, 9, 10, 11
-abbrev pub asks : Record → Bool
-asks r = eqb (r .code) 7 || eqb (r .code) 9 || eqb (r .code) 10 || eqb (r .code) 11
 
 -- the CM's margin where the account gets the margin m
 abbrev pub topMargin : Account → Account → ℕ → ℕ

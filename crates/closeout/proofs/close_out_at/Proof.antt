@@ -80,9 +80,10 @@ returns-3 c =
 
 fill-requires : tie.Need-fill-requires
 fill-requires c κs =
-    let tests = c .before .before .before in
-    (record { sound = sound→ _ (sound (of tests)); each = tests .before .if1 .left; wide = tests .if2 .left; small = losses-small (Bk (of tests)) (Ls (of tests)) (good (c .before)) },
-    of tests .before .before .pre .1)
+    let tests = c .before .before .before in (
+      record { sound = sound→ _ (sound (of tests)); each = tests .before .if1 .left; wide = tests .if2 .left; small = losses-small (Bk (of tests)) (Ls (of tests)) (good (c .before)) },
+      of tests .before .before .pre .1,
+    )
 
 same-length : tie.Need-same-length
 same-length c = search needs

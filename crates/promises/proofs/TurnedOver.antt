@@ -1,0 +1,65 @@
+-- Document 02, K12: "Prove that turning over and back changes nothing, and that every call answers as on the old order and leaves the
+-- old one's book, turned over." Each call promises what the old order's definition says at `turnedBack t`; here t is any book of the old order, turned over.
+use mathlib.Core.Bool.{Bool}
+use mathlib.Core.List.{List}
+use mathlib.Core.Path.{_≡_, refl, ap}
+use Prim.Native.Nat.{ℕ}
+use Rattle.rows.specs.declared.Book.{Book}
+use Rattle.rows.specs.Rows.{places}
+use Rattle.table.specs.declared.Table.{Table}
+use Rattle.table.specs.Words.{marksOf, turned, turnedBack}
+use Rattle.table.specs.Facts.{Sized}
+use Rattle.table.proofs.Turning.{over-and-back, back-and-over}
+use Rattle.book.specs.Sound.{soundB}
+use Rattle.book.specs.Asked.{standingOf}
+use Rattle.book.specs.Evening.{eveningOf}
+use Rattle.book.specs.declared.Amount.{Amount}
+use Rattle.dayfile.specs.declared.Record.{Record}
+use Rattle.desk.specs.Steps.{stepOf, nextOf}
+use Rattle.desk.specs.Over.{overDone, overNext}
+use Rattle.run.specs.Runs.{ranOf}
+use Rattle.run.specs.Told.{toldOf}
+use Rattle.run.specs.Over.{overRan}
+use Rattle.closeout.specs.Closing.{closedOf, roomOf}
+
+-- "turning over and back changes nothing": a book of 256 rows, as the type has it
+pub turning-over-and-back : (b : Book) → places b ≡ 256 → turnedBack (turned b) ≡ b
+turning-over-and-back = over-and-back
+
+-- and a table, whose arrays have the lengths of the type
+pub turning-back-and-over : (t : Table) → Sized (marksOf t) (t .amounts) → turned (turnedBack t) ≡ t
+turning-back-and-over = back-and-over
+
+module _ (b : Book) (h : places b ≡ 256) where
+  -- "every call answers as on the old order": whatever is said of the table's book is said of b
+  pub answers-as : {X : Type 0} (f : Book → X) → f (turnedBack (turned b)) ≡ f b
+  answers-as f = ap f (over-and-back b h)
+
+  pub sound-test-as : soundB (turnedBack (turned b)) ≡ soundB b
+  sound-test-as = answers-as soundB
+
+  pub standing-as : (number : ℕ) → standingOf (turnedBack (turned b)) number ≡ standingOf b number
+  standing-as number = answers-as (λ c. standingOf c number)
+
+  pub evening-sum-as : (amount : Amount) → eveningOf (turnedBack (turned b)) amount ≡ eveningOf b amount
+  evening-sum-as amount = answers-as (λ c. eveningOf c amount)
+
+  -- "and leaves the old one's book, turned over"
+  pub carry-out-leaves : (r : Record)
+      → overDone (stepOf (turnedBack (turned b)) r) ≡ record { answer = stepOf b r .answer; table = turned (stepOf b r .book) }
+  carry-out-leaves r = answers-as (λ c. overDone (stepOf c r))
+
+  pub carry-out-next-leaves : (piece : List ℕ) (place : ℕ)
+      → overNext (nextOf (turnedBack (turned b)) piece place)
+      ≡ record { answer = nextOf b piece place .answer; table = turned (nextOf b piece place .book); place = nextOf b piece place .place }
+  carry-out-next-leaves piece place = answers-as (λ c. overNext (nextOf c piece place))
+
+  pub day-leaves : (piece : List ℕ) (most : ℕ) → overRan (ranOf (turnedBack (turned b)) piece most) ≡ overRan (ranOf b piece most)
+  day-leaves piece most = answers-as (λ c. overRan (ranOf c piece most))
+
+  pub day-told-as : (piece : List ℕ) (most : ℕ) (room : List ℕ) → toldOf (turnedBack (turned b)) piece most room ≡ toldOf b piece most room
+  day-told-as piece most room = answers-as (λ c. toldOf c piece most room)
+
+  pub close-out-as : (losses room : List ℕ)
+      → (closedOf (turnedBack (turned b)) losses room ≡ closedOf b losses room) × (roomOf (turnedBack (turned b)) losses room ≡ roomOf b losses room)
+  close-out-as losses room = (answers-as (λ c. closedOf c losses room), answers-as (λ c. roomOf c losses room))
