@@ -14,7 +14,7 @@ use Rattle.sums.proofs.Choices.{pick-no}
 use Rattle.sums.proofs.Sums.{sum-step, sum-most, only-most}
 use Rattle.rows.specs.declared.Account.{Account}
 use Rattle.rows.specs.declared.Book.{Book}
-use Rattle.rows.specs.View.{View, isCM, isTM, isClientOf, ownDeemed, deemedOf, freeOf, deemedTM, needTM, needCM, need, members, free}
+use Rattle.rows.specs.View.{View, isCM, isTM, isClientOf, ownDeemed, deemedOf, deemedTM, needTM, needCM, need, members}
 use Rattle.rows.specs.Rows.{ceiling, rowAt, view}
 use Rattle.rows.specs.Under.{accountAt, clientDue, memberDue, underTM, underCM}
 use Rattle.rows.specs.Inner.{Ranged, Slot, clientsBelow, membersBelow}
@@ -88,9 +88,6 @@ pub need-own : (v : View) (i : ℕ) → 1 < v .sort i → need v i ≡ v .margin
 unfolding need
 need-own v i l =
     pick-no (isCM v i) _ _ (ne-eqb (v .sort i) 0 (λ e. omega arith)) ∙ pick-no (isTM v i) _ _ (ne-eqb (v .sort i) 1 (λ e. omega arith))
-
-pub free-own : (v : View) (i : ℕ) → 1 < v .sort i → free v i ≡ freeOf (v .margin i) (v .collateral i)
-free-own v i l = ap (λ (n : ℕ). freeOf n (v .collateral i)) (need-own v i l)
 
 -- one place of a list has d more
 pub add-at : (l : List ℕ) (s d t : ℕ) → s < length l → getD (set l s (getD l s 0 + d)) t 0 ≡ getD l t 0 + only (eqb s t) d

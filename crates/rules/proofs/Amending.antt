@@ -2,7 +2,6 @@
 use mathlib.Core.Bool.{false}
 use mathlib.Core.Path.{_≡_}
 use Prim.Native.Nat.{_+_, _-_}
-use borrow.Author.Tests.{ne-eqb}
 use Rattle.sums.specs.Choice.{pick}
 use Rattle.rows.specs.declared.Row.{Row}
 use Rattle.rows.specs.Rows.{withLive, withReceived, withAllocated, withPledged, withMargin, plusKinds, lessKinds}
@@ -41,17 +40,3 @@ module _ (row : Row) (r : Record) where
   pub by-retire : r .code ≡ 11 → amended row r ≡ withLive row false
   unfolding amended pick
   by-retire e = rw e
-
-  pub by-other : (r .code ≡ 4 → ⊥) → (r .code ≡ 5 → ⊥) → (r .code ≡ 6 → ⊥) → (r .code ≡ 7 → ⊥) → (r .code ≡ 8 → ⊥) → (r .code ≡ 9 → ⊥) → (r .code ≡ 10 → ⊥)
-      → amended row r ≡ withLive row false
-  unfolding amended pick
-  by-other a b c d e f g =
-      rw (
-        ne-eqb (r .code) 4 a,
-        ne-eqb (r .code) 5 b,
-        ne-eqb (r .code) 6 c,
-        ne-eqb (r .code) 7 d,
-        ne-eqb (r .code) 8 e,
-        ne-eqb (r .code) 9 f,
-        ne-eqb (r .code) 10 g,
-      )

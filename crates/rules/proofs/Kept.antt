@@ -14,7 +14,6 @@ use Rattle.rows.specs.declared.Account.{Account}
 use Rattle.rows.specs.declared.Book.{Book}
 use Rattle.rows.specs.View.{freeOf, blockedOf, needCM}
 use Rattle.rows.specs.Rows.{ceiling, rowAt, places, collateral, accountOf, view, withMargin, withRow, withNew, hasLiveClient}
-use Rattle.rows.specs.Facts.{InRange}
 use Rattle.rows.specs.Under.{Under, accountAt, atMargin, underTM, underCM}
 use Rattle.rows.specs.Inner.{Slot}
 use Rattle.rows.proofs.BySort.{Sort, cm, tm, client, cp, sort-of}
@@ -126,12 +125,6 @@ amended-same row r =
 
 -- a row put anew
 module _ (b : Book) (r : Record) (x : Row) (s : Sound b) (e : changeOf b r ≡ Put x) where
-  pub put-ranged : InRange x
-  put-ranged =
-      let l = put-passes b r x e .account in
-      let t : Sound (bookAfter b (r .account) (Put x)) = rw e at (change-sound b r s) in
-      rw (row-same b (r .account) x (in-table b s (r .account) l)) at (t .ranges (r .account) l)
-
   pub put-keeps : (owed : List ℕ) → Under (view b) owed → (p : ℕ) → Slot (namedRow b r .tm) p
       → Under (view (withRow b (r .account) x))
       (set (set owed p (underTM (accountOf (namedRow b r)) (accountOf x) (getD owed p 0))) 0

@@ -2,4 +2,3 @@ pub mod Lines
 pub mod Made
 pub mod ByCode
 pub mod Carried
-pub mod FromBook

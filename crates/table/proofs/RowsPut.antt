@@ -9,7 +9,7 @@ use Rattle.sums.specs.Choice.{pick}
 use Rattle.rows.specs.declared.Kinds.{Kinds}
 use Rattle.rows.specs.declared.Row.{Row}
 use Rattle.rows.specs.Rows.{withLive, withReceived, withAllocated, withPledged, withMargin}
-use Rattle.table.specs.Words.{wordAt, rowFrom, Marks, marksFrom, rowIn, withAmount, putKinds, putRow}
+use Rattle.table.specs.Words.{Marks, marksFrom, rowIn, withAmount, putKinds, putRow}
 use Rattle.table.specs.Facts.{Sized}
 use Rattle.table.proofs.InPlace.{Anew, then, amount-put, marks-put}
 
@@ -39,17 +39,9 @@ module _ (m : Marks) (w : List ℕ) (i : ℕ) (s : Sized m w) (l : i < 256) wher
   unfolding pick
   margin-put x = amount-put m w i s l 9 x (omega arith)
 
-  pub sort-put : (a : ℕ) → Anew m w i (rowFrom a (getD (m .live) i false) (getD (m .tm) i 0) (λ k. wordAt w k i)) (marksFrom (set (m .sort) i a) (m .live) (m .tm)) w
-  sort-put a =
-      rw (set-getD (m .live) i false, set-getD (m .tm) i 0) at (marks-put m w i s l a (getD (m .live) i false) (getD (m .tm) i 0))
-
   pub live-put : (v : Bool) → Anew m w i (withLive (rowIn m w i) v) (marksFrom (m .sort) (set (m .live) i v) (m .tm)) w
   live-put v =
       rw (set-getD (m .sort) i 0, set-getD (m .tm) i 0) at (marks-put m w i s l (getD (m .sort) i 0) v (getD (m .tm) i 0))
-
-  pub tm-put : (t : ℕ) → Anew m w i (rowFrom (getD (m .sort) i 0) (getD (m .live) i false) t (λ k. wordAt w k i)) (marksFrom (m .sort) (m .live) (set (m .tm) i t)) w
-  tm-put t =
-      rw (set-getD (m .sort) i 0, set-getD (m .live) i false) at (marks-put m w i s l (getD (m .sort) i 0) (getD (m .live) i false) t)
 
 -- a whole row put
 pub row-put : (m : Marks) (w : List ℕ) (i : ℕ) → Sized m w → i < 256 → (r : Row)
