@@ -1,4 +1,4 @@
-// The collateral book of one clearing member, by amount: its rows, its soundness, an account's standing, the evening sums.
+// The collateral book of one clearing member, by amount: a fresh one, its soundness, an account's standing, the evening sums.
 ghost use mathlib.Core.Path.{_≡_};
 ghost use Rattle.rows.specs.Rows.{freshBook};
 ghost use Rattle.table.specs.Words.{turned, turnedBack};

@@ -1,4 +1,4 @@
-// The rows of the collateral book of one clearing member, and what is added up over them.
+// The rows of the old order's book, and what one account adds to what is deemed under others.
 pub mod kept;
 pub mod needs;
 pub mod ranges;

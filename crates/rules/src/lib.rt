@@ -1,4 +1,4 @@
-// Document 01's rules for one record: the refusal that meets it, and what it does to the row named.
+// What document 01's rules for one record speak of: the change that it makes, and what its verdict needs; `steps` decides.
 use rows::Row;
 
 pub mod kinds;
