@@ -12,7 +12,8 @@ use Rattle.rows.specs.declared.Row.{Row}
 use Rattle.rows.specs.declared.Book.{Book}
 use Rattle.rows.specs.Rows.{rowAt}
 use Rattle.table.specs.declared.Table.{Table}
-use Rattle.table.specs.Words.{amountOf, marksOf, turnedBack, amountSum}
+use Rattle.table.specs.Words.{amountOf, marksOf, turnedBack}
+use Rattle.table.specs.Inner.{amountSum}
 use Rattle.table.proofs.EveningSums.{sum-by-rows}
 use Rattle.book.specs.declared.Amount.{Amount}
 use Rattle.book.specs.declared.Amount.the-variants.{

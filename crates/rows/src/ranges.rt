@@ -1,6 +1,6 @@
-// Whether a row's amounts are zero, and whether they are in range.
+// Whether a row's amounts are zero, and whether kinds are within others.
 ghost use mathlib.Core.Path.{_≡_};
-ghost use Rattle.rows.specs.Ranges.{kindsWithin, kindsCapped, noAmounts, inRange};
+ghost use Rattle.rows.specs.Ranges.{kindsWithin, kindsCapped, noAmounts};
 use super::CEILING;
 use super::Kinds;
 use super::Row;
@@ -14,23 +14,6 @@ pub fn no_amounts(r: Row) -> bool
         & ((a.cash == 0) & (a.deposits == 0) & (a.guarantees == 0) & (a.securities == 0))
         & (r.pledged == 0)
         & (r.margin == 0)
-}
-
-pub fn in_range(r: Row) -> bool
-    ensures { λ x. ⌜ x ≡ inRange r ⌝ }
-{
-    let k = r.received;
-    let a = r.allocated;
-    ((k.cash <= CEILING)
-        & (k.deposits <= CEILING)
-        & (k.guarantees <= CEILING)
-        & (k.securities <= CEILING))
-        & ((a.cash <= k.cash)
-            & (a.deposits <= k.deposits)
-            & (a.guarantees <= k.guarantees)
-            & (a.securities <= k.securities))
-        & (r.pledged <= CEILING)
-        & (r.margin <= CEILING)
 }
 
 pub fn kinds_within(a: Kinds, b: Kinds) -> bool

@@ -3,8 +3,7 @@ use mathlib.Core.List.{List}
 use Prim.Native.Nat.{ℕ, zero, suc, _+_, _*_}
 use lib.Seq.{sets}
 use Rattle.rows.specs.declared.Book.{Book}
-use Rattle.table.specs.Words.{Marks}
-use Rattle.steps.specs.Steps.{bookOf}
+use Rattle.table.specs.Words.{Marks, bookFrom}
 use Rattle.dayfile.specs.declared.Found.{Found}
 use Rattle.dayfile.specs.declared.Found.the-variants.{End as NoBytes, Cut as TooFew, Whole}
 use Rattle.dayfile.specs.Reading.{foundAt}
@@ -30,4 +29,4 @@ tellOf s (suc most) b place k room = telling (tellOf s most) (foundAt s place) b
 
 -- what the loop came to, with the words that it left
 abbrev pub ranIn : Went → Marks → List ℕ → Ran
-ranIn x m w = record { book = bookOf (x .count) (x .serial) m w; place = x .place; closing = x .closing; read = x .read; done = x .done }
+ranIn x m w = record { book = bookFrom (x .count) (x .serial) m w; place = x .place; closing = x .closing; read = x .read; done = x .done }

@@ -9,11 +9,13 @@ ghost use Rattle.book.specs.Facts.{Sound};
 ghost use Rattle.run.specs.Runs.{endedWith, runOf, ranOf};
 ghost use Rattle.run.specs.Told.{toldOf, roomFor};
 ghost use Rattle.run.specs.Over.{overRan};
-ghost use Rattle.table.specs.Words.{marksFrom, turnedBack};
+ghost use Rattle.table.specs.Words.{bookFrom, marksFrom, turnedBack};
 ghost use Rattle.run.specs.Inner.{putFive, tellOf, ranIn};
-ghost use Rattle.steps.specs.Steps.{bookOf, Ready};
+ghost use Rattle.steps.specs.Steps.{Ready};
 use dayfile::Found;
+use dayfile::Record;
 use rows::Book;
+use steps::Gone;
 use steps::step;
 use table::Table;
 
@@ -54,16 +56,16 @@ pub(crate) struct Went {
 }
 
 // Puts the numbers of the record that is number k.
-fn put_five(room: &mut [u16], k: u64, serial: u16, code: u8, account: u16, refusal: u16, given: u16)
+fn put_five(room: &mut [u16], k: u64, r: Record, gone: Gone)
     requires { ⌜ 5 * (k + 1) ≤ length (now room) ⌝ }
-    ensures { λ _. ⌜ now (room .exit) ≡ putFive (now (room .entry)) k (serial ∷ code ∷ account ∷ refusal ∷ given ∷ []) ⌝ }
+    ensures { λ _. ⌜ now (room .exit) ≡ putFive (now (room .entry)) k (r .serial ∷ r .code ∷ r .account ∷ gone .refusal ∷ gone .given ∷ []) ⌝ }
 {
     let at = 5 * k as usize;
-    room[at] = serial;
-    room[at + 1] = code as u16;
-    room[at + 2] = account;
-    room[at + 3] = refusal;
-    room[at + 4] = given;
+    room[at] = r.serial;
+    room[at + 1] = r.code as u16;
+    room[at + 2] = r.account;
+    room[at + 3] = gone.refusal as u16;
+    room[at + 4] = gone.given;
 }
 
 // The records of a piece at a sound table, whose arrays are lent, with their numbers told where that is asked for.
@@ -81,8 +83,8 @@ fn go(
     tell: bool,
 ) -> Went
     requires { ⌜ Ready first due (marksFrom (now sort) (now live) (now tm)) (now w) (now under) × (tell ≡ true → 5 * most ≤ length (now room)) ⌝ }
-    ensures { λ x. ⌜ ranIn x (marksFrom (now (sort .exit)) (now (live .exit)) (now (tm .exit))) (now (w .exit)) ≡ runOf (now (piece .entry)) most (bookOf first due (marksFrom (now (sort .entry)) (now (live .entry)) (now (tm .entry))) (now (w .entry))) 0 0 0 ⌝ }
-    ensures { λ x. ⌜ now (room .exit) ≡ pick tell (tellOf (now (piece .entry)) most (bookOf first due (marksFrom (now (sort .entry)) (now (live .entry)) (now (tm .entry))) (now (w .entry))) 0 0 (now (room .entry))) (now (room .entry)) ⌝ }
+    ensures { λ x. ⌜ ranIn x (marksFrom (now (sort .exit)) (now (live .exit)) (now (tm .exit))) (now (w .exit)) ≡ runOf (now (piece .entry)) most (bookFrom first due (marksFrom (now (sort .entry)) (now (live .entry)) (now (tm .entry))) (now (w .entry))) 0 0 0 ⌝ }
+    ensures { λ x. ⌜ now (room .exit) ≡ pick tell (tellOf (now (piece .entry)) most (bookFrom first due (marksFrom (now (sort .entry)) (now (live .entry)) (now (tm .entry))) (now (w .entry))) 0 0 (now (room .entry))) (now (room .entry)) ⌝ }
 {
     let mut count = first;
     let mut serial = due;
@@ -107,15 +109,7 @@ fn go(
                 }
                 let gone = step(sort, live, tm, w, under, count, serial, r);
                 if tell {
-                    put_five(
-                        room,
-                        read,
-                        r.serial,
-                        r.code,
-                        r.account,
-                        gone.refusal as u16,
-                        gone.given,
-                    );
+                    put_five(room, read, r, gone);
                 }
                 count = gone.count;
                 serial = gone.serial;

@@ -36,10 +36,10 @@ use Rattle.rules.proofs.Faults.{amounts-in}
 use Rattle.rules.proofs.WhatIsSeen.{toSee, refusal-seen}
 use Rattle.rules.proofs.SoundChange.{change-sound}
 use Rattle.rules.proofs.Kept.{sees-kept, put-keeps, open-keeps}
-use Rattle.table.specs.Words.{Marks, rowIn}
+use Rattle.table.specs.Words.{Marks, rowIn, bookFrom}
 use Rattle.table.proofs.Gathered.{row-in}
-use Rattle.table.proofs.InPlace.{Anew}
-use Rattle.steps.specs.Steps.{bookOf, Ready, Stepped, stayed, wentOn, goneWith}
+use Rattle.table.specs.Inner.{Anew}
+use Rattle.steps.specs.Steps.{Ready, Stepped, stayed, wentOn, goneWith}
 use Rattle.steps.specs.Own.{before8, earlyNumber, aliveIn, from8, clientIn, tiedIn, seenIn, Held, Answered, Opens, Amending}
 use Rattle.steps.proofs.Lines.{open-own}
 
@@ -60,7 +60,7 @@ not-opening n e f = by (decLt 3 n)
     by (no l) = clash (and-join (and-split (leb 1 n) (leb n 11) e .0) (le-leb n 3 (omega arith))) f
 
 serial-picked : (count serial : ℕ) (m : Marks) (w : List ℕ) (t : Bool)
-    → bookOf count (pick t serial (nextSerial serial)) m w ≡ pick t (bookOf count serial m w) (bookOf count (nextSerial serial) m w)
+    → bookFrom count (pick t serial (nextSerial serial)) m w ≡ pick t (bookFrom count serial m w) (bookFrom count (nextSerial serial) m w)
 unfolding pick
 serial-picked count serial m w true = refl
 serial-picked count serial m w false = refl
@@ -74,7 +74,7 @@ opening-not r l = rw (lt-leb (r .code) 3 l) (and-none (leb 1 (r .code)))
 
 module _ (count serial : ℕ) (m : Marks) (w under : List ℕ) (h : Ready count serial m w under) (r : Record) where
   abbrev b : Book
-  b = bookOf count serial m w
+  b = bookFrom count serial m w
 
   abbrev i : ℕ
   i = r .account
@@ -215,7 +215,7 @@ module _ (count serial : ℕ) (m : Marks) (w under : List ℕ) (h : Ready count 
       e : changeOf b r ≡ Refuse k
       e = change-is k er ∙ sym (refused-by k _ Refuse ne)
 
-      same : bookOf count (pick (leb k 3) serial (nextSerial serial)) m w ≡ bookAfter b (r .account) (Refuse k)
+      same : bookFrom count (pick (leb k 3) serial (nextSerial serial)) m w ≡ bookAfter b (r .account) (Refuse k)
       same = serial-picked count serial m w (leb k 3)
 
   -- a row put anew, whose new account is settled with

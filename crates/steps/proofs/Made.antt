@@ -17,9 +17,9 @@ use Rattle.rows.specs.declared.Account.{Account}
 use Rattle.rows.specs.Rows.{ceiling, accountOf, plusKinds, lessKinds, withReceived, withAllocated, withPledged, withMargin}
 use Rattle.rows.specs.Facts.{InRange, KindsWithin}
 use Rattle.rows.specs.Under.{memberDue}
-use Rattle.table.specs.Words.{Marks, rowIn, putKinds}
+use Rattle.table.specs.Words.{Marks, rowIn}
 use Rattle.table.specs.Facts.{Sized}
-use Rattle.table.proofs.InPlace.{Anew}
+use Rattle.table.specs.Inner.{putKinds, Anew}
 use Rattle.table.proofs.RowsPut.{received-put, allocated-put, pledged-put, margin-put}
 use Rattle.rows.proofs.NeedSums.{under-cm-most}
 use Rattle.rules.specs.Inner.{topMargin}

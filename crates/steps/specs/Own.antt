@@ -23,7 +23,7 @@ use Rattle.rules.specs.Effects.{amended}
 use Rattle.rules.specs.Inner.{AmountsIn, from7, topMargin, seenWith}
 use Rattle.table.specs.Words.{Marks, rowIn}
 use Rattle.table.specs.Facts.{Sized}
-use Rattle.table.proofs.InPlace.{Anew}
+use Rattle.table.specs.Inner.{Anew}
 use Rattle.steps.specs.declared.settling.Owed.{Owed}
 
 -- the lines before 8, which ask nothing of the code, where it is known whether the account is live

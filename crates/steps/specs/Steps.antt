@@ -5,7 +5,6 @@ use mathlib.Core.Path.{_≡_}
 use Prim.Native.Nat.{ℕ, _+_}
 use lib.Dec.{eqb, leb}
 use Rattle.sums.specs.Choice.{pick}
-use Rattle.rows.specs.declared.Book.{Book}
 use Rattle.rows.specs.Rows.{view}
 use Rattle.rows.specs.Under.{Under}
 use Rattle.book.specs.Facts.{Sound}
@@ -13,19 +12,15 @@ use Rattle.dayfile.specs.declared.Record.{Record}
 use Rattle.rules.specs.declared.Change.{Change}
 use Rattle.rules.specs.declared.Change.the-variants.{Refuse, Put, Open}
 use Rattle.rules.specs.Effects.{changeOf, bookAfter, nextSerial}
-use Rattle.table.specs.Words.{Marks, rowsOf}
+use Rattle.table.specs.Words.{Marks, bookFrom}
 use Rattle.table.specs.Facts.{Sized}
 use Rattle.steps.specs.declared.Gone.{Gone}
-
--- the book of the old order
-abbrev pub bookOf : ℕ → ℕ → Marks → List ℕ → Book
-bookOf count serial m w = record { count = count; serial = serial; rows = rowsOf m w }
 
 -- the words are a sound book's, with what is deemed under each account beside them
 pub record Ready (count serial : ℕ) (m : Marks) (w under : List ℕ) : Type 0 where
   pub size : Sized m w
-  pub sound : Sound (bookOf count serial m w)
-  pub kept : Under (view (bookOf count serial m w)) under
+  pub sound : Sound (bookFrom count serial m w)
+  pub kept : Under (view (bookFrom count serial m w)) under
 
 -- what a change shows of its record: the refusal or 0, the number given or 0, and 1 for one carried out
 abbrev pub refusalShown : Change → ℕ
@@ -45,10 +40,10 @@ carriedShown (Open row) = 1
 
 -- a record at the words w came to x, and left the words u
 pub record Stepped (count serial : ℕ) (m : Marks) (w : List ℕ) (r : Record) (x : Gone) (n : Marks) (u under : List ℕ) : Type 0 where
-  pub refusal : x .refusal ≡ refusalShown (changeOf (bookOf count serial m w) r)
-  pub given : x .given ≡ givenShown count (changeOf (bookOf count serial m w) r)
-  pub carried : x .carried ≡ carriedShown (changeOf (bookOf count serial m w) r)
-  pub book : bookOf (x .count) (x .serial) n u ≡ bookAfter (bookOf count serial m w) (r .account) (changeOf (bookOf count serial m w) r)
+  pub refusal : x .refusal ≡ refusalShown (changeOf (bookFrom count serial m w) r)
+  pub given : x .given ≡ givenShown count (changeOf (bookFrom count serial m w) r)
+  pub carried : x .carried ≡ carriedShown (changeOf (bookFrom count serial m w) r)
+  pub book : bookFrom (x .count) (x .serial) n u ≡ bookAfter (bookFrom count serial m w) (r .account) (changeOf (bookFrom count serial m w) r)
   pub ready : Ready (x .count) (x .serial) n u under
 
 -- refused with the number k

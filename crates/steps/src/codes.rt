@@ -9,7 +9,6 @@ ghost use lib.Dec.{eqb};
 ghost use Rattle.table.specs.Words.{marksFrom, rowIn};
 ghost use Rattle.table.specs.Facts.{Sized};
 ghost use Rattle.steps.specs.Own.{tiedIn, Held, Opens, Receives, HandsBack, Allocates, Releases, Pledges, Unpledges, SetsMargin, Retires};
-use crate::row_at;
 use crate::settling::over_with;
 use crate::settling::owed_after;
 use crate::settling::put_owed;
@@ -32,6 +31,7 @@ use rules::kinds::less_kinds;
 use rules::kinds::plus_kinds;
 use table::places::put_kinds;
 use table::places::put_row;
+use table::places::row_at;
 
 fn wanted(code: u8) -> u8
     ensures { λ x. ⌜ x ≡ pick (eqb code 2) 1 0 ⌝ }

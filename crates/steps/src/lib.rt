@@ -3,7 +3,7 @@ ghost use mathlib.Core.Bool.{true};
 ghost use mathlib.Core.Path.{_≡_};
 ghost use Prim.Native.Nat.{_≤_, _<_};
 ghost use Rattle.rules.specs.Refusals.{isOpening};
-ghost use Rattle.table.specs.Words.{marksFrom, rowIn};
+ghost use Rattle.table.specs.Words.{marksFrom};
 ghost use Rattle.steps.specs.Steps.{Ready, Stepped, goneWith};
 ghost use Rattle.steps.specs.Own.{aliveIn, earlyNumber, Answered, Amending};
 use codes::allocate;
@@ -16,8 +16,6 @@ use codes::retire;
 use codes::set_margin;
 use codes::unpledge;
 use dayfile::Record;
-use rows::Row;
-use table::places::kinds_at;
 
 mod codes;
 mod settling;
@@ -29,24 +27,6 @@ pub struct Gone {
     pub carried: u64,
     pub count: u16,
     pub serial: u16,
-}
-
-// An account's row, gathered.
-fn row_at(sort: &[u8; 256], live: &[bool; 256], tm: &[u16; 256], w: &[u64; 2560], i: usize) -> Row
-    requires { ⌜ i < 256 ⌝ }
-    ensures { λ x. ⌜ x ≡ rowIn (marksFrom (now (sort .entry)) (now (live .entry)) (now (tm .entry))) (now (w .entry)) i ⌝ }
-{
-    let received = kinds_at(w, 0, i);
-    let allocated = kinds_at(w, 4, i);
-    Row {
-        sort: sort[i],
-        live: live[i],
-        tm: tm[i],
-        received,
-        allocated,
-        pledged: w[256 * 8 + i],
-        margin: w[256 * 9 + i],
-    }
 }
 
 // An account's number was given, and it is live.

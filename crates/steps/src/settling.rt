@@ -6,12 +6,12 @@ ghost use Rattle.rows.specs.Rows.{ceiling};
 ghost use Rattle.rules.specs.Inner.{topMargin};
 ghost use Rattle.table.specs.Words.{marksFrom};
 ghost use Rattle.steps.specs.Own.{owedIn, settled, Held};
-use crate::row_at;
 use rows::Account;
 use rows::kept::under_cm;
 use rows::kept::under_tm;
 use rows::needs::account_of;
 use rows::needs::only_if;
+use table::places::row_at;
 
 // Under the TM, and under the CM.
 pub struct Owed {

@@ -9,7 +9,8 @@ use Rattle.sums.proofs.Sums.{sum-eq}
 use Rattle.rows.specs.declared.Row.{Row}
 use Rattle.rows.specs.Rows.{noRow, ceiling}
 use Rattle.rows.specs.Facts.{InRange}
-use Rattle.table.specs.Words.{wordAt, amountOf, Marks, rowsOf, amountSum}
+use Rattle.table.specs.Words.{wordAt, amountOf, Marks, rowsOf}
+use Rattle.table.specs.Inner.{amountSum}
 use Rattle.table.specs.Facts.{Capped}
 use Rattle.table.proofs.Gathered.{ten, word-in}
 

@@ -11,15 +11,14 @@ use lib.Seq.{getD-set-same, getD-set-other, set-set}
 use borrow.Author.Tests.{eq-eqb, ne-eqb}
 use Rattle.sums.specs.Choice.{pick}
 use Rattle.rows.specs.declared.Row.{Row}
-use Rattle.table.specs.Words.{wordAt, rowFrom, Marks, marksFrom, rowIn, rowsOf, withAmount}
+use Rattle.table.specs.Words.{wordAt, amountOf, rowFrom, Marks, marksFrom, rowIn, rowsOf}
 use Rattle.table.specs.Facts.{Sized}
+use Rattle.table.specs.Inner.{Anew}
 use Rattle.table.proofs.Gathered.{rows-but-one, row-eq}
 
--- account i's row is put anew as r, and no other row changes
-pub record Anew (m : Marks) (w : List ℕ) (i : ℕ) (r : Row) (n : Marks) (u : List ℕ) : Type 0 where
-  pub rows : rowsOf n u ≡ set (rowsOf m w) i r
-  pub row : rowIn n u i ≡ r
-  pub size : Sized n u
+-- a row with amount k put anew
+abbrev pub withAmount : ℕ → ℕ → Row → Row
+withAmount k x r = rowFrom (r .sort) (r .live) (r .tm) (λ j. pick (eqb j k) x (amountOf r j))
 
 -- put anew once more, by what the first time made of the row
 pub then : {m n p : Marks} {w u v : List ℕ} {i : ℕ} {r : Row} (f : Row → Row) → Anew m w i r n u → Anew n u i (f (rowIn n u i)) p v → Anew m w i (f r) p v

@@ -9,9 +9,10 @@ use Rattle.sums.specs.Choice.{pick}
 use Rattle.rows.specs.declared.Kinds.{Kinds}
 use Rattle.rows.specs.declared.Row.{Row}
 use Rattle.rows.specs.Rows.{withLive, withReceived, withAllocated, withPledged, withMargin}
-use Rattle.table.specs.Words.{Marks, marksFrom, rowIn, withAmount, putKinds, putRow}
+use Rattle.table.specs.Words.{Marks, marksFrom, rowIn}
+use Rattle.table.specs.Inner.{putKinds, putRow, Anew}
 use Rattle.table.specs.Facts.{Sized}
-use Rattle.table.proofs.InPlace.{Anew, then, amount-put, marks-put}
+use Rattle.table.proofs.InPlace.{withAmount, then, amount-put, marks-put}
 
 -- one amount more
 pub then-amount : {m n : Marks} {w u : List ℕ} {i : ℕ} {r : Row} (k x : ℕ) → k < 10 → i < 256 → Anew m w i r n u

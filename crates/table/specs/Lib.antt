@@ -1,2 +1,3 @@
 pub mod Words
 pub mod Facts
+pub mod Inner

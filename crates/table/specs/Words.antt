@@ -1,12 +1,9 @@
--- Document 02, K12: the table by amount, turned over and back, and its words put in their places.
+-- Document 02, K12: the table by amount, turned over and back.
 use mathlib.Core.Bool.{Bool, false}
 use mathlib.Core.List.{List, [], _∷_}
 use Prim.Native.Nat.{ℕ, _+_, _*_, _/_, _%_}
-use lib.Dec.{eqb}
-use lib.ListN.{getD, set}
-use Rattle.sums.specs.Choice.{pick}
+use lib.ListN.{getD}
 use Rattle.sums.specs.Listed.{listTo}
-use Rattle.sums.specs.Sum.{sum}
 use Rattle.rows.specs.declared.Kinds.{Kinds}
 use Rattle.rows.specs.declared.Row.{Row}
 use Rattle.rows.specs.declared.Book.{Book}
@@ -16,10 +13,6 @@ use Rattle.table.specs.declared.Table.{Table}
 -- "Store the table by amount and then by account.": amount k of account i
 abbrev pub wordAt : List ℕ → ℕ → ℕ → ℕ
 wordAt w k i = getD w (256 * k + i) 0
-
--- "The evening sums read one amount of all accounts.": amount k of the accounts below n
-unfoldable pub amountSum : List ℕ → ℕ → ℕ → ℕ
-amountSum w k n = sum n (wordAt w k)
 
 -- four amounts from number k on
 abbrev pub kindsFrom : (ℕ → ℕ) → ℕ → Kinds
@@ -73,16 +66,3 @@ bookFrom count serial m w = record { count = count; serial = serial; rows = rows
 -- "and back": the table as a book of the old order
 abbrev pub turnedBack : Table → Book
 turnedBack t = bookFrom (t .count) (t .serial) (marksOf t) (t .amounts)
-
--- a row with amount k put anew
-abbrev pub withAmount : ℕ → ℕ → Row → Row
-withAmount k x r = rowFrom (r .sort) (r .live) (r .tm) (λ j. pick (eqb j k) x (amountOf r j))
-
--- four amounts of account i put in their places, from number k on
-abbrev pub putKinds : List ℕ → ℕ → ℕ → Kinds → List ℕ
-putKinds w k i x =
-    set (set (set (set w (256 * k + i) (x .cash)) (256 * (k + 1) + i) (x .deposits)) (256 * (k + 2) + i) (x .guarantees)) (256 * (k + 3) + i) (x .securities)
-
--- a row's amounts put in account i's places
-abbrev pub putRow : List ℕ → ℕ → Row → List ℕ
-putRow w i r = set (set (putKinds (putKinds w 0 i (r .received)) 4 i (r .allocated)) (256 * 8 + i) (r .pledged)) (256 * 9 + i) (r .margin)

@@ -1,7 +1,7 @@
 // The evening sums: one amount of all accounts, out of its own run of words.
 ghost use mathlib.Core.Path.{_≡_};
 ghost use Prim.Native.Nat.{_≤_, _<_};
-ghost use Rattle.table.specs.Words.{amountSum};
+ghost use Rattle.table.specs.Inner.{amountSum};
 ghost use Rattle.table.specs.Facts.{Capped};
 
 // Amount k of the accounts below n.

@@ -2,7 +2,8 @@
 ghost use mathlib.Core.Path.{_≡_};
 ghost use Prim.Native.Nat.{_≤_, _<_};
 ghost use lib.ListN.{set};
-ghost use Rattle.table.specs.Words.{wordAt, kindsFrom, marksFrom, rowIn, rowsOf, putKinds, putRow};
+ghost use Rattle.table.specs.Words.{wordAt, kindsFrom, marksFrom, rowIn, rowsOf};
+ghost use Rattle.table.specs.Inner.{putKinds, putRow};
 use rows::Kinds;
 use rows::Row;
 
@@ -27,11 +28,12 @@ pub fn kinds_at(w: &[u64; 2560], k: usize, i: usize) -> Kinds
     }
 }
 
-pub fn row_of<'a>(
-    sort: &'a [u8; 256],
-    live: &'a [bool; 256],
-    tm: &'a [u16; 256],
-    w: &'a [u64; 2560],
+// An account's row, gathered.
+pub fn row_at(
+    sort: &[u8; 256],
+    live: &[bool; 256],
+    tm: &[u16; 256],
+    w: &[u64; 2560],
     i: usize,
 ) -> Row
     requires { ⌜ i < 256 ⌝ }
@@ -56,6 +58,20 @@ pub fn row_of<'a>(
         pledged: w[256 * 8 + i],
         margin: w[256 * 9 + i],
     }
+}
+
+// The same for the arrays of one table, which are lent for one time.
+pub fn row_of<'a>(
+    sort: &'a [u8; 256],
+    live: &'a [bool; 256],
+    tm: &'a [u16; 256],
+    w: &'a [u64; 2560],
+    i: usize,
+) -> Row
+    requires { ⌜ i < 256 ⌝ }
+    ensures { λ x. ⌜ x ≡ rowIn (marksFrom (now (sort .entry)) (now (live .entry)) (now (tm .entry))) (now (w .entry)) i ⌝ }
+{
+    row_at(sort, live, tm, w, i)
 }
 
 // The old order's rows, all of them gathered.

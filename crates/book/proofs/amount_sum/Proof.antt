@@ -4,7 +4,8 @@ use mathlib.Core.Path.{_≡_, sym, ap, _∙_}
 use borrow.Author.Needs.{needs}
 use borrow.Author.Tests.{not-true, not-false}
 use Rattle.rows.specs.Inner.{Ranged}
-use Rattle.table.specs.Words.{marksOf, turnedBack, amountSum}
+use Rattle.table.specs.Words.{marksOf, turnedBack}
+use Rattle.table.specs.Inner.{amountSum}
 use Rattle.table.proofs.EveningSums.{capped-in}
 use Rattle.book.specs.Sound.{soundB}
 use Rattle.book.specs.Inner.{runOf}

@@ -10,15 +10,15 @@ use Rattle.sums.proofs.Choices.{pass, stop}
 use Rattle.run.specs.Runs.{runOf}
 use Rattle.run.specs.Inner.{putFive, tellOf}
 use Rattle.run.proofs.Turning.{Loop, ends, cuts, long-cut, long-whole}
-use Rattle.table.specs.Words.{marksFrom}
-use Rattle.steps.specs.Steps.{bookOf, Ready}
+use Rattle.table.specs.Words.{bookFrom, marksFrom}
+use Rattle.steps.specs.Steps.{Ready}
 use Rattle.run.proofs.Rounds.{turn-on, few}
 use Rattle.run.proofs.go.Statement.{statement}
 use Rattle.run.proofs.go.Tie as tie
 
 abbrev Inv-loop : tie.InvT-loop
 Inv-loop sort₀ live₀ tm₀ w₀ under₀ first due piece most room₀ tell count₀ serial₀ place₀ read₀ done₀ sort live tm w under room count serial place read done =
-    Loop piece most tell room₀ (bookOf count₀ serial₀ (marksFrom sort₀ live₀ tm₀) w₀) place₀ read₀ done₀ room (bookOf count serial (marksFrom sort live tm) w) place read done
+    Loop piece most tell room₀ (bookFrom count₀ serial₀ (marksFrom sort₀ live₀ tm₀) w₀) place₀ read₀ done₀ room (bookFrom count serial (marksFrom sort live tm) w) place read done
     × Ready count serial (marksFrom sort live tm) w under
 
 abbrev μ-loop : tie.MeasureT-loop
@@ -43,8 +43,8 @@ loop-holds c =
         sound = start .pre .0 .sound;
         same = refl;
         space = start .pre .1;
-        runs = ap (λ n. runOf (a .piece .now) n (bookOf (a .first) (a .due) (marksFrom (a .sort .now) (a .live .now) (a .tm .now)) (a .w .now)) 0 0 0) (less-zero (a .most));
-        tells = ap (λ n. pick (a .tell) (tellOf (a .piece .now) n (bookOf (a .first) (a .due) (marksFrom (a .sort .now) (a .live .now) (a .tm .now)) (a .w .now)) 0 0 (a .room .now)) (a .room .now)) (less-zero (a .most));
+        runs = ap (λ n. runOf (a .piece .now) n (bookFrom (a .first) (a .due) (marksFrom (a .sort .now) (a .live .now) (a .tm .now)) (a .w .now)) 0 0 0) (less-zero (a .most));
+        tells = ap (λ n. pick (a .tell) (tellOf (a .piece .now) n (bookFrom (a .first) (a .due) (marksFrom (a .sort .now) (a .live .now) (a .tm .now)) (a .w .now)) 0 0 (a .room .now)) (a .room .now)) (less-zero (a .most));
       },
       start .pre .0,
     )

@@ -16,6 +16,9 @@ mul-room c = search needs
 slice-write-room : tie.Need-slice-write-room
 slice-write-room c = search needs
 
+cast-room : tie.Need-cast-room
+cast-room c = search needs
+
 add-room : tie.Need-add-room
 add-room c = search needs
 
@@ -33,6 +36,9 @@ mul-room-3 c = search needs
 
 slice-write-room-3 : tie.Need-slice-write-room-3
 slice-write-room-3 c = simp length-set (omega arith)
+
+cast-room-2 : tie.Need-cast-room-2
+cast-room-2 c = search needs
 
 add-room-3 : tie.Need-add-room-3
 add-room-3 c = search needs
@@ -57,8 +63,8 @@ same-length c = search needs
 
 returns : tie.Need-returns
 returns c =
-    let a = c .args in
-    five-stores (a .room .now) (5 * a .k) (a .serial) (a .code) (a .account) (a .refusal) (a .given)
+    let a = c .before .before .args in
+    five-stores (a .room .now) (5 * a .k) (a .r .serial) (a .r .code) (a .r .account) (a .gone .refusal) (a .gone .given)
 
 pub put-five-spec : {M : Type 1} → statement M
 put-five-spec =
@@ -67,12 +73,14 @@ put-five-spec =
     mul-at
     mul-room
     slice-write-room
+    cast-room
     add-room
     mul-room-2
     slice-write-room-2
     add-room-2
     mul-room-3
     slice-write-room-3
+    cast-room-2
     add-room-3
     mul-room-4
     slice-write-room-4

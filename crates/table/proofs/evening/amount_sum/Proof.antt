@@ -4,7 +4,8 @@ use Prim.Native.Nat.{_*_, _-_, _≤_}
 use native.Mathlib.Omega.{arith}
 use Rattle.sums.specs.Sum.{sum}
 use Rattle.sums.proofs.Sums.{sum-step, sum-most}
-use Rattle.table.specs.Words.{wordAt, amountSum}
+use Rattle.table.specs.Words.{wordAt}
+use Rattle.table.specs.Inner.{amountSum}
 use Rattle.table.proofs.evening.amount_sum.Statement.{statement}
 use Rattle.table.proofs.evening.amount_sum.Tie as tie
 
