@@ -13,16 +13,16 @@ use Rattle.rows.specs.declared.Book.{Book}
 use Rattle.rows.specs.Rows.{places}
 use Rattle.table.specs.declared.Table.{Table}
 use Rattle.table.specs.Words.{turned, turnedBack}
-use Rattle.run.specs.declared.Closing.{Closing}
-use Rattle.run.specs.declared.Closing.the-variants.{End, Cut, Long, Unsound}
-use Rattle.run.specs.declared.Ran.{Ran}
+use Rattle.records.specs.declared.Closing.{Closing}
+use Rattle.records.specs.declared.Closing.the-variants.{End, Cut, Long, Unsound}
+use Rattle.records.specs.declared.Ran.{Ran}
 use Rattle.run.specs.declared.Ended.{Ended}
-use Rattle.run.specs.Runs.{ranOf}
+use Rattle.records.specs.Runs.{ranOf}
 use Rattle.run.specs.Over.{overRan}
-use Rattle.run.proofs.SoundRun.{ran-places}
+use Rattle.records.proofs.SoundRun.{ran-places}
 use Rattle.run.proofs.Turned.{backRan, back-ran, over-again}
-use Rattle.run.proofs.Stops.{Stopped, ran-stops, ran-enough}
-use Rattle.run.proofs.Pieces.{onFrom, on-twice, on-none, restOf, in-pieces}
+use Rattle.records.proofs.Stops.{Stopped, ran-stops, ran-enough}
+use Rattle.records.proofs.Pieces.{onFrom, on-twice, on-none, restOf, in-pieces}
 use Rattle.lines.specs.declared.Lined.{Lined}
 use Rattle.lines.proofs.Agreement.{endedIn}
 use Rattle.sums.specs.Room.{over}

@@ -16,13 +16,13 @@ use Rattle.book.specs.Facts.{Sound}
 use Rattle.book.proofs.FreshSound.{fresh-sound}
 use Rattle.dayfile.specs.Files.{Bytes}
 use Rattle.dayfile.proofs.Numbers.{bytes-drop}
-use Rattle.run.specs.declared.Closing.{Closing}
-use Rattle.run.specs.declared.Closing.the-variants.{End, Cut, Long, Unsound}
-use Rattle.run.specs.declared.Ran.{Ran}
-use Rattle.run.specs.Runs.{ranOf}
-use Rattle.run.proofs.SoundRun.{ran-keeps}
-use Rattle.run.proofs.Stops.{Stopped, ran-stops, ran-moves}
-use Rattle.run.proofs.Pieces.{onFrom, on-twice, on-none, restOf, in-pieces}
+use Rattle.records.specs.declared.Closing.{Closing}
+use Rattle.records.specs.declared.Closing.the-variants.{End, Cut, Long, Unsound}
+use Rattle.records.specs.declared.Ran.{Ran}
+use Rattle.records.specs.Runs.{ranOf}
+use Rattle.records.proofs.SoundRun.{ran-keeps}
+use Rattle.records.proofs.Stops.{Stopped, ran-stops, ran-moves}
+use Rattle.records.proofs.Pieces.{onFrom, on-twice, on-none, restOf, in-pieces}
 use Rattle.table.specs.declared.Table.{Table}
 use Rattle.table.specs.Words.{turned}
 use Rattle.feed.specs.Fed.{dayOf, wholeDay, Came}

@@ -5,8 +5,8 @@ use Prim.Native.Nat.{ℕ}
 use Rattle.rows.specs.Rows.{freshBook}
 use Rattle.table.specs.Words.{turned}
 use Rattle.dayfile.specs.Files.{Bytes}
-use Rattle.run.specs.declared.Ran.{Ran}
-use Rattle.run.specs.Runs.{ranOf}
+use Rattle.records.specs.declared.Ran.{Ran}
+use Rattle.records.specs.Runs.{ranOf}
 use Rattle.feed.specs.declared.Day.{Day}
 
 -- a run's results without its place

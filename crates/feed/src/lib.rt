@@ -1,11 +1,11 @@
 // A day file read from standard input in large pieces and carried out over a fresh book.
 ghost use mathlib.Core.Path.{_≡_};
-ghost use Rattle.run.specs.Runs.{ranOf};
+ghost use Rattle.records.specs.Runs.{ranOf};
 ghost use Rattle.run.specs.Over.{overRan};
 ghost use Rattle.table.specs.Words.{turnedBack};
 ghost use Rattle.feed.specs.Fed.{Came};
 ghost use Rattle.feed.specs.Inner.{stopsAt};
-use run::Closing;
+use records::Closing;
 use run::Ended;
 use space::SPACE;
 use table::Table;

@@ -1,11 +1,11 @@
 // The records of a piece, with a line each on standard output.
 ghost use mathlib.Core.Path.{_≡_};
-ghost use Rattle.run.specs.Runs.{ranOf};
+ghost use Rattle.records.specs.Runs.{ranOf};
 ghost use Rattle.run.specs.Over.{overRan};
 ghost use Rattle.table.specs.Words.{turnedBack};
 ghost use Rattle.feed.specs.Inner.{isLong};
 use libc::STDOUT_FILENO;
-use run::Closing;
+use records::Closing;
 use run::Ended;
 use table::Table;
 

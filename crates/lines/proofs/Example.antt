@@ -2,8 +2,8 @@
 use mathlib.Core.List.{[], _∷_}
 use mathlib.Core.Path.{_≡_, refl}
 use Rattle.sums.specs.Choice.{pick}
-use Rattle.run.specs.declared.Closing.the-variants.{End}
-use Rattle.run.specs.Told.{five}
+use Rattle.records.specs.declared.Closing.the-variants.{End}
+use Rattle.records.specs.Told.{five}
 use Rattle.desk.specs.declared.Outcome.the-variants.{Refused}
 use Rattle.lines.specs.Lines.{digits, decimal, spaced, lineOf, closingLineOf}
 

@@ -15,12 +15,12 @@ use Rattle.dayfile.specs.declared.Found.the-variants.{End as NoBytes, Cut as To
 use Rattle.dayfile.specs.Reading.{foundAt}
 use Rattle.desk.specs.declared.Answer.{Answer}
 use Rattle.desk.specs.Steps.{stepOf}
-use Rattle.run.specs.declared.Closing.the-variants.{Unsound}
+use Rattle.records.specs.declared.Closing.the-variants.{Unsound}
 use Rattle.run.specs.declared.Ended.{Ended}
 use Rattle.run.specs.Over.{overRan}
-use Rattle.run.specs.Runs.{endedWith, runOf, ranOf}
-use Rattle.run.specs.Told.{answering, answersOf, five, fives, roomFor, toldOf}
-use Rattle.run.proofs.SoundRun.{run-counts}
+use Rattle.records.specs.Runs.{endedWith, runOf, ranOf}
+use Rattle.records.specs.Told.{answering, answersOf, five, fives, roomFor, toldOf}
+use Rattle.records.proofs.SoundRun.{run-counts}
 use Rattle.lines.specs.Lines.{lineOf, linesOf}
 use Rattle.sums.specs.Room.{over}
 use Rattle.lines.specs.Texts.{textOf, withText, linedOf}

@@ -4,9 +4,9 @@ use Prim.Native.Nat.{ℕ, zero, suc, _+_, _/_, _%_}
 use lib.Dec.{ltb}
 use Rattle.sums.specs.Choice.{pick}
 use Rattle.desk.specs.declared.Answer.{Answer}
-use Rattle.run.specs.declared.Closing.{Closing}
-use Rattle.run.specs.declared.Closing.the-variants.{End, Cut, Long, Unsound}
-use Rattle.run.specs.Told.{five}
+use Rattle.records.specs.declared.Closing.{Closing}
+use Rattle.records.specs.declared.Closing.the-variants.{End, Cut, Long, Unsound}
+use Rattle.records.specs.Told.{five}
 
 -- the bytes of a digit (48 is `0`), of a space and of a line's end
 abbrev pub digit : ℕ → ℕ

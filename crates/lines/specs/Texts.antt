@@ -6,9 +6,9 @@ use Rattle.sums.specs.Choice.{pick}
 use Rattle.rows.specs.declared.Book.{Book}
 use Rattle.book.specs.Sound.{soundB}
 use Rattle.run.specs.declared.Ended.{Ended}
-use Rattle.run.specs.Runs.{ranOf}
+use Rattle.records.specs.Runs.{ranOf}
 use Rattle.run.specs.Over.{overRan}
-use Rattle.run.specs.Told.{answersOf}
+use Rattle.records.specs.Told.{answersOf}
 use Rattle.lines.specs.Lines.{linesOf}
 use Rattle.lines.specs.declared.Lined.{Lined}
 

@@ -5,7 +5,7 @@ ghost use lib.ListN.{length};
 ghost use Rattle.lines.specs.Lines.{space, wordOf, closingLineOf};
 ghost use Rattle.lines.specs.Inner.{Puts};
 use crate::number::put_number;
-use run::Closing;
+use records::Closing;
 
 // Puts a text at the room's start, and gives its length.
 fn put_text(room: &mut [u8], text: &[u8]) -> usize

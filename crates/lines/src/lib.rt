@@ -6,7 +6,7 @@ ghost use Rattle.lines.specs.Lines.{closingLineOf};
 ghost use Rattle.sums.specs.Room.{over};
 ghost use Rattle.table.specs.Words.{turnedBack};
 ghost use Rattle.lines.specs.Texts.{limitOf, textOf, linedOf};
-use run::Closing;
+use records::Closing;
 use table::Table;
 
 mod closing;

@@ -31,10 +31,10 @@ use Rattle.desk.specs.Steps.{stepOf, nextOf}
 use Rattle.desk.proofs.Doing.{unsound-next, sound-next}
 use Rattle.desk.proofs.Effect.{answer-number, early-refusal, later-refusal, number-most}
 use Rattle.desk.proofs.Lasting.{refusal-keeps}
-use Rattle.run.specs.declared.Closing.the-variants.{Unsound}
-use Rattle.run.specs.Runs.{endedWith, ranOf}
-use Rattle.run.specs.Told.{toldOf}
-use Rattle.run.proofs.Tellings.{ran-unsound, told-unsound}
+use Rattle.records.specs.declared.Closing.the-variants.{Unsound}
+use Rattle.records.specs.Runs.{endedWith, ranOf}
+use Rattle.records.specs.Told.{toldOf}
+use Rattle.records.proofs.Tellings.{ran-unsound, told-unsound}
 use Rattle.closeout.specs.Closing.{lossAt, noTotal, closeOutRefusals, closeOutRefusal, closedOf, roomOf}
 use Rattle.closeout.specs.Columns.{total}
 use Rattle.closeout.proofs.Carried.{refused-total, refused-untouched}

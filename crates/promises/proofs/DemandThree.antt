@@ -18,8 +18,8 @@ use Rattle.book.proofs.FreshSound.{fresh-sound}
 use Rattle.book.proofs.SoundTest.{sound→, sound←}
 use Rattle.dayfile.specs.declared.Record.{Record}
 use Rattle.desk.specs.Steps.{stepOf, nextOf}
-use Rattle.run.specs.Runs.{ranOf}
-use Rattle.run.proofs.SoundRun.{step-sound, next-sound, ran-keeps}
+use Rattle.records.specs.Runs.{ranOf}
+use Rattle.records.proofs.SoundRun.{step-sound, next-sound, ran-keeps}
 use Rattle.closeout.specs.Round.{own, fromTM, fromCM}
 use Rattle.closeout.specs.Columns.{isClientOrCP, purses₁, part₁, ownColumn, tmColumn, cmColumn}
 use Rattle.closeout.specs.Bound.{beyond, cellOf}

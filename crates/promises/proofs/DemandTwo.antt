@@ -36,9 +36,9 @@ use Rattle.desk.specs.Steps.{doneBy, stepOf, nextOf}
 use Rattle.desk.proofs.Effect.{given-exactly, exactly-given, carried-exactly, exactly-carried, passed-as}
 use Rattle.desk.proofs.Lasting.{others-stay, retired-stays, count-stays, opened-next}
 use Rattle.desk.proofs.Rows.{named-after, new-after, opened-keeps, sort-stays}
-use Rattle.run.specs.Runs.{runOf, ranOf}
-use Rattle.run.specs.Told.{answersOf, carriedOf}
-use Rattle.run.proofs.SoundRun.{run-by-next, ran-counts}
+use Rattle.records.specs.Runs.{runOf, ranOf}
+use Rattle.records.specs.Told.{answersOf, carriedOf}
+use Rattle.records.proofs.SoundRun.{run-by-next, ran-counts}
 use Rattle.closeout.specs.Columns.{tmColumn, cmColumn, four, rowsTo}
 use Rattle.closeout.specs.Bound.{cellOf}
 use Rattle.closeout.specs.Closing.{lossAt, closeOutRefusal, roomOf}

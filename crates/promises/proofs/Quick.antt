@@ -16,7 +16,7 @@ use Rattle.dayfile.specs.declared.Record.{Record}
 use Rattle.rules.specs.Refusals.{namedRow}
 use Rattle.rules.specs.Inner.{SeenOf, changeBy}
 use Rattle.rules.proofs.WhatIsSeen.{toSee, change-seen}
-use Rattle.run.proofs.SoundRun.{step-sound}
+use Rattle.records.proofs.SoundRun.{step-sound}
 use Rattle.desk.specs.declared.Done.{Done}
 use Rattle.desk.specs.Steps.{doneBy, stepOf}
 use Rattle.closeout.specs.declared.Closed.{Closed}

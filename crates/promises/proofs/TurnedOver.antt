@@ -17,8 +17,8 @@ use Rattle.book.specs.declared.Amount.{Amount}
 use Rattle.dayfile.specs.declared.Record.{Record}
 use Rattle.desk.specs.Steps.{stepOf, nextOf}
 use Rattle.desk.specs.Over.{overDone, overNext}
-use Rattle.run.specs.Runs.{ranOf}
-use Rattle.run.specs.Told.{toldOf}
+use Rattle.records.specs.Runs.{ranOf}
+use Rattle.records.specs.Told.{toldOf}
 use Rattle.run.specs.Over.{overRan}
 use Rattle.closeout.specs.Closing.{closedOf, roomOf}
 

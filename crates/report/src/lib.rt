@@ -7,7 +7,7 @@ ghost use Rattle.sums.specs.Room.{over};
 ghost use Rattle.table.specs.Words.{turnedBack};
 ghost use Rattle.report.specs.Reports.{accounts as Reports·accounts, standingsText, closeOutText};
 use libc::STDOUT_FILENO;
-use run::Closing;
+use records::Closing;
 use table::Table;
 
 mod loss;

@@ -1,8 +1,1 @@
-pub mod Numbers
-pub mod Turning
-pub mod Tellings
-pub mod SoundRun
 pub mod Turned
-pub mod Stops
-pub mod Pieces
-pub mod Rounds

@@ -8,11 +8,11 @@ use Rattle.table.specs.declared.Table.{Table}
 use Rattle.table.specs.Words.{marksOf, turned, turnedBack}
 use Rattle.table.specs.Facts.{Sized}
 use Rattle.table.proofs.Turning.{over-and-back, back-and-over, turned-sized}
-use Rattle.run.specs.declared.Ran.{Ran}
+use Rattle.records.specs.declared.Ran.{Ran}
 use Rattle.run.specs.declared.Ended.{Ended}
-use Rattle.run.specs.Runs.{ranOf}
+use Rattle.records.specs.Runs.{ranOf}
 use Rattle.run.specs.Over.{overRan}
-use Rattle.run.proofs.SoundRun.{ran-places}
+use Rattle.records.proofs.SoundRun.{ran-places}
 
 -- what a call gave, in the old order
 abbrev pub backRan : Ended → Ran

@@ -1,4 +1,1 @@
-pub mod Runs
-pub mod Told
-pub mod Inner
 pub mod Over

@@ -1,6 +1,6 @@
 -- K12: "every call answers as on the old order and leaves the old one's book, turned over."
 use Rattle.table.specs.Words.{turned}
-use Rattle.run.specs.declared.Ran.{Ran}
+use Rattle.records.specs.declared.Ran.{Ran}
 use Rattle.run.specs.declared.Ended.{Ended}
 
 abbrev pub overRan : Ran → Ended

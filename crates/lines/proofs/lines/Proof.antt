@@ -5,7 +5,7 @@ use mathlib.Core.List.{List}
 use Prim.Native.Nat.{ℕ, zero, _≤_}
 use native.Mathlib.Omega.{arith}
 use lib.ListN.{length, replicate, length-replicate}
-use Rattle.run.specs.Told.{roomFor}
+use Rattle.records.specs.Told.{roomFor}
 use Rattle.table.specs.Words.{turnedBack}
 use Rattle.lines.specs.Texts.{limitOf}
 use Rattle.lines.proofs.Records.{read-most, lined}

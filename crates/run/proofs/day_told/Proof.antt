@@ -8,11 +8,11 @@ use lib.ListN.{length}
 use Rattle.sums.proofs.Choices.{pick-yes}
 use Rattle.book.specs.Sound.{soundB}
 use Rattle.book.proofs.SoundTest.{sound→}
-use Rattle.run.specs.Runs.{runOf}
-use Rattle.run.specs.Told.{roomFor}
+use Rattle.records.specs.Runs.{runOf}
+use Rattle.records.specs.Told.{roomFor}
 use Rattle.table.specs.Words.{turnedBack}
 use Rattle.run.specs.Over.{overRan}
-use Rattle.run.proofs.Tellings.{ran-unsound, ran-sound, told-unsound, told-sound}
+use Rattle.records.proofs.Tellings.{ran-unsound, ran-sound, told-unsound, told-sound}
 use borrow.Author.Needs.{needs}
 use Rattle.run.proofs.day_told.Statement.{statement}
 use Rattle.run.proofs.day_told.Tie as tie

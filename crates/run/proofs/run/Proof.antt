@@ -39,7 +39,7 @@ same-length c = search needs
 returns : tie.Need-returns
 returns c =
     let g = c .before .before .before .go .ensures in
-    (left-over _ _ (c .sizes2 .ensures) (g .0), g .1)
+    (left-over _ _ (c .sizes2 .ensures) (g .0), g .1 .1)
 
 pub run-spec : {M : Type 1} → statement M
 run-spec = tie.close (tie.spec sizes-requires unders-requires go-requires sizes-requires-2 same-length returns)

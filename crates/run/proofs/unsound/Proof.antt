@@ -3,7 +3,7 @@ use mathlib.Core.Path.{_≡_, sym, ap}
 use borrow.Author.Needs.{needs}
 use Rattle.table.specs.declared.Table.{Table}
 use Rattle.table.proofs.Turning.{back-and-over}
-use Rattle.run.specs.declared.Closing.the-variants.{Unsound}
+use Rattle.records.specs.declared.Closing.the-variants.{Unsound}
 use Rattle.run.specs.declared.Ended.{Ended}
 use Rattle.run.proofs.unsound.Statement.{statement}
 use Rattle.run.proofs.unsound.Tie as tie

@@ -18,13 +18,13 @@ use Rattle.rules.specs.Effects.{changeOf, bookAfter}
 use Rattle.rules.proofs.SoundChange.{change-sound}
 use Rattle.desk.specs.Answers.{carriedIn, answerOf}
 use Rattle.desk.specs.Steps.{stepOf}
-use Rattle.run.specs.declared.Closing.{Closing}
-use Rattle.run.specs.declared.Closing.the-variants.{End, Cut, Long}
-use Rattle.run.specs.Runs.{endedWith, stopped, runOf}
-use Rattle.run.specs.Told.{five}
-use Rattle.run.specs.Inner.{putFive, tellOf}
+use Rattle.records.specs.declared.Closing.{Closing}
+use Rattle.records.specs.declared.Closing.the-variants.{End, Cut, Long}
+use Rattle.records.specs.Runs.{endedWith, stopped, runOf}
+use Rattle.records.specs.Told.{five}
+use Rattle.records.specs.Inner.{putFive, tellOf}
 use Rattle.steps.specs.Steps.{carriedShown}
-use Rattle.run.proofs.Numbers.{numbersBy, carried-shown, numbers-by}
+use Rattle.records.proofs.Numbers.{numbersBy, carried-shown, numbers-by}
 
 -- s is the piece; with ₀ what was there where the loop began
 module _ (s : List ℕ) (most : ℕ) (tell : Bool) (room₀ : List ℕ) (b₀ : Book) (place₀ read₀ done₀ : ℕ) where

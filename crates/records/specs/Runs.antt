@@ -9,9 +9,9 @@ use Rattle.dayfile.specs.declared.Found.the-variants.{End as NoBytes, Cut as To
 use Rattle.dayfile.specs.Reading.{foundAt}
 use Rattle.desk.specs.Answers.{carriedIn}
 use Rattle.desk.specs.Steps.{stepOf}
-use Rattle.run.specs.declared.Closing.{Closing}
-use Rattle.run.specs.declared.Closing.the-variants.{End, Cut, Long, Unsound}
-use Rattle.run.specs.declared.Ran.{Ran}
+use Rattle.records.specs.declared.Closing.{Closing}
+use Rattle.records.specs.declared.Closing.the-variants.{End, Cut, Long, Unsound}
+use Rattle.records.specs.declared.Ran.{Ran}
 
 -- "the book after them, the place reached (after the last record read), the closing word .. and two counts: records read,
 -- and those of them with refusal 0"

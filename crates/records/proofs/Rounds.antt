@@ -10,8 +10,8 @@ use Rattle.dayfile.specs.declared.Record.{Record}
 use Rattle.dayfile.specs.declared.Found.the-variants.{Whole}
 use Rattle.dayfile.specs.Reading.{foundAt}
 use Rattle.rules.specs.Effects.{changeOf}
-use Rattle.run.specs.Inner.{putFive}
-use Rattle.run.proofs.Turning.{Loop, carried-most, turn}
+use Rattle.records.specs.Inner.{putFive}
+use Rattle.records.proofs.Turning.{Loop, carried-most, turn}
 use Rattle.table.specs.Words.{Marks, bookFrom}
 use Rattle.steps.specs.declared.Gone.{Gone}
 use Rattle.steps.specs.Steps.{refusalShown, Stepped}

@@ -20,7 +20,7 @@ use Rattle.rules.proofs.Deciding.{never-one, refuse-number}
 use Rattle.desk.specs.declared.Outcome.the-variants.{Refused}
 use Rattle.desk.specs.Answers.{nobody, ofRecord, answerOf, carriedIn}
 use Rattle.desk.specs.Steps.{stepOf}
-use Rattle.run.specs.Told.{five}
+use Rattle.records.specs.Told.{five}
 use Rattle.steps.specs.Steps.{refusalShown, givenShown, carriedShown}
 
 -- the numbers of a record at a sound book, by its change

@@ -14,10 +14,10 @@ use Rattle.dayfile.specs.declared.Found.the-variants.{End as NoBytes, Cut as To
 use Rattle.dayfile.specs.Reading.{foundAt}
 use Rattle.desk.specs.declared.Answer.{Answer}
 use Rattle.desk.specs.Steps.{stepOf}
-use Rattle.run.specs.declared.Closing.the-variants.{Unsound}
-use Rattle.run.specs.Runs.{endedWith, runOf, ranOf}
-use Rattle.run.specs.Told.{answering, answersOf, five, fives, roomFor, toldOf}
-use Rattle.run.specs.Inner.{putFive, telling, tellOf}
+use Rattle.records.specs.declared.Closing.the-variants.{Unsound}
+use Rattle.records.specs.Runs.{endedWith, runOf, ranOf}
+use Rattle.records.specs.Told.{answering, answersOf, five, fives, roomFor, toldOf}
+use Rattle.records.specs.Inner.{putFive, telling, tellOf}
 
 five-length : (a : Answer) → length (five a) ≡ 5
 unfolding five

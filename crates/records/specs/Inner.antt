@@ -8,9 +8,9 @@ use Rattle.dayfile.specs.declared.Found.{Found}
 use Rattle.dayfile.specs.declared.Found.the-variants.{End as NoBytes, Cut as TooFew, Whole}
 use Rattle.dayfile.specs.Reading.{foundAt}
 use Rattle.desk.specs.Steps.{stepOf}
-use Rattle.run.specs.declared.Ran.{Ran}
-use Rattle.run.specs.declared.Went.{Went}
-use Rattle.run.specs.Told.{five}
+use Rattle.records.specs.declared.Ran.{Ran}
+use Rattle.records.specs.declared.Went.{Went}
+use Rattle.records.specs.Told.{five}
 
 -- the room with the numbers of the record that is number k put in
 abbrev pub putFive : List ℕ → ℕ → List ℕ → List ℕ

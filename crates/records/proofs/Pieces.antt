@@ -17,12 +17,12 @@ use Rattle.dayfile.specs.Reading.{foundAt}
 use Rattle.dayfile.proofs.Growing.{further, found-further, found-longer}
 use Rattle.desk.specs.Answers.{carriedIn}
 use Rattle.desk.specs.Steps.{stepOf}
-use Rattle.run.specs.declared.Closing.the-variants.{Unsound}
-use Rattle.run.specs.declared.Ran.{Ran}
-use Rattle.run.specs.Runs.{endedWith, stopped, onward, runOf, ranOf}
-use Rattle.run.proofs.SoundRun.{run-sound}
-use Rattle.run.proofs.Stops.{run-stops}
-use Rattle.run.proofs.Tellings.{ran-sound, ran-unsound}
+use Rattle.records.specs.declared.Closing.the-variants.{Unsound}
+use Rattle.records.specs.declared.Ran.{Ran}
+use Rattle.records.specs.Runs.{endedWith, stopped, onward, runOf, ranOf}
+use Rattle.records.proofs.SoundRun.{run-sound}
+use Rattle.records.proofs.Stops.{run-stops}
+use Rattle.records.proofs.Tellings.{ran-sound, ran-unsound}
 
 -- what a run came to, after place bytes and with these counts before it
 abbrev pub onFrom : ℕ → ℕ → ℕ → Ran → Ran

@@ -18,11 +18,11 @@ use Rattle.desk.specs.declared.Outcome.{Outcome}
 use Rattle.desk.specs.declared.Outcome.the-variants.{CarriedOut, Opened, Refused, End as NoRecord}
 use Rattle.desk.specs.Answers.{carriedIn}
 use Rattle.desk.specs.Steps.{stepOf}
-use Rattle.run.specs.declared.Closing.{Closing}
-use Rattle.run.specs.declared.Closing.the-variants.{End, Cut, Long, Unsound}
-use Rattle.run.specs.declared.Ran.{Ran}
-use Rattle.run.specs.Runs.{endedWith, stopped, onward, runOf, ranOf}
-use Rattle.run.proofs.Tellings.{ran-sound, ran-unsound}
+use Rattle.records.specs.declared.Closing.{Closing}
+use Rattle.records.specs.declared.Closing.the-variants.{End, Cut, Long, Unsound}
+use Rattle.records.specs.declared.Ran.{Ran}
+use Rattle.records.specs.Runs.{endedWith, stopped, onward, runOf, ranOf}
+use Rattle.records.proofs.Tellings.{ran-sound, ran-unsound}
 
 -- two closing words that differ
 never : {A : Type 0} → _≡_ {A = ℕ} 0 1 → A

@@ -1,11 +1,11 @@
--- `run::put_five` meets its contract.
+-- `records::put_five` meets its contract.
 use borrow.Author.Needs.{needs}
 use Prim.Native.Nat.{_*_}
 use native.Mathlib.Omega.{arith}
 use lib.ListN.{length-set}
-use Rattle.run.proofs.Numbers.{five-stores}
-use Rattle.run.proofs.put_five.Statement.{statement}
-use Rattle.run.proofs.put_five.Tie as tie
+use Rattle.records.proofs.Numbers.{five-stores}
+use Rattle.records.proofs.put_five.Statement.{statement}
+use Rattle.records.proofs.put_five.Tie as tie
 
 mul-at : tie.Need-mul-at
 mul-at c = search needs

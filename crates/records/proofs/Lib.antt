@@ -1,0 +1,7 @@
+pub mod Numbers
+pub mod Turning
+pub mod Tellings
+pub mod SoundRun
+pub mod Stops
+pub mod Pieces
+pub mod Rounds

@@ -1,0 +1,182 @@
+-- `records::go` meets its contract: `Loop` of `Turning` holds at each turn of the book that the words are.
+use borrow.Author.Needs.{needs}
+use mathlib.Core.List.{[], _∷_}
+use mathlib.Core.Logic.{⊎-elim}
+use mathlib.Core.Path.{_≡_, refl, sym, ap, _∙_}
+use Prim.Native.Nat.{ℕ, _-_}
+use native.Mathlib.Omega.{arith}
+use Rattle.sums.specs.Choice.{pick}
+use Rattle.sums.proofs.Choices.{pass, stop}
+use Rattle.dayfile.specs.declared.Found.{Found}
+use Rattle.dayfile.specs.Reading.{foundAt}
+use Rattle.table.specs.Words.{bookFrom, marksFrom}
+use Rattle.steps.specs.Steps.{Ready}
+use Rattle.records.specs.Runs.{runOf}
+use Rattle.records.specs.Inner.{putFive, tellOf}
+use Rattle.records.proofs.Turning.{Loop, ends, cuts, long-cut, long-whole}
+use Rattle.records.proofs.Rounds.{turn-on, few}
+use Rattle.records.proofs.go.Statement.{statement}
+use Rattle.records.proofs.go.Tie as tie
+
+abbrev Inv-loop : tie.InvT-loop
+Inv-loop sort₀ live₀ tm₀ w₀ under₀ first due piece most room₀ tell count₀ serial₀ place₀ read₀ done₀ sort live tm w under room count serial place read done =
+    Loop piece most tell room₀ (bookFrom count₀ serial₀ (marksFrom sort₀ live₀ tm₀) w₀) place₀ read₀ done₀ room (bookFrom count serial (marksFrom sort live tm) w) place read done
+    × Ready count serial (marksFrom sort live tm) w under
+
+abbrev μ-loop : tie.MeasureT-loop
+μ-loop sort₀ live₀ tm₀ w₀ under₀ first due piece most room₀ tell count₀ serial₀ place₀ read₀ done₀ sort live tm w under room count serial place read done =
+    most - read
+
+-- THE PLACES, each named once: seen from where the piece was looked at, and from where a record was carried out.
+abbrev turn : tie.After-found-at Inv-loop μ-loop → tie.At-loop Inv-loop μ-loop
+turn f = f .before
+
+abbrev called : tie.At-loop Inv-loop μ-loop → tie.Start Inv-loop μ-loop
+called t = t .before .before .before
+
+abbrev more : tie.After-step Inv-loop μ-loop → tie.Else2 Inv-loop μ-loop
+more s = s .before .before .before .before .before .before
+
+abbrev whole : tie.Else2 Inv-loop μ-loop → tie.After-found Inv-loop μ-loop
+whole e = e .before .before
+
+abbrev looked : tie.After-found Inv-loop μ-loop → tie.After-found-at Inv-loop μ-loop
+looked f = f .before .before
+
+abbrev its-turn : tie.After-step Inv-loop μ-loop → tie.At-loop Inv-loop μ-loop
+its-turn s = turn (looked (whole (more s)))
+
+less-zero : (n : ℕ) → n - 0 ≡ n
+less-zero n = omega arith
+
+-- what stood in the piece is what was found there
+met : (f : tie.After-found-at Inv-loop μ-loop) (x : Found) → f .found-at .result ≡ x → foundAt (called (turn f) .args .piece .now) (turn f .loop .place) ≡ x
+met f x e = sym (f .found-at .ensures) ∙ e
+
+-- the room after the record's numbers are told, or not
+told-is : (c : tie.Joined3 Inv-loop μ-loop) → (let s = c .before in let r = whole (more s) .found .given .0 .0 in let v = its-turn s .loop in
+    c .if3 .room ≡ pick (called (its-turn s) .args .tell) (putFive (v .room) (v .read) (r .serial ∷ r .code ∷ r .account ∷ s .step .result .refusal ∷ s .step .result .given ∷ [])) (v .room))
+told-is c = ⊎-elim (λ w. pass _ (w .0 .taken) (w .5 ∙ w .2 .ensures)) (λ w. stop _ (w .0 .left) (w .1)) (c .if3 .came)
+
+loop-holds : tie.Need-loop-holds Inv-loop μ-loop
+loop-holds c =
+    let start = c .before .before in
+    let a = start .args in (
+      record {
+        within = omega arith;
+        fewer = omega arith;
+        sound = start .pre .0 .sound;
+        same = refl;
+        space = start .pre .1;
+        runs = ap (λ n. runOf (a .piece .now) n (bookFrom (a .first) (a .due) (marksFrom (a .sort .now) (a .live .now) (a .tm .now)) (a .w .now)) 0 0 0) (less-zero (a .most));
+        tells = ap (λ n. pick (a .tell) (tellOf (a .piece .now) n (bookFrom (a .first) (a .due) (marksFrom (a .sort .now) (a .live .now) (a .tm .now)) (a .w .now)) 0 0 (a .room .now)) (a .room .now)) (less-zero (a .most));
+      },
+      start .pre .0,
+    )
+
+found-at-requires : tie.Need-found-at-requires Inv-loop μ-loop
+found-at-requires c κs = search needs
+
+enum-told : tie.Need-enum-told Inv-loop μ-loop
+enum-told c = search needs
+
+enum-told-2 : tie.Need-enum-told-2 Inv-loop μ-loop
+enum-told-2 c = search needs
+
+enum-known-found : tie.Need-enum-known-found Inv-loop μ-loop
+enum-known-found c = search needs
+
+step-requires : tie.Need-step-requires Inv-loop μ-loop
+step-requires c κs = turn (looked (whole (c .before .before .before .before .before))) .loop .inv .1
+
+put-five-requires : tie.Need-put-five-requires Inv-loop μ-loop
+put-five-requires c κs =
+    let s = c .before .before in
+    let g = its-turn s .loop .inv .0 in
+    omega (arith, g .space (c .before .if3 .taken), g .same, more s .if2 .left)
+
+add-read : tie.Need-add-read Inv-loop μ-loop
+add-read c = omega (arith, more (c .before) .if2 .left, called (its-turn (c .before)) .fits .most .fits)
+
+add-done : tie.Need-add-done Inv-loop μ-loop
+add-done c =
+    let s = c .before .before in
+    omega (arith, its-turn s .loop .inv .0 .fewer, few (s .step .ensures), more s .if2 .left, called (its-turn s) .fits .most .fits)
+
+loop-less : tie.Need-loop-less Inv-loop μ-loop
+loop-less c = omega (arith, more (c .before .before) .if2 .left)
+
+loop-again : tie.Need-loop-again Inv-loop μ-loop
+loop-again c =
+    let s = c .before .before in
+    let v = its-turn s .loop in (
+      turn-on _ _ _ _ _ _ _ _ (v .room) (v .count) (v .serial) _ (v .w) (v .place) (v .read) (v .done) (v .inv .0) _ _ (more s .if2 .left)
+          (met (looked (whole (more s))) _ (whole (more s) .found .given .1)) _ _ _ _ (s .step .ensures) _ (told-is (c .before)),
+      s .step .ensures .ready,
+    )
+
+same-length : tie.Need-same-length Inv-loop μ-loop
+same-length c = turn (c .before .before) .loop .inv .0 .same
+
+returns : tie.Need-returns Inv-loop μ-loop
+returns c =
+    let f = c .before .before in
+    let v = turn f .loop in
+    let x = ends _ _ _ _ _ _ _ _ (v .room) _ (v .place) (v .read) (v .done) (v .inv .0) (met f _ (c .enum-told .given .1)) in
+    (x .0, (v .inv .1, x .1))
+
+same-length-2 : tie.Need-same-length-2 Inv-loop μ-loop
+same-length-2 c = turn (c .before .before .before) .loop .inv .0 .same
+
+returns-2 : tie.Need-returns-2 Inv-loop μ-loop
+returns-2 c =
+    let f = c .before .before .before in
+    let v = turn f .loop in
+    let x = long-cut _ _ _ _ _ _ _ _ (v .room) _ (v .place) (v .read) (v .done) (v .inv .0) (c .if1 .taken) (met f _ (c .before .enum-told2 .given .1)) in
+    (x .0, (v .inv .1, x .1))
+
+same-length-3 : tie.Need-same-length-3 Inv-loop μ-loop
+same-length-3 c = turn (c .before .before .before) .loop .inv .0 .same
+
+returns-3 : tie.Need-returns-3 Inv-loop μ-loop
+returns-3 c =
+    let f = c .before .before .before in
+    let v = turn f .loop in
+    let x = cuts _ _ _ _ _ _ _ _ (v .room) _ (v .place) (v .read) (v .done) (v .inv .0) (c .if1 .left) (met f _ (c .before .enum-told2 .given .1)) in
+    (x .0, (v .inv .1, x .1))
+
+same-length-4 : tie.Need-same-length-4 Inv-loop μ-loop
+same-length-4 c = turn (looked (c .before .before)) .loop .inv .0 .same
+
+returns-4 : tie.Need-returns-4 Inv-loop μ-loop
+returns-4 c =
+    let w = c .before .before in
+    let v = turn (looked w) .loop in
+    let x = long-whole _ _ _ _ _ _ _ _ (v .room) _ (v .place) (v .read) (v .done) (v .inv .0) _ _ (c .if2 .taken) (met (looked w) _ (w .found .given .1)) in
+    (x .0, (v .inv .1, x .1))
+
+pub go-spec : {M : Type 1} → statement M
+go-spec =
+    tie.close
+    (tie.spec
+    Inv-loop
+    μ-loop
+    loop-holds
+    found-at-requires
+    enum-told
+    enum-told-2
+    enum-known-found
+    step-requires
+    put-five-requires
+    add-read
+    add-done
+    loop-less
+    loop-again
+    same-length
+    returns
+    same-length-2
+    returns-2
+    same-length-3
+    returns-3
+    same-length-4
+    returns-4)
