@@ -42,10 +42,10 @@ fn size() -> Next
 }
 
 fn run_day(bytes: &[u8]) {
-    let ran = feed::carry(book::fresh(), bytes, feed::MILLION, true);
-    let word = ran.closing;
-    let table = ran.table;
-    report::closing(word, ran.read, ran.done);
+    let day = feed::day_of(bytes, true);
+    let word = day.closing;
+    let table = day.table;
+    report::closing(word, day.read, day.done);
     report::standings(table);
 }
 

@@ -1,3 +1,4 @@
 pub mod Moving
+pub mod FreshWords
 pub mod Feeding
 pub mod Calls

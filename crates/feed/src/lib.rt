@@ -1,14 +1,18 @@
-// A day file read from standard input in large pieces and carried out over a fresh book.
+// A day file carried out over a fresh book: a piece that is lent, or standard input read in large pieces.
 ghost use mathlib.Core.Path.{_≡_};
-ghost use Rattle.records.specs.Runs.{ranOf};
-ghost use Rattle.run.specs.Over.{overRan};
-ghost use Rattle.table.specs.Words.{turnedBack};
-ghost use Rattle.feed.specs.Fed.{Came};
+ghost use Rattle.table.specs.Words.{bookFrom, marksFrom};
+ghost use Rattle.steps.specs.Steps.{Ready};
+ghost use Rattle.records.specs.Runs.{runOf};
+ghost use Rattle.records.specs.Inner.{ranIn};
+ghost use Rattle.feed.specs.Fed.{wholeDay, Came};
 ghost use Rattle.feed.specs.Inner.{stopsAt};
 use records::Closing;
-use run::Ended;
+use records::Went;
+use records::go;
 use space::SPACE;
 use table::Table;
+use table::needs::unders;
+use telling::tell;
 
 mod space;
 mod telling;
@@ -35,39 +39,131 @@ fn stops(word: Closing) -> bool
     }
 }
 
-// The records of a piece, with a line each on standard output where that is asked for.
-pub fn carry(t: Table, piece: &[u8], most: u64, tell: bool) -> Ended
-    ensures { λ r. ⌜ r ≡ overRan (ranOf (turnedBack t) (now (piece .entry)) most) ⌝ }
+// The records of a piece on the words of a sound book, with a line each on standard output where that is asked for.
+fn carry(
+    sort: &mut [u8; 256],
+    live: &mut [bool; 256],
+    tm: &mut [u16; 256],
+    w: &mut [u64; 2560],
+    under: &mut [u64; 256],
+    count: u16,
+    serial: u16,
+    piece: &[u8],
+    most: u64,
+    telling: bool,
+) -> Went
+    requires { ⌜ Ready count serial (marksFrom (now sort) (now live) (now tm)) (now w) (now under) ⌝ }
+    ensures { λ x. ⌜ ranIn x (marksFrom (now (sort .exit)) (now (live .exit)) (now (tm .exit))) (now (w .exit)) ≡ runOf (now (piece .entry)) most (bookFrom count serial (marksFrom (now (sort .entry)) (now (live .entry)) (now (tm .entry))) (now (w .entry))) 0 0 0 ⌝ }
+    ensures { λ x. ⌜ Ready (x .count) (x .serial) (marksFrom (now (sort .exit)) (now (live .exit)) (now (tm .exit))) (now (w .exit)) (now (under .exit)) ⌝ }
 {
-    if tell {
-        return telling::tell(t, piece, most);
+    if telling {
+        return tell(sort, live, tm, w, under, count, serial, piece, most);
     }
-    run::day(t, piece, most)
+    let mut nowhere = [0u16; 1];
+    go(
+        sort,
+        live,
+        tm,
+        w,
+        under,
+        count,
+        serial,
+        piece,
+        most,
+        &mut nowhere,
+        false,
+    )
+}
+
+// A day file that is held whole.
+pub fn day_of(piece: &[u8], telling: bool) -> Day
+    ensures { λ d. ⌜ d ≡ wholeDay (now (piece .entry)) ⌝ }
+{
+    let t = book::fresh();
+    let mut sort = t.sort;
+    let mut live = t.live;
+    let mut tm = t.tm;
+    let mut amounts = t.amounts;
+    table::sizes(sort, live, tm, amounts);
+    let mut under = unders(&sort, &tm, &amounts, t.count);
+    let went = carry(
+        &mut sort,
+        &mut live,
+        &mut tm,
+        &mut amounts,
+        &mut under,
+        t.count,
+        t.serial,
+        piece,
+        MILLION,
+        telling,
+    );
+    let closing = went.closing;
+    let table = Table {
+        count: went.count,
+        serial: went.serial,
+        sort,
+        live,
+        tm,
+        amounts,
+    };
+    Day {
+        table,
+        closing,
+        read: went.read,
+        done: went.done,
+    }
 }
 
 // The day file on standard input. The end of a piece is no cut: what is left of it is kept, and the next piece is read
 // behind it. Only a piece that doesn't fill the space is the last one.
-pub fn whole_day(tell: bool) -> Day
+pub fn whole_day(telling: bool) -> Day
     ensures { λ d. ⌜ Came d ⌝ }
 {
     let mut space = space::blank();
-    let mut table = book::fresh();
+    let t = book::fresh();
+    let mut sort = t.sort;
+    let mut live = t.live;
+    let mut tm = t.tm;
+    let mut amounts = t.amounts;
+    table::sizes(sort, live, tm, amounts);
+    let mut under = unders(&sort, &tm, &amounts, t.count);
+    let mut count = t.count;
+    let mut serial = t.serial;
     let mut kept: usize = 0;
     let mut read: u64 = 0;
     let mut done: u64 = 0;
     let closing = loop {
         let held = kept + space::refill(&mut space, kept);
-        let ran = carry(table, &space[..held], MILLION - read, tell);
-        let after = ran.table;
-        let word = ran.closing;
-        let place = ran.place;
-        table = after;
-        read += ran.read;
-        done += ran.done;
+        let went = carry(
+            &mut sort,
+            &mut live,
+            &mut tm,
+            &mut amounts,
+            &mut under,
+            count,
+            serial,
+            &space[..held],
+            MILLION - read,
+            telling,
+        );
+        let word = went.closing;
+        count = went.count;
+        serial = went.serial;
+        read += went.read;
+        done += went.done;
         if stops(word) | (held < SPACE) {
             break word;
         }
-        kept = space::keep(&mut space, place, held);
+        kept = space::keep(&mut space, went.place, held);
+    };
+    let table = Table {
+        count,
+        serial,
+        sort,
+        live,
+        tm,
+        amounts,
     };
     Day {
         table,

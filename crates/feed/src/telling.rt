@@ -1,13 +1,15 @@
 // The records of a piece, with a line each on standard output.
 ghost use mathlib.Core.Path.{_≡_};
-ghost use Rattle.records.specs.Runs.{ranOf};
-ghost use Rattle.run.specs.Over.{overRan};
-ghost use Rattle.table.specs.Words.{turnedBack};
+ghost use Prim.Native.Nat.{min};
+ghost use Rattle.table.specs.Words.{bookFrom, marksFrom};
+ghost use Rattle.steps.specs.Steps.{Ready};
+ghost use Rattle.records.specs.Runs.{runOf};
+ghost use Rattle.records.specs.Inner.{ranIn};
 ghost use Rattle.feed.specs.Inner.{isLong};
 use libc::STDOUT_FILENO;
 use records::Closing;
-use run::Ended;
-use table::Table;
+use records::Went;
+use records::go;
 
 fn is_long(word: Closing) -> bool
     ensures { λ t. ⌜ t ≡ isLong word ⌝ }
@@ -20,31 +22,66 @@ fn is_long(word: Closing) -> bool
     }
 }
 
-// The lines go out as often as the room for them is full: `long` then says that this call of `lines` was, and not the day.
-pub(crate) fn tell(t: Table, piece: &[u8], most: u64) -> Ended
-    ensures { λ r. ⌜ r ≡ overRan (ranOf (turnedBack t) (now (piece .entry)) most) ⌝ }
+// As many records as the room for their lines holds.
+fn at_once(left: u64) -> u64
+    ensures { λ n. ⌜ n ≡ min left 128 ⌝ }
 {
-    let mut text = io::large_buffer();
-    let mut table = t;
+    if left < 128 { left } else { 128 }
+}
+
+// The lines go out as often as the room for them is full: `long` then says that this call of `go` was, and not the day.
+pub(crate) fn tell(
+    sort: &mut [u8; 256],
+    live: &mut [bool; 256],
+    tm: &mut [u16; 256],
+    w: &mut [u64; 2560],
+    under: &mut [u64; 256],
+    first: u16,
+    due: u16,
+    piece: &[u8],
+    most: u64,
+) -> Went
+    requires { ⌜ Ready first due (marksFrom (now sort) (now live) (now tm)) (now w) (now under) ⌝ }
+    ensures { λ x. ⌜ ranIn x (marksFrom (now (sort .exit)) (now (live .exit)) (now (tm .exit))) (now (w .exit)) ≡ runOf (now (piece .entry)) most (bookFrom first due (marksFrom (now (sort .entry)) (now (live .entry)) (now (tm .entry))) (now (w .entry))) 0 0 0 ⌝ }
+    ensures { λ x. ⌜ Ready (x .count) (x .serial) (marksFrom (now (sort .exit)) (now (live .exit)) (now (tm .exit))) (now (w .exit)) (now (under .exit)) ⌝ }
+{
+    let mut text = io::buffer();
+    let mut told = [0u16; 640];
+    let mut count = first;
+    let mut serial = due;
     let mut place: usize = 0;
     let mut read: u64 = 0;
     let mut done: u64 = 0;
     let closing = loop {
-        let lined = lines::lines(table, &piece[place..], most - read, &mut text);
-        let after = lined.table;
-        let word = lined.closing;
-        let n = lined.text;
+        let part = &piece[place..];
+        let went = go(
+            sort,
+            live,
+            tm,
+            w,
+            under,
+            count,
+            serial,
+            part,
+            at_once(most - read),
+            &mut told,
+            true,
+        );
+        let n = lines::told_lines(&told, went.read as usize, &mut text);
         io::write_all(STDOUT_FILENO, &text[..n]);
-        table = after;
-        place += lined.place;
-        read += lined.read;
-        done += lined.done;
+        let word = went.closing;
+        count = went.count;
+        serial = went.serial;
+        place += went.place;
+        read += went.read;
+        done += went.done;
         if !(is_long(word) & (read < most)) {
             break word;
         }
     };
-    Ended {
-        table,
+    Went {
+        count,
+        serial,
         place,
         closing,
         read,

@@ -23,8 +23,8 @@ use Rattle.records.specs.Told.{answering, answersOf, five, fives, roomFor, told
 use Rattle.records.proofs.SoundRun.{run-counts}
 use Rattle.lines.specs.Lines.{lineOf, linesOf}
 use Rattle.sums.specs.Room.{over}
-use Rattle.lines.specs.Texts.{textOf, withText, linedOf}
-use Rattle.lines.specs.Inner.{Puts, lineAt, linesTo}
+use Rattle.lines.specs.Texts.{textOf, withText, linedOf, lineAt, linesTo}
+use Rattle.lines.specs.Inner.{Puts}
 use Rattle.lines.proofs.Puts.{puts-over}
 
 pub answers-most : (s : List ℕ) (n : ℕ) (b : Book) (place : ℕ) → length (answersOf s n b place) ≤ n

@@ -5,7 +5,8 @@ use Prim.Native.Nat.{ℕ, _+_, _*_, _≤_, _<_}
 use native.Mathlib.Numerals.{add-one}
 use native.Mathlib.Omega.{arith}
 use lib.ListN.{getD}
-use Rattle.lines.specs.Inner.{Puts, lineAt, linesTo}
+use Rattle.lines.specs.Texts.{lineAt, linesTo}
+use Rattle.lines.specs.Inner.{Puts}
 use Rattle.lines.proofs.Puts.{and-then}
 use Rattle.lines.proofs.Widths.{line-most}
 

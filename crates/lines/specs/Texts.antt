@@ -1,7 +1,7 @@
 -- What the call that writes lines gives: the run's results, and the text in the lent room.
-use mathlib.Core.List.{List, []}
-use Prim.Native.Nat.{ℕ, _/_, min}
-use lib.ListN.{length}
+use mathlib.Core.List.{List, [], _∷_, _++_}
+use Prim.Native.Nat.{ℕ, zero, suc, _+_, _*_, _/_, min}
+use lib.ListN.{length, getD}
 use Rattle.sums.specs.Choice.{pick}
 use Rattle.rows.specs.declared.Book.{Book}
 use Rattle.book.specs.Sound.{soundB}
@@ -9,7 +9,7 @@ use Rattle.run.specs.declared.Ended.{Ended}
 use Rattle.records.specs.Runs.{ranOf}
 use Rattle.run.specs.Over.{overRan}
 use Rattle.records.specs.Told.{answersOf}
-use Rattle.lines.specs.Lines.{linesOf}
+use Rattle.lines.specs.Lines.{spaced, linesOf}
 use Rattle.lines.specs.declared.Lined.{Lined}
 
 -- how many records a call carries out at most: the stated number, as many as the room surely holds with 32 bytes for each, and 2048
@@ -26,3 +26,17 @@ withText ran text = record { table = ran .table; place = ran .place; closing = r
 -- what the call gives beside the room
 unfoldable pub linedOf : Book → List ℕ → ℕ → Lined
 linedOf b s most = withText (overRan (ranOf b s most)) (length (textOf b s most))
+
+-- the line of the five numbers that stand from number 5 i on
+abbrev pub lineAt : List ℕ → ℕ → List ℕ
+lineAt told i =
+    spaced (getD told (5 * i) 0 ∷ getD told (5 * i + 1) 0 ∷ getD told (5 * i + 2) 0 ∷ getD told (5 * i + 3) 0 ∷ getD told (5 * i + 4) 0 ∷ [])
+
+-- the lines of the first count records
+unfoldable pub linesTo : List ℕ → ℕ → List ℕ
+linesTo told zero = []
+linesTo told (suc count) = linesTo told count ++ lineAt told count
+
+-- as many of them as there are numbers for, and as the room surely holds with 32 bytes for each
+abbrev pub fitting : ℕ → List ℕ → List ℕ → ℕ
+fitting count told room = min count (min (length told / 5) (length room / 32))

@@ -5,7 +5,7 @@ ghost use lib.ListN.{length};
 ghost use Rattle.lines.specs.Lines.{closingLineOf};
 ghost use Rattle.sums.specs.Room.{over};
 ghost use Rattle.table.specs.Words.{turnedBack};
-ghost use Rattle.lines.specs.Texts.{limitOf, textOf, linedOf};
+ghost use Rattle.lines.specs.Texts.{limitOf, textOf, linedOf, linesTo, fitting};
 use records::Closing;
 use table::Table;
 
@@ -53,6 +53,18 @@ pub fn lines(t: Table, piece: &[u8], most: u64, room: &mut [u8]) -> Lined
         done: ran.done,
         text,
     }
+}
+
+// The lines of records whose numbers were told, five of each, put from the room's start; gives how long they are.
+pub fn told_lines(told: &[u16], count: usize, room: &mut [u8]) -> usize
+    ensures { λ n. ⌜ n ≡ length (linesTo (now (told .entry)) (fitting count (now (told .entry)) (now (room .entry)))) ⌝ }
+    ensures { λ _. ⌜ now (room .exit) ≡ over (linesTo (now (told .entry)) (fitting count (now (told .entry)) (now (room .entry)))) (now (room .entry)) ⌝ }
+{
+    let k = least(
+        count as u64,
+        least(told.len() as u64 / 5, room.len() as u64 / 32),
+    );
+    line::put_lines(room, told, k as usize)
 }
 
 // The line after the records' lines: how long it is, and the line in the room.

@@ -3,7 +3,8 @@ ghost use mathlib.Core.List.{[], _∷_};
 ghost use Prim.Native.Nat.{_+_, _*_, _≤_};
 ghost use lib.ListN.{length};
 ghost use Rattle.lines.specs.Lines.{spaced};
-ghost use Rattle.lines.specs.Inner.{Puts, linesTo};
+ghost use Rattle.lines.specs.Texts.{linesTo};
+ghost use Rattle.lines.specs.Inner.{Puts};
 use crate::number::put_number;
 
 // Puts one line, and gives the place after it.

@@ -2,3 +2,4 @@ pub mod Lines
 pub mod Made
 pub mod ByCode
 pub mod Carried
+pub mod Entering

@@ -1,13 +1,7 @@
 -- `desk::step_at` meets its contract.
-use mathlib.Core.Path.{_≡_, ap, subst, _∙_}
-use mathlib.Core.List.{List}
 use borrow.Author.Needs.{needs}
-use Rattle.rows.specs.View.{View}
-use Rattle.rows.specs.Facts.{Shaped}
-use Rattle.rows.specs.Under.{Under}
 use Rattle.table.specs.Words.{marksOf}
-use Rattle.table.proofs.Seen.{seen-view, seen-ranged}
-use Rattle.book.proofs.RowTests.{sound-ranged}
+use Rattle.steps.proofs.Entering.{adds-up, ready}
 use Rattle.desk.proofs.Doing.{stepped-over}
 use Rattle.desk.proofs.step_at.Statement.{statement}
 use Rattle.desk.proofs.step_at.Tie as tie
@@ -19,17 +13,13 @@ unders-requires : tie.Need-unders-requires
 unders-requires c κs =
     let start = c .before .before .before .before .before .before .before .before in
     let t = start .args .t in
-    (seen-ranged (t .count) (t .serial) (marksOf t) (t .amounts) (sound-ranged _ (start .pre)), rw (seen-view (t .count) (t .serial) (marksOf t) (t .amounts)) (start .pre .shaped))
+    adds-up (t .count) (t .serial) (marksOf t) (t .amounts) (start .pre)
 
 step-requires : tie.Need-step-requires
 step-requires c κs =
     let start = c .before .before .before .before .before .before .before .before .before .before .before .before .before .before in
     let t = start .args .t in
-    record {
-      size = c .before .before .before .before .before .before .before .before .before .sizes .ensures;
-      sound = start .pre;
-      kept = rw (seen-view (t .count) (t .serial) (marksOf t) (t .amounts)) at (c .before .before .before .before .before .unders .ensures);
-    }
+    ready (t .count) (t .serial) (marksOf t) (t .amounts) (start .pre) _ (c .before .before .before .before .before .before .before .before .before .sizes .ensures) (c .before .before .before .before .before .unders .ensures)
 
 outcome-of-requires : tie.Need-outcome-of-requires
 outcome-of-requires c κs = search needs

@@ -1,10 +1,7 @@
 -- `run::run` meets its contract.
-use mathlib.Core.Path.{_≡_, sym, ap, _∙_}
 use borrow.Author.Needs.{needs}
-use Rattle.table.specs.declared.Table.{Table}
-use Rattle.table.specs.Words.{marksOf, turned}
-use Rattle.table.proofs.Seen.{seen-view, seen-ranged}
-use Rattle.book.proofs.RowTests.{sound-ranged}
+use Rattle.table.specs.Words.{marksOf}
+use Rattle.steps.proofs.Entering.{adds-up, ready}
 use Rattle.run.proofs.Turned.{left-over}
 use Rattle.run.proofs.run.Statement.{statement}
 use Rattle.run.proofs.run.Tie as tie
@@ -16,17 +13,13 @@ unders-requires : tie.Need-unders-requires
 unders-requires c κs =
     let start = c .before .before .before .before .before .before .before .before .before .before in
     let t = start .args .t in
-    (seen-ranged (t .count) (t .serial) (marksOf t) (t .amounts) (sound-ranged _ (start .pre .0)), rw (seen-view (t .count) (t .serial) (marksOf t) (t .amounts)) (start .pre .0 .shaped))
+    adds-up (t .count) (t .serial) (marksOf t) (t .amounts) (start .pre .0)
 
 go-requires : tie.Need-go-requires
 go-requires c κs =
     let start = c .before .before .before .before .before .before .before .before .before .before .before .before .before .before .before .before .before in
     let t = start .args .t in (
-      record {
-        size = c .before .before .before .before .before .before .before .before .before .before .sizes .ensures;
-        sound = start .pre .0;
-        kept = rw (seen-view (t .count) (t .serial) (marksOf t) (t .amounts)) at (c .before .before .before .before .before .before .unders .ensures);
-      },
+      ready (t .count) (t .serial) (marksOf t) (t .amounts) (start .pre .0) _ (c .before .before .before .before .before .before .before .before .before .before .sizes .ensures) (c .before .before .before .before .before .before .unders .ensures),
       start .pre .1,
     )
 

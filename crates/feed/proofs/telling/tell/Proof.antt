@@ -1,95 +1,147 @@
 -- `feed::telling::tell`: the records of the calls so far are those of the piece up to this place.
-use mathlib.Core.Path.{sym, _∙_}
-use Prim.Native.Nat.{_-_, _≤_}
+use mathlib.Core.Path.{_≡_, sym, ap, _∙_}
+use Prim.Native.Nat.{ℕ, _-_, _≤_}
 use native.Mathlib.Omega.{arith}
 use lib.ListN.{length}
 use lib.Seq.{length-take-le}
 use borrow.Author.Needs.{needs}
-use Rattle.table.specs.Words.{turnedBack}
-use Rattle.table.proofs.Gathered.{rows-length}
-use Rattle.feed.proofs.Calls.{Telling, Call, lent, fits, nothing-told, told, moves, finished, read-most, done-most, place-most}
+use Rattle.rows.specs.declared.Book.{Book}
+use Rattle.table.specs.Words.{Marks, bookFrom, marksFrom}
+use Rattle.steps.specs.Steps.{Ready}
+use Rattle.records.specs.declared.Ran.{Ran}
+use Rattle.records.specs.Runs.{runOf}
+use Rattle.records.specs.Inner.{ranIn}
+use Rattle.lines.specs.Texts.{linesTo}
+use Rattle.feed.proofs.Calls.{Telling, Call, lent, fits, nothing-told, told-on, moves, finished, read-most, done-most, place-most}
 use Rattle.feed.proofs.telling.tell.Statement.{statement}
 use Rattle.feed.proofs.telling.tell.Tie as tie
 
 abbrev Inv-loop : tie.InvT-loop
-Inv-loop piece most text₀ table₀ place₀ read₀ done₀ text table place read done = Telling piece most (turnedBack table₀) text (turnedBack table) place read done
+Inv-loop sort₀ live₀ tm₀ w₀ under₀ first due piece most text₀ told₀ count₀ serial₀ place₀ read₀ done₀ sort live tm w under text told count serial place read done =
+    Telling piece most (bookFrom count₀ serial₀ (marksFrom sort₀ live₀ tm₀) w₀) text told (bookFrom count serial (marksFrom sort live tm) w) place read done
+    × Ready count serial (marksFrom sort live tm) w under
 
 abbrev μ-loop : tie.MeasureT-loop
-μ-loop piece most text₀ table₀ place₀ read₀ done₀ text table place read done = most - read
+μ-loop sort₀ live₀ tm₀ w₀ under₀ first due piece most text₀ told₀ count₀ serial₀ place₀ read₀ done₀ sort live tm w under text told count serial place read done =
+    most - read
 
-call : (c : tie.After-lines Inv-loop μ-loop)
-    → Call (c .before .before .before .before .before .before .args .piece .now) (c .before .before .before .before .before .before .args .most)
-    (turnedBack (c .before .before .before .before .before .before .args .t)) (c .before .before .before .loop .text) (turnedBack (c .before .before .before .loop .table))
-    (c .before .before .before .loop .place) (c .before .before .before .loop .read) (c .before .before .before .loop .done) (c .lines .result)
-call c =
-    let g = c .before .before .before .loop in
-    record { before = g .inv; is = lent _ _ (g .place) _ _ (c .lines .ensures .0) }
+-- THE PLACES, each named once.
+abbrev called : tie.At-loop Inv-loop μ-loop → tie.Start Inv-loop μ-loop
+called t = t .before .before .before
 
-text-fits : (c : tie.After-lines Inv-loop μ-loop) → c .lines .result .text ≤ length (c .lines .last .1 .1 .1 .0)
-text-fits c = fits _ _ _ _ _ _ (c .lines .ensures .0) (c .lines .ensures .1) (c .lines .kept .1 .1 .1 .0)
+abbrev turn : tie.After-go Inv-loop μ-loop → tie.At-loop Inv-loop μ-loop
+turn g = g .before .before .before .before .before .before .before .before .before
 
-large-buffer-requires : tie.Need-large-buffer-requires Inv-loop μ-loop
-large-buffer-requires c κs = search needs
+abbrev went : tie.After-told-lines Inv-loop μ-loop → tie.After-go Inv-loop μ-loop
+went l = l .before .before .before .before
+
+abbrev lined : tie.After-write-all Inv-loop μ-loop → tie.After-told-lines Inv-loop μ-loop
+lined w = w .before .before .before
+
+abbrev printed : tie.After-is-long Inv-loop μ-loop → tie.After-write-all Inv-loop μ-loop
+printed s = s .before .before .before .before
+
+-- the book at the start, and that after a call
+abbrev b₀ : tie.Start Inv-loop μ-loop → Book
+b₀ s = let a = s .args in bookFrom (a .first) (a .due) (marksFrom (a .sort .now) (a .live .now) (a .tm .now)) (a .w .now)
+
+abbrev ran : tie.After-go Inv-loop μ-loop → Ran
+ran g = let x = g .go .last in ranIn (g .go .result) (marksFrom (x .0) (x .1 .0) (x .1 .1 .0)) (x .1 .1 .1 .0)
+
+call : (g : tie.After-go Inv-loop μ-loop) → (let s = called (turn g) in let v = turn g .loop in
+    Call (s .args .piece .now) (s .args .most) (b₀ s) (v .text) (v .told) (bookFrom (v .count) (v .serial) (marksFrom (v .sort) (v .live) (v .tm)) (v .w)) (v .place) (v .read) (v .done) (ran g))
+call g =
+    let v = turn g .loop in
+    record {
+      before = v .inv .0;
+      is = lent _ _ (v .place) _ _ (v .inv .1 .sound) (rw (g .before .before .at-once .ensures) at (g .go .ensures .0));
+    }
+
+text-fits : (l : tie.After-told-lines Inv-loop μ-loop) → l .told-lines .result ≤ length (l .told-lines .last .1 .1 .0)
+text-fits l = fits (linesTo _ _) _ (l .told-lines .ensures .0) (l .told-lines .ensures .1) (l .told-lines .kept .1 .1 .0)
+
+buffer-requires : tie.Need-buffer-requires Inv-loop μ-loop
+buffer-requires c κs = search needs
 
 loop-holds : tie.Need-loop-holds Inv-loop μ-loop
-loop-holds c = nothing-told _ _ _ _ (rows-length _ _) (sym (c .large-buffer .ensures))
+loop-holds c = (nothing-told _ _ _ _ _ (sym (c .buffer .ensures)) (omega arith), c .before .before .pre)
 
-sub-lines : tie.Need-sub-lines Inv-loop μ-loop
-sub-lines c = omega arith
+sub-part : tie.Need-sub-part Inv-loop μ-loop
+sub-part c = omega arith
 
-part-lines-start : tie.Need-part-lines-start Inv-loop μ-loop
-part-lines-start c = c .loop .inv .inside
+part-part-start : tie.Need-part-part-start Inv-loop μ-loop
+part-part-start c = c .loop .inv .0 .inside
 
-part-lines-end : tie.Need-part-lines-end Inv-loop μ-loop
-part-lines-end c = omega arith
+part-part-end : tie.Need-part-part-end Inv-loop μ-loop
+part-part-end c = omega arith
 
-sub-lines-2 : tie.Need-sub-lines-2 Inv-loop μ-loop
-sub-lines-2 c = omega arith
+sub-at-once : tie.Need-sub-at-once Inv-loop μ-loop
+sub-at-once c = omega arith
 
-slice-aggregate-lines : tie.Need-slice-aggregate-lines Inv-loop μ-loop
-slice-aggregate-lines c = sym (c .before .before .loop .inv .size)
+at-once-requires : tie.Need-at-once-requires Inv-loop μ-loop
+at-once-requires c κs = search needs
 
-lines-requires : tie.Need-lines-requires Inv-loop μ-loop
-lines-requires c κs = search needs
+slice-aggregate-go : tie.Need-slice-aggregate-go Inv-loop μ-loop
+slice-aggregate-go c = sym (c .before .before .before .before .before .before .before .before .loop .inv .0 .numbers)
+
+go-requires : tie.Need-go-requires Inv-loop μ-loop
+go-requires c κs =
+    let v = c .before .before .before .before .before .before .before .before .loop in
+    (v .inv .1, λ t. omega (arith, c .before .at-once .ensures, v .inv .0 .numbers))
+
+slice-aggregate-told-lines : tie.Need-slice-aggregate-told-lines Inv-loop μ-loop
+slice-aggregate-told-lines c = search needs
+
+slice-aggregate-told-lines-2 : tie.Need-slice-aggregate-told-lines-2 Inv-loop μ-loop
+slice-aggregate-told-lines-2 c = search needs
+
+told-lines-requires : tie.Need-told-lines-requires Inv-loop μ-loop
+told-lines-requires c κs = search needs
 
 array-share-prefix-text : tie.Need-array-share-prefix-text Inv-loop μ-loop
-array-share-prefix-text c = text-fits (c .before .before)
+array-share-prefix-text c = text-fits (c .before)
 
 slice-aggregate-write-all : tie.Need-slice-aggregate-write-all Inv-loop μ-loop
-slice-aggregate-write-all c = sym (length-take-le _ _ (text-fits (c .before .before .before)))
+slice-aggregate-write-all c = sym (length-take-le _ _ (text-fits (c .before .before)))
 
 write-all-requires : tie.Need-write-all-requires Inv-loop μ-loop
 write-all-requires c κs = search needs
 
 add-place : tie.Need-add-place Inv-loop μ-loop
-add-place c = omega (arith, place-most (call (c .before .before .before .before .before)))
+add-place c =
+    let g = went (lined (c .before)) in
+    omega (arith, place-most (call g), called (turn g) .good .1 .1 .1 .1 .1 .1 .1 .0)
 
 add-read : tie.Need-add-read Inv-loop μ-loop
-add-read c = omega (arith, read-most (call (c .before .before .before .before .before .before)))
+add-read c =
+    let g = went (lined (c .before .before)) in
+    omega (arith, read-most (call g), called (turn g) .fits .most .fits)
 
 add-done : tie.Need-add-done Inv-loop μ-loop
 add-done c =
-    let k = call (c .before .before .before .before .before .before .before) in
-    omega (arith, read-most k, done-most k, c .before .before .before .before .before .before .before .before .before .before .before .before .before .fits .most)
+    let g = went (lined (c .before .before .before)) in
+    omega (arith, read-most (call g), done-most (call g), called (turn g) .fits .most .fits)
 
 is-long-requires : tie.Need-is-long-requires Inv-loop μ-loop
 is-long-requires c κs = search needs
 
 loop-less : tie.Need-loop-less Inv-loop μ-loop
 loop-less c =
-    let t = c .before .before .before .before .before .before .before .before .before in
     let l = c .before .is-long in
-    omega (arith, moves (call t) (l .result) (l .ensures) (c .if1 .left), read-most (call t))
+    let g = went (lined (printed (c .before))) in
+    omega (arith, moves (call g) (l .result) (l .ensures) (c .if1 .left), read-most (call g))
 
 loop-again : tie.Need-loop-again Inv-loop μ-loop
 loop-again c =
-    let t = c .before .before .before .before .before .before .before .before .before in
-    told (call t) _ (t .lines .kept .1 .1 .1 .0 ∙ call t .before .size)
+    let t = lined (printed (c .before)) in
+    let g = went t in
+    (told-on (call g) _ _ (t .told-lines .kept .1 .1 .0 ∙ call g .before .size) (g .go .kept .1 .1 .1 .1 .1 .1 .1 .1 .1 .0 ∙ call g .before .numbers), g .go .ensures .1 .0)
 
 returns : tie.Need-returns Inv-loop μ-loop
 returns c =
     let l = c .before .is-long in
-    finished (call (c .before .before .before .before .before .before .before .before .before)) (l .result) (l .ensures) (c .if1 .taken)
+    let g = went (lined (printed (c .before))) in
+    (finished (call g) (l .result) (l .ensures) (called (turn g) .pre .sound) (c .if1 .taken), g .go .ensures .1 .0)
 
 pub tell-spec : {M : Type 1} → statement M
 tell-spec =
@@ -97,14 +149,18 @@ tell-spec =
     (tie.spec
     Inv-loop
     μ-loop
-    large-buffer-requires
+    buffer-requires
     loop-holds
-    sub-lines
-    part-lines-start
-    part-lines-end
-    sub-lines-2
-    slice-aggregate-lines
-    lines-requires
+    sub-part
+    part-part-start
+    part-part-end
+    sub-at-once
+    at-once-requires
+    slice-aggregate-go
+    go-requires
+    slice-aggregate-told-lines
+    slice-aggregate-told-lines-2
+    told-lines-requires
     array-share-prefix-text
     slice-aggregate-write-all
     write-all-requires
