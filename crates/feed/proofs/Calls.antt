@@ -24,14 +24,14 @@ use Rattle.feed.specs.Inner.{isLong}
 
 -- a run of s from b₀ on has come to this place, with this book and these counts
 pub record Telling (s : List ℕ) (most : ℕ) (b₀ : Book) (text told : List ℕ) (book : Book) (place read done : ℕ) : Type 0 where
-  pub size : length text ≡ 4096
-  pub numbers : length told ≡ 640
+  pub size : length text ≡ 2048
+  pub numbers : length told ≡ 320
   pub inside : place ≤ length s
   pub upto : read ≤ most
   pub fewer : done ≤ read
   pub same : ranOf b₀ s most ≡ onFrom place read done (ranOf book (drop place s) (most - read))
 
-pub nothing-told : (s : List ℕ) (most : ℕ) (b₀ : Book) (text told : List ℕ) → length text ≡ 4096 → length told ≡ 640 → Telling s most b₀ text told b₀ 0 0 0
+pub nothing-told : (s : List ℕ) (most : ℕ) (b₀ : Book) (text told : List ℕ) → length text ≡ 2048 → length told ≡ 320 → Telling s most b₀ text told b₀ 0 0 0
 nothing-told s most b₀ text told h k =
     let e : most ≡ most - 0 = omega arith in
     record { size = h; numbers = k; inside = omega arith; upto = omega arith; fewer = omega arith; same = ap (ranOf b₀ s) e ∙ on-none _ }
@@ -43,7 +43,7 @@ as-ran b s n h = ran-sound b s n (sound← b h)
 -- one call more
 pub record Call (s : List ℕ) (most : ℕ) (b₀ : Book) (text told : List ℕ) (book : Book) (place read done : ℕ) (r : Ran) : Type 0 where
   pub before : Telling s most b₀ text told book place read done
-  pub is : r ≡ ranOf book (drop place s) (min (most - read) 128)
+  pub is : r ≡ ranOf book (drop place s) (min (most - read) 64)
 
 -- what was lent is the piece from the place on
 pub lent : (b : Book) (s : List ℕ) (place n : ℕ) (r : Ran) → Sound b → r ≡ runOf (take (length s - place) (drop place s)) n b 0 0 0 → r ≡ ranOf b (drop place s) n
@@ -65,7 +65,7 @@ went-on Unsound e = clash e refl
 module _ {s : List ℕ} {most : ℕ} {b₀ : Book} {text told : List ℕ} {book : Book} {place read done : ℕ} {r : Ran}
     (g : Call s most b₀ text told book place read done r) where
   abbrev limit : ℕ
-  limit = min (most - read) 128
+  limit = min (most - read) 64
 
   stopped : Stopped (drop place s) limit 0 0 0 r
   stopped = rw (g .is) (ran-stops book (drop place s) limit)
@@ -94,7 +94,7 @@ module _ {s : List ℕ} {most : ℕ} {b₀ : Book} {text told : List ℕ} {book 
       ∙ ap (λ x. onFrom (r .place) (r .read) (r .done) (ranOf (r .book) x (most - read - r .read))) (append-nil _ ∙ drop-drop (r .place) place s)
       ∙ ap (λ n. onFrom (r .place) (r .read) (r .done) (ranOf (r .book) (drop (place + r .place) s) n)) fuel
 
-  pub told-on : (text′ told′ : List ℕ) → length text′ ≡ 4096 → length told′ ≡ 640
+  pub told-on : (text′ told′ : List ℕ) → length text′ ≡ 2048 → length told′ ≡ 320
       → Telling s most b₀ text′ told′ (r .book) (place + r .place) (read + r .read) (done + r .done)
   told-on text′ told′ h k = record {
     size = h;

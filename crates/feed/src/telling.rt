@@ -22,11 +22,11 @@ fn is_long(word: Closing) -> bool
     }
 }
 
-// As many records as the room for their lines holds.
+// As many records as the room for their lines holds, with 32 bytes for each.
 fn at_once(left: u64) -> u64
-    ensures { λ n. ⌜ n ≡ min left 128 ⌝ }
+    ensures { λ n. ⌜ n ≡ min left 64 ⌝ }
 {
-    if left < 128 { left } else { 128 }
+    if left < 64 { left } else { 64 }
 }
 
 // The lines go out as often as the room for them is full: `long` then says that this call of `go` was, and not the day.
@@ -45,8 +45,8 @@ pub(crate) fn tell(
     ensures { λ x. ⌜ ranIn x (marksFrom (now (sort .exit)) (now (live .exit)) (now (tm .exit))) (now (w .exit)) ≡ runOf (now (piece .entry)) most (bookFrom first due (marksFrom (now (sort .entry)) (now (live .entry)) (now (tm .entry))) (now (w .entry))) 0 0 0 ⌝ }
     ensures { λ x. ⌜ Ready (x .count) (x .serial) (marksFrom (now (sort .exit)) (now (live .exit)) (now (tm .exit))) (now (w .exit)) (now (under .exit)) ⌝ }
 {
-    let mut text = io::buffer();
-    let mut told = [0u16; 640];
+    let mut text = [0u8; 2048];
+    let mut told = [0u16; 320];
     let mut count = first;
     let mut serial = due;
     let mut place: usize = 0;

@@ -2,7 +2,7 @@
 use mathlib.Core.Path.{_≡_, sym, ap, _∙_}
 use Prim.Native.Nat.{ℕ, _-_, _≤_}
 use native.Mathlib.Omega.{arith}
-use lib.ListN.{length}
+use lib.ListN.{length, length-replicate}
 use lib.Seq.{length-take-le}
 use borrow.Author.Needs.{needs}
 use Rattle.rows.specs.declared.Book.{Book}
@@ -27,7 +27,7 @@ abbrev μ-loop : tie.MeasureT-loop
 
 -- THE PLACES, each named once.
 abbrev called : tie.At-loop Inv-loop μ-loop → tie.Start Inv-loop μ-loop
-called t = t .before .before .before
+called t = t .before .before
 
 abbrev turn : tie.After-go Inv-loop μ-loop → tie.At-loop Inv-loop μ-loop
 turn g = g .before .before .before .before .before .before .before .before .before
@@ -60,11 +60,8 @@ call g =
 text-fits : (l : tie.After-told-lines Inv-loop μ-loop) → l .told-lines .result ≤ length (l .told-lines .last .1 .1 .0)
 text-fits l = fits (linesTo _ _) _ (l .told-lines .ensures .0) (l .told-lines .ensures .1) (l .told-lines .kept .1 .1 .0)
 
-buffer-requires : tie.Need-buffer-requires Inv-loop μ-loop
-buffer-requires c κs = search needs
-
 loop-holds : tie.Need-loop-holds Inv-loop μ-loop
-loop-holds c = (nothing-told _ _ _ _ _ (sym (c .buffer .ensures)) (omega arith), c .before .before .pre)
+loop-holds c = (nothing-told _ _ _ _ _ (length-replicate {A = ℕ} 2048 0) (length-replicate {A = ℕ} 320 0), c .before .pre)
 
 sub-part : tie.Need-sub-part Inv-loop μ-loop
 sub-part c = omega arith
@@ -149,7 +146,6 @@ tell-spec =
     (tie.spec
     Inv-loop
     μ-loop
-    buffer-requires
     loop-holds
     sub-part
     part-part-start
