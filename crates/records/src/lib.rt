@@ -71,8 +71,7 @@ pub fn go(
 ) -> Went
     requires { ⌜ Ready first due (marksFrom (now sort) (now live) (now tm)) (now w) (now under) × (tell ≡ true → 5 * most ≤ length (now room)) ⌝ }
     ensures { λ x. ⌜ ranIn x (marksFrom (now (sort .exit)) (now (live .exit)) (now (tm .exit))) (now (w .exit)) ≡ runOf (now (piece .entry)) most (bookFrom first due (marksFrom (now (sort .entry)) (now (live .entry)) (now (tm .entry))) (now (w .entry))) 0 0 0 ⌝ }
-    ensures { λ x. ⌜ Ready (x .count) (x .serial) (marksFrom (now (sort .exit)) (now (live .exit)) (now (tm .exit))) (now (w .exit)) (now (under .exit)) ⌝ }
-    ensures { λ x. ⌜ now (room .exit) ≡ pick tell (tellOf (now (piece .entry)) most (bookFrom first due (marksFrom (now (sort .entry)) (now (live .entry)) (now (tm .entry))) (now (w .entry))) 0 0 (now (room .entry))) (now (room .entry)) ⌝ }
+    ensures { λ x. ⌜ Ready (x .count) (x .serial) (marksFrom (now (sort .exit)) (now (live .exit)) (now (tm .exit))) (now (w .exit)) (now (under .exit)) × (now (room .exit) ≡ pick tell (tellOf (now (piece .entry)) most (bookFrom first due (marksFrom (now (sort .entry)) (now (live .entry)) (now (tm .entry))) (now (w .entry))) 0 0 (now (room .entry))) (now (room .entry))) ⌝ }
 {
     let mut count = first;
     let mut serial = due;
