@@ -1,5 +1,9 @@
 //! The book of one clearing member: its rows, what each account is deemed,
-//! and when a book is sound.
+//! its modes, and when a book is sound.
+
+mod uses;
+
+use crate::mode::Mode;
 
 /// "The ceiling is 10,000,000,000,000 paise."
 pub const CEILING: u64 = 10_000_000_000_000;
@@ -64,7 +68,8 @@ impl Row {
     }
 }
 
-/// The five figures of an account, always worked out afresh from the rows.
+/// The five figures of an account, always worked out afresh from the rows,
+/// and its mode, which "depends on history".
 #[derive(Clone, Copy, PartialEq, Eq, Default, Debug)]
 pub struct Standing {
     pub collateral: u64,
@@ -72,10 +77,11 @@ pub struct Standing {
     pub blocked: u64,
     pub deemed: u64,
     pub free: u64,
+    pub mode: Mode,
 }
 
 impl Standing {
-    fn of(collateral: u64, need: u64) -> Standing {
+    fn of(collateral: u64, need: u64, mode: Mode) -> Standing {
         let blocked = need.min(collateral);
         Standing {
             collateral,
@@ -83,6 +89,7 @@ impl Standing {
             blocked,
             deemed: need - blocked,
             free: collateral - blocked,
+            mode,
         }
     }
 }
@@ -92,9 +99,20 @@ pub struct Book {
     pub rows: [Row; MOST_ACCOUNTS],
     pub count: usize,
     pub serial: u16,
+    /// On for a TM or the CM in risk reduction mode, off for any other row.
+    pub modes: [Mode; MOST_ACCOUNTS],
     /// For each account, what those directly under it are deemed, added up.
     /// Kept so that a record needs no walk over all the rows.
     called: [u64; MOST_ACCOUNTS],
+    /// Their excess, in tenths, added up and kept likewise.
+    over: [u64; MOST_ACCOUNTS],
+}
+
+/// What an account leaves to the one that answers for it.
+#[derive(Clone, Copy, PartialEq, Eq)]
+struct Left {
+    deemed: u64,
+    excess: u64,
 }
 
 impl Book {
@@ -106,7 +124,9 @@ impl Book {
             rows,
             count: 1,
             serial: 0,
+            modes: [Mode::Off; MOST_ACCOUNTS],
             called: [0; MOST_ACCOUNTS],
+            over: [0; MOST_ACCOUNTS],
         }
     }
 
@@ -149,19 +169,28 @@ impl Book {
         need
     }
 
-    /// Changes one row and carries what it is now deemed up to the CM.
+    fn left_to_others(&self, account: usize) -> Left {
+        Left {
+            deemed: self.deemed(account),
+            excess: self.excess(account),
+        }
+    }
+
+    /// Changes one row and carries what it is now deemed, and its excess, up
+    /// to the CM.
     pub fn change(&mut self, account: usize, change: impl FnOnce(&mut Row)) {
         let mut at = account;
-        let mut was = self.deemed(at);
+        let mut was = self.left_to_others(at);
         change(&mut self.rows[at]);
         while at != 0 {
-            let now = self.deemed(at);
+            let now = self.left_to_others(at);
             if now == was {
                 break;
             }
             let above = self.answers_for(at);
-            let above_was = self.deemed(above);
-            self.called[above] = self.called[above] - was + now;
+            let above_was = self.left_to_others(above);
+            self.called[above] = self.called[above] - was.deemed + now.deemed;
+            self.over[above] = self.over[above] - was.excess + now.excess;
             (at, was) = (above, above_was);
         }
     }
@@ -179,14 +208,16 @@ impl Book {
             .any(|row| row.sort == Sort::Client && row.live && row.tm == tm)
     }
 
-    /// The standings of all numbers given, from present amounts only. Whoever
-    /// answers for an account has a lower number, so one walk down suffices.
+    /// The standings of all numbers given, all but the mode from present
+    /// amounts only. Whoever answers for an account has a lower number, so one
+    /// walk down suffices.
     pub fn standings(&self) -> Vec<Standing> {
         let mut called = vec![0u64; self.count];
         let mut all = vec![Standing::default(); self.count];
         for account in (0..self.count).rev() {
             let row = &self.rows[account];
-            all[account] = Standing::of(row.collateral(), row.margin + called[account]);
+            let need = row.margin + called[account];
+            all[account] = Standing::of(row.collateral(), need, self.modes[account]);
             if account != 0 {
                 called[self.answers_for(account)] += all[account].deemed;
             }
@@ -203,6 +234,7 @@ impl Book {
                 .iter()
                 .all(|row| *row == Row::default())
             && (0..self.count).all(|account| self.row_is_sound(account))
+            && self.modes_are_sound()
             && self.standings()[0].deemed == 0
     }
 
@@ -225,7 +257,14 @@ impl Book {
 
     /// What is kept must be what the rows say.
     pub fn kept_agrees(&self) -> bool {
-        let standings = self.standings();
-        (0..self.count).all(|account| self.need(account) == standings[account].need)
+        let (standings, uses) = (self.standings(), self.uses());
+        (0..self.count).all(|account| {
+            let used = if self.has_mode(account) {
+                self.used(account)
+            } else {
+                0
+            };
+            self.need(account) == standings[account].need && used == uses[account]
+        })
     }
 }

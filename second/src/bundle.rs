@@ -5,7 +5,7 @@ use crate::options::Options;
 use crate::print;
 
 /// The most bytes a day in a bundle has.
-const ROOM: usize = 3_000;
+pub const ROOM: usize = 3_000;
 
 /// For each day four bytes of length, high byte first, then its bytes.
 pub fn bundle(words: &[String]) -> Result<Vec<u8>, String> {

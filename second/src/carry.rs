@@ -40,7 +40,7 @@ impl Answer {
 type Carried = Result<Outcome, Refusal>;
 
 /// Refusal 3 changes nothing; from 4 on the serial moves as for a record
-/// carried out.
+/// carried out. Modes are "looked at after every record carried out".
 pub fn carry(book: &mut Book, record: &Record) -> Answer {
     let outcome = if record.serial != book.serial {
         Outcome::Refused(Refusal::WrongSerial)
@@ -48,6 +48,9 @@ pub fn carry(book: &mut Book, record: &Record) -> Answer {
         book.serial = book.serial.wrapping_add(1);
         instruct(book, record).unwrap_or_else(Outcome::Refused)
     };
+    if !matches!(outcome, Outcome::Refused(_)) {
+        book.look_along(usize::from(record.account));
+    }
     Answer {
         serial: record.serial,
         code: record.code,

@@ -1,16 +1,18 @@
 //! Other programs against this one, byte for byte, on many made-up days.
 
 use crate::book::Book;
-use crate::carry::Answer;
 use crate::child::{ask, Pace};
 use crate::closeout::close_out_bytes;
 use crate::day::Closing;
+use crate::dayfile::Reader;
 use crate::difference::settle;
+use crate::looks::Looks;
 use crate::made::Made;
 use crate::make::{losses, make, MILLION_KIND, NO_LIMIT, ROUND};
 use crate::options::Options;
 use crate::print;
 use crate::refusal::Refusal;
+use crate::tally::Tally;
 use std::fs;
 use std::path::PathBuf;
 
@@ -22,14 +24,6 @@ const VALUED: [&str; 6] = [
     "--seed",
     "--millions",
 ];
-
-/// What was compared. Slots 0 to 16 count answers by refusal.
-#[derive(Default)]
-struct Tally {
-    days: u64,
-    records: u64,
-    refusals: [u64; 17],
-}
 
 /// Where the closeouts program is to find the losses.
 enum Losses {
@@ -71,7 +65,7 @@ pub fn compare(words: &[String]) -> Result<String, String> {
         let _ = fs::remove_file(programs.folder.join("losses"));
     }
     let _ = fs::remove_dir(&programs.folder);
-    Ok(summary(&tally?))
+    Ok(tally?.summary())
 }
 
 fn all_days(options: &Options, programs: &Programs) -> Result<Tally, String> {
@@ -104,36 +98,70 @@ fn all_days(options: &Options, programs: &Programs) -> Result<Tally, String> {
 }
 
 fn one_day(programs: &Programs, made: &Made, tally: &mut Tally) -> Result<(), String> {
-    let (want, book) = own_answer(made, tally)?;
+    let own = own_answer(made, tally)?;
     if let Some(program) = programs.day {
         let got = ask(program, None, &made.bytes, made.pace);
-        settle(&programs.folder, made, "day", &want, got)?;
+        settle(&programs.folder, made, "day", &own.out, got)?;
     }
     if let Some(program) = programs.standings {
-        let got = ask(program, None, &made.bytes, made.pace);
-        settle(
-            &programs.folder,
-            made,
-            "standings",
-            &print::standings(&made.bytes),
-            got,
-        )?;
+        for records in own.stops {
+            let stopped = Made {
+                bytes: beginning(&made.bytes, records).to_vec(),
+                pace: Pace::Whole,
+                ..*made
+            };
+            one_standings(programs, program, &stopped)?;
+            tally.stops += 1;
+        }
+        one_standings(programs, program, made)?;
     }
     if let Some(program) = programs.closeouts {
         for seed in losses::seeds(made.kind, made.seed) {
-            let losses = losses_for(&book, seed);
-            one_close_out(programs, program, made, &book, &losses, tally)?;
+            let losses = losses_for(&own.book, seed);
+            one_close_out(programs, program, made, &own.book, &losses, tally)?;
         }
     }
     Ok(())
 }
 
-/// This program's own answer, with the book's soundness asserted besides.
-fn own_answer(made: &Made, tally: &mut Tally) -> Result<(Vec<u8>, Book), String> {
-    let mut faults = 0;
+fn one_standings(programs: &Programs, program: &str, made: &Made) -> Result<(), String> {
+    let got = ask(program, None, &made.bytes, made.pace);
+    let want = print::standings(&made.bytes);
+    settle(&programs.folder, made, "standings", &want, got)
+}
+
+/// The bytes of the first so many records.
+fn beginning(piece: &[u8], records: usize) -> &[u8] {
+    let mut reader = Reader::new(piece);
+    for _ in 0..records {
+        reader.next();
+    }
+    &piece[..reader.place()]
+}
+
+struct Own {
+    out: Vec<u8>,
+    book: Book,
+    /// After how many records standings are asked for besides the end. A mode
+    /// "depends on history", and the end shows only the last of it: a day made
+    /// for modes is stopped where it meets a kind of look first.
+    stops: Vec<usize>,
+}
+
+/// This program's own answer, with the book's soundness asserted besides, and
+/// its modes held against a look at all.
+fn own_answer(made: &Made, tally: &mut Tally) -> Result<Own, String> {
+    let (mut faults, mut read) = (0, 0);
+    let (mut looks, mut stops) = (Looks::fresh(), Vec::new());
     let checked = made.kind != MILLION_KIND.0;
     let (out, book, day) = print::day_seen(&made.bytes, |answer, book| {
-        count(tally, answer);
+        tally.count(answer);
+        read += 1;
+        let kinds = looks.met.kinds();
+        faults += usize::from(!looks.after(answer, book));
+        if made.kind == "warned" && looks.met.kinds() > kinds {
+            stops.push(read);
+        }
         if checked && !(book.is_sound() && book.kept_agrees()) {
             faults += 1;
         }
@@ -145,13 +173,9 @@ fn own_answer(made: &Made, tally: &mut Tally) -> Result<(Vec<u8>, Book), String>
         ));
     }
     tally.days += 1;
+    tally.looks.add(&looks.met);
     tally.refusals[Refusal::Cut as usize] += u64::from(day.closing == Closing::Cut);
-    Ok((out, book))
-}
-
-fn count(tally: &mut Tally, answer: &Answer) {
-    tally.records += 1;
-    tally.refusals[usize::from(answer.refusal())] += 1;
+    Ok(Own { out, book, stops })
 }
 
 fn one_close_out(
@@ -193,17 +217,4 @@ fn losses_for(book: &Book, seed: u64) -> Losses {
         41 => Losses::NoArgument,
         _ => Losses::File(losses::make(book, seed)),
     }
-}
-
-fn summary(tally: &Tally) -> String {
-    let refusals: Vec<String> = (2..17)
-        .map(|number| format!("{number}:{}", tally.refusals[number]))
-        .collect();
-    format!(
-        "same: {} days, {} records, {} carried out, refusals {}",
-        tally.days,
-        tally.records,
-        tally.refusals[0],
-        refusals.join(" ")
-    )
 }

@@ -11,16 +11,20 @@ mod compare;
 mod day;
 mod dayfile;
 mod difference;
+mod looks;
 mod made;
 mod make;
+mod mode;
 mod options;
 mod print;
 mod refusal;
 mod rng;
+mod tally;
 #[cfg(test)]
 mod tests;
 mod text;
 
+use looks::Looks;
 use std::ffi::OsString;
 use std::fs::File;
 use std::io::{self, Read, Write};
@@ -28,10 +32,11 @@ use std::process::ExitCode;
 
 const USAGE: &str = "\
 second day [--check] < DAYFILE           a line per record, then end, cut or long
-second standings < DAYFILE               the closing line, then every account's five figures
+second standings < DAYFILE               the closing line, then every account's five figures and mode
 second closeouts LOSSFILE < DAYFILE      the closing line, then what each loss is paid from
 second make KIND SEED > DAYFILE          a made-up day: busy hostile bent bounds cuts serials
-                                         openings retire shared spent mixed million
+                                         openings retire shared spent warned wavering
+                                         mixed million
 second losses SEED < DAYFILE > LOSSFILE  made-up losses for the book at that day's end
 second compare --day P --standings P --closeouts P
                [--days N] [--seed S] [--millions K] [--trickle]
@@ -114,12 +119,15 @@ fn day_command(words: &[String]) -> Output {
     }
 }
 
-/// As `day`, but looks after every record whether the book is sound.
+/// As `day`, but looks after every record whether the book is sound and its
+/// modes are as a look at all would have them.
 fn checked_day(piece: &[u8]) -> Output {
     let (mut seen, mut first_fault) = (0, None);
-    let (out, _, _) = print::day_seen(piece, |_, book| {
+    let mut looks = Looks::fresh();
+    let (out, _, _) = print::day_seen(piece, |answer, book| {
         seen += 1;
-        if first_fault.is_none() && !(book.is_sound() && book.kept_agrees()) {
+        let agrees = looks.after(answer, book);
+        if first_fault.is_none() && !(agrees && book.is_sound() && book.kept_agrees()) {
             first_fault = Some(seen);
         }
     });

@@ -8,6 +8,8 @@ pub mod losses;
 mod maker;
 mod mixed;
 mod steer;
+mod uses;
+mod warned;
 
 use maker::Maker;
 
@@ -16,7 +18,7 @@ type Kind = (&'static str, fn(&mut Maker));
 /// The kinds that a comparison goes round. `million` stands apart for its size.
 /// An odd number, so that days fed in small pieces (one in four) are of every
 /// kind.
-pub const ROUND: [Kind; 11] = [
+pub const ROUND: [Kind; 13] = [
     ("busy", steer::busy),
     ("hostile", bend::hostile),
     ("bent", bend::bent),
@@ -27,6 +29,8 @@ pub const ROUND: [Kind; 11] = [
     ("retire", lives::retire),
     ("shared", deemed::shared),
     ("spent", deemed::spent),
+    ("warned", warned::warned),
+    ("wavering", warned::wavering),
     ("mixed", mixed::mixed),
 ];
 

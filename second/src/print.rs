@@ -80,19 +80,21 @@ fn sort_word(sort: Sort) -> &'static str {
 
 fn push_standing(out: &mut Vec<u8>, book: &Book, account: usize, standing: &Standing) {
     let row = &book.rows[account];
+    let (sort, tm) = (sort_word(row.sort), row.tm);
     let state = if row.live { "live" } else { "retired" };
-    out.extend_from_slice(format!("{account} {} {state} ", sort_word(row.sort)).as_bytes());
     let Standing {
         collateral,
         need,
         blocked,
         deemed,
         free,
+        mode,
     } = *standing;
-    push_numbers(
-        out,
-        &[u64::from(row.tm), collateral, need, blocked, deemed, free],
+    let mode = mode.word();
+    let line = format!(
+        "{account} {sort} {state} {tm} {collateral} {need} {blocked} {deemed} {free} {mode}\n"
     );
+    out.extend_from_slice(line.as_bytes());
 }
 
 /// The lines of `standings` without the closing line.

@@ -1,6 +1,6 @@
 -- The exact difference of each need where one row's amounts change.
 use mathlib.Core.Path.{_≡_, refl, sym, _∙_, ap}
-use mathlib.Core.Bool.{false}
+use mathlib.Core.Bool.{Bool, false}
 use Prim.Native.Nat.{ℕ, _+_, _<_}
 use native.Mathlib.Omega.{arith}
 use native.Mathlib.Decide.{ℕ-discrete}
@@ -12,6 +12,7 @@ use Rattle.rows.specs.declared.Row.{Row}
 use Rattle.rows.specs.declared.Book.{Book}
 use Rattle.rows.specs.View.{View, isClientOf, members, ofClients, ownDeemed, needTM, deemedTM, needCM}
 use Rattle.rows.specs.Facts.{Shaped}
+use Rattle.rows.specs.Inner.{times, viewAs}
 use Rattle.rows.specs.Rows.{rowAt, places, collateral, view, withRow}
 use Rattle.rows.proofs.BySort.{client-of}
 use Rattle.book.proofs.OneRow.{at-all, same-sort, same-tm}
@@ -24,6 +25,17 @@ pub record RowChanged (v w : View) (k : ℕ) : Type 0 where
   pub tm : (i : ℕ) → w .tm i ≡ v .tm i
   pub margin : (i : ℕ) → (i ≡ k → ⊥) → w .margin i ≡ v .margin i
   pub collateral : (i : ℕ) → (i ≡ k → ⊥) → w .collateral i ≡ v .collateral i
+
+-- in tenths too
+pub changed-in : (tenths : Bool) {v w : View} {k : ℕ} → RowChanged v w k → RowChanged (viewAs tenths v) (viewAs tenths w) k
+changed-in tenths o = record {
+  count = o .count;
+  inside = o .inside;
+  sort = o .sort;
+  tm = o .tm;
+  margin = λ i n. ap (times tenths 10) (o .margin i n);
+  collateral = λ i n. ap (times tenths 9) (o .collateral i n);
+}
 
 pub row-changed : (b : Book) (k : ℕ) (r : Row) → k < places b → k < b .count → r .sort ≡ rowAt b k .sort → r .tm ≡ rowAt b k .tm
     → RowChanged (view b) (view (withRow b k r)) k

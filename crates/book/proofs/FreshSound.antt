@@ -3,7 +3,6 @@ use mathlib.Core.Path.{_≡_, refl}
 use mathlib.Core.Bool.{true, false}
 use Prim.Native.Nat.{ℕ, zero, suc, _≤_, _<_}
 use native.Mathlib.Omega.{arith}
-use lib.ListN.{getD, replicate}
 use Rattle.sums.specs.Sum.{sum}
 use Rattle.rows.specs.View.{needCM}
 use Rattle.rows.specs.Rows.{noRow, rowAt, freshBook}
@@ -11,12 +10,9 @@ use Rattle.rows.specs.Ranges.{noAmounts}
 use Rattle.rows.specs.Facts.{InRange}
 use Rattle.book.specs.Sound.{soundB}
 use Rattle.book.specs.Facts.{Sound}
+use Rattle.sums.proofs.Choices.{clash}
+use Rattle.sums.proofs.Lists.{getD-same}
 use Rattle.book.proofs.SoundTest.{sound←}
-
-pub getD-same : {A : Type 0} (n i : ℕ) (a : A) → getD (replicate n a) i a ≡ a
-getD-same zero i a = refl
-getD-same (suc n) zero a = refl
-getD-same (suc n) (suc i) a = getD-same n i a
 
 -- account 0 is the only one
 alone : (P : ℕ → Type 0) → P 0 → (i : ℕ) → i < 1 → P i
@@ -41,6 +37,7 @@ fresh-sound = record {
   retired = alone (λ i. rowAt freshBook i .live ≡ false → noAmounts (rowAt freshBook i) ≡ true) (λ e. refl);
   ranges = alone (λ i. InRange (rowAt freshBook i)) (omega arith);
   covered = omega arith;
+  modes = λ i l e. clash e (getD-same 256 i false);
 }
   where
     blank : (i : ℕ) → 1 ≤ i → rowAt freshBook i ≡ noRow

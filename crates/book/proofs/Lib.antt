@@ -5,12 +5,14 @@ pub mod Keeps
 pub mod UnderPut
 pub mod UnderOpen
 pub mod UnderMost
+pub mod LookAfter
 pub mod LiveClients
 pub mod OneRow
 pub mod Opens
 pub mod SoundRanges
 pub mod RowFacts
 pub mod RowTests
+pub mod Settled
 pub mod SoundAfter
 pub mod SoundInPlace
 pub mod SoundTest

@@ -1,5 +1,6 @@
 -- A new account with all amounts 0 changes no need, and keeps the book shaped and covered.
-use mathlib.Core.Path.{_≡_, sym, _∙_, ap}
+use mathlib.Core.Bool.{Bool, true, false}
+use mathlib.Core.Path.{_≡_, refl, sym, _∙_, ap}
 use mathlib.Core.Logic.{_⊎_}
 use Prim.Native.Nat.{ℕ, _+_, _≤_, _<_}
 use native.Mathlib.Omega.{arith}
@@ -8,6 +9,7 @@ use Rattle.sums.specs.Sum.{sum, only}
 use Rattle.sums.proofs.Sums.{sum-step, sum-eq, sum-zero, only-zero}
 use Rattle.rows.specs.View.{View, isTM, isCP, isClientOf, members, ofClients, ownDeemed, needTM, deemedTM, needCM}
 use Rattle.rows.specs.Facts.{Shaped, Covered}
+use Rattle.rows.specs.Inner.{times, viewAs}
 use Rattle.rows.proofs.BySort.{client-sort, client-tm}
 
 -- w is v with one account more, whose margin is 0 and which is a TM, a CP or a client of one of v's TMs
@@ -20,6 +22,23 @@ pub record Opened (v w : View) : Type 0 where
   pub no-margin : w .margin (v .count) ≡ 0
   pub new-sort : (w .sort (v .count) ≡ 1) ⊎ ((w .sort (v .count) ≡ 2) ⊎ (w .sort (v .count) ≡ 3))
   pub its-tm : w .sort (v .count) ≡ 2 → (w .tm (v .count) < v .count) × (v .sort (w .tm (v .count)) ≡ 1)
+
+-- in tenths too
+pub opened-in : (tenths : Bool) {v w : View} → Opened v w → Opened (viewAs tenths v) (viewAs tenths w)
+opened-in tenths o = record {
+  count = o .count;
+  sort = o .sort;
+  tm = o .tm;
+  margin = λ i l. ap (times tenths 10) (o .margin i l);
+  collateral = λ i l. ap (times tenths 9) (o .collateral i l);
+  no-margin = ap (times tenths 10) (o .no-margin) ∙ times-none tenths 10;
+  new-sort = o .new-sort;
+  its-tm = o .its-tm;
+}
+  where
+    times-none : (t : Bool) (n : ℕ) → times t n 0 ≡ 0
+    times-none true n = omega arith
+    times-none false n = refl
 
 module _ (v w : View) (o : Opened v w) (s : Shaped v) where
   new-own : ownDeemed w (v .count) ≡ 0

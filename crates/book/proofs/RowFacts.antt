@@ -1,14 +1,19 @@
 -- What the tests of one row say as facts, both ways.
-use mathlib.Core.Path.{_≡_}
-use mathlib.Core.Bool.{true, false}
+use mathlib.Core.Path.{_≡_, refl}
+use mathlib.Core.Bool.{Bool, true, false, _&&_, _||_}
+use mathlib.Core.Logic.{_⊎_, inl, inr}
+use Prim.Native.Nat.{ℕ}
+use lib.Dec.{eqb}
 use borrow.Author.Tests.{eqb-true, eq-eqb, leb-true, le-leb, not-true}
-use Rattle.sums.proofs.Choices.{and-left, and-right, and-join}
+use Rattle.sums.proofs.Choices.{and-left, and-right, and-join, or-split, or-left, or-right}
 use Rattle.rows.specs.declared.Kinds.{Kinds}
 use Rattle.rows.specs.declared.Row.{Row}
-use Rattle.rows.specs.Rows.{noKinds, noRow}
+use Rattle.rows.specs.declared.Book.{Book}
+use Rattle.rows.specs.Rows.{noKinds, noRow, rowAt, modeAt}
 use Rattle.rows.specs.Ranges.{kindsZero, kindsWithin, kindsCapped, noAmounts, inRange, ceilings}
 use Rattle.rows.specs.Facts.{KindsWithin, InRange}
-use Rattle.book.specs.Sound.{isBlank}
+use Rattle.book.specs.Sound.{isBlank, modeSound}
+use Rattle.book.specs.Facts.{MayBeOn}
 
 pub within→ : (a b : Kinds) → kindsWithin a b ≡ true → KindsWithin a b
 within→ a b e = search (and-left, and-right, leb-true)
@@ -70,3 +75,31 @@ blank→ r e = λ j. record { sort = c j; live = l j; tm = t j; received = a .re
 
 pub blank← : (r : Row) → r ≡ noRow → isBlank r ≡ true
 blank← r e = rw e
+
+-- who may be in the mode: the CM or a live TM
+module _ (b : Book) (i : ℕ) where
+  abbrev live : Bool
+  live = rowAt b i .live
+
+  abbrev sort-TM : Bool
+  sort-TM = eqb (rowAt b i .sort) 1
+
+  pub mode→ : modeSound b i ≡ true → modeAt b i ≡ true → MayBeOn b i
+  unfolding modeSound
+  mode→ h e = by (or-split (eqb i 0) (sort-TM && live) (rw e at h))
+    where
+      by : (eqb i 0 ≡ true) ⊎ ((sort-TM && live) ≡ true) → MayBeOn b i
+      by (inl q) = inl (eqb-true i 0 q)
+      by (inr q) = inr (eqb-true (rowAt b i .sort) 1 (and-left sort-TM live q), and-right sort-TM live q)
+
+  pub mode← : (modeAt b i ≡ true → MayBeOn b i) → modeSound b i ≡ true
+  unfolding modeSound
+  mode← h = by (modeAt b i) refl
+    where
+      on : MayBeOn b i → (eqb i 0 || sort-TM && live) ≡ true
+      on (inl e) = or-left (sort-TM && live) (eq-eqb i 0 e)
+      on (inr e) = or-right (eqb i 0) (and-join (eq-eqb (rowAt b i .sort) 1 (e .0)) (e .1))
+
+      by : (m : Bool) → modeAt b i ≡ m → modeSound b i ≡ true
+      by false e = rw e
+      by true e = rw e (on (h e))

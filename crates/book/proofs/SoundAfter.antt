@@ -1,4 +1,5 @@
--- A sound book stays sound: after each change of one row, after an opening, and whatever its serial.
+-- A sound book's rows stay sound: after each change of one row, after an opening, and whatever its serial. With a look the book is sound
+-- again (book.Settled).
 use mathlib.Core.Path.{_≡_, refl, sym, _∙_, ap}
 use mathlib.Core.Bool.{true, false}
 use mathlib.Core.Logic.{_⊎_}
@@ -13,26 +14,19 @@ use Rattle.rows.specs.View.{blocked, free}
 use Rattle.rows.specs.Facts.{Covered, KindsWithin, InRange}
 use Rattle.rows.specs.Ranges.{ceilings, noAmounts}
 use Rattle.rows.specs.Rows.{ceiling, rowAt, addedUp, collateral, view, openedRow, plusKinds, lessKinds, withReceived, withAllocated, withPledged, withMargin, withLive, places, withSerial, withRow, withNew}
-use Rattle.book.specs.Facts.{Sound}
+use Rattle.book.specs.Facts.{SoundRows, Sound}
+use Rattle.book.proofs.Settled.{sound-rows, rows-alone, with-modes}
 use Rattle.rows.proofs.RowPut.{row-other, row-places, new-places, new, below, above}
 use Rattle.book.proofs.Keeps.{kept-covered}
 use Rattle.book.proofs.Opens.{Opened, opened-covered, opened-shaped}
 use Rattle.book.proofs.OneRow.{at-all, same-sort, same-tm, row-kept, row-shaped, row-opened}
 
 -- soundness doesn't look at the serial
+pub serial-rows : (b : Book) (n : ℕ) → SoundRows b → SoundRows (withSerial b n)
+serial-rows b n s = rows-alone b n (b .modes) s
+
 pub serial-sound : (b : Book) (n : ℕ) → Sound b → Sound (withSerial b n)
-serial-sound b n s = record {
-  table = s .table;
-  most = s .most;
-  top-live = s .top-live;
-  blank = s .blank;
-  shaped = s .shaped;
-  no-tm = s .no-tm;
-  tm-live = s .tm-live;
-  retired = s .retired;
-  ranges = s .ranges;
-  covered = s .covered;
-}
+serial-sound b n s = with-modes (withSerial b n) (serial-rows b n (sound-rows b s)) (s .modes)
 
 -- an account's row is in the table
 pub in-table : (b : Book) → Sound b → (i : ℕ) → i < b .count → i < places b
@@ -42,7 +36,7 @@ in-table b s i m = omega (arith, s .table, s .most)
 module _ (b : Book) (s : Sound b) (i : ℕ) (m : i < b .count) (r : Row) (ec : r .sort ≡ rowAt b i .sort) (et : r .tm ≡ rowAt b i .tm) where
   row-sound : InRange r → (r .live ≡ false → noAmounts r ≡ true) → rowAt (withRow b i r) 0 .live ≡ true
       → ((j : ℕ) → j < b .count → rowAt b j .sort ≡ 2 → rowAt (withRow b i r) j .live ≡ true → rowAt (withRow b i r) (rowAt b j .tm) .live ≡ true)
-      → Covered (view (withRow b i r)) → Sound (withRow b i r)
+      → Covered (view (withRow b i r)) → SoundRows (withRow b i r)
   row-sound ranges retired top tms c = record {
     table = row-places b i r ∙ s .table;
     most = s .most;
@@ -69,7 +63,7 @@ module _ (b : Book) (s : Sound b) (i : ℕ) (m : i < b .count) (r : Row) (ec : r
 module _ (b : Book) (s : Sound b) (i : ℕ) (m : i < b .count) (live : rowAt b i .live ≡ true) where
   -- a live row's amounts change within the ranges, and the CM stays covered
   pub amounts-sound : (r : Row) → r .sort ≡ rowAt b i .sort → r .tm ≡ rowAt b i .tm → r .live ≡ true → InRange r
-      → Covered (view (withRow b i r)) → Sound (withRow b i r)
+      → Covered (view (withRow b i r)) → SoundRows (withRow b i r)
   amounts-sound r ec et el f c =
       row-sound b s i m r ec et f (clash el) (lives 0 ∙ s .top-live)
       (λ j h e p. lives (rowAt b j .tm) ∙ s .tm-live j h e (sym (lives j) ∙ p)) c
@@ -79,44 +73,44 @@ module _ (b : Book) (s : Sound b) (i : ℕ) (m : i < b .count) (live : rowAt b i
 
   -- the margin doesn't rise, and collateral stays no lower than blocked
   pub kept-sound : (r : Row) → r .sort ≡ rowAt b i .sort → r .tm ≡ rowAt b i .tm → r .live ≡ true → InRange r
-      → r .margin ≤ rowAt b i .margin → blocked (view b) i ≤ collateral r → Sound (withRow b i r)
+      → r .margin ≤ rowAt b i .margin → blocked (view b) i ≤ collateral r → SoundRows (withRow b i r)
   kept-sound r ec et el f hm hb =
       amounts-sound r ec et el f
       (kept-covered (view b) (view (withRow b i r)) (row-kept b i r (in-table b s i m) ec et hm hb) (s .shaped .top) (s .covered))
 
   -- 10 does not apply
   pub receive-sound : (k : Kinds) → KindsWithin (plusKinds (rowAt b i .received) k) ceilings
-      → Sound (withRow b i (withReceived (rowAt b i) (plusKinds (rowAt b i .received) k)))
+      → SoundRows (withRow b i (withReceived (rowAt b i) (plusKinds (rowAt b i .received) k)))
   receive-sound k h = kept-sound _ refl refl live (omega (arith, s .ranges i m)) (omega arith) (omega arith)
 
   -- 11 does not apply
   pub hand-back-sound : (k : Kinds) → KindsWithin k (lessKinds (rowAt b i .received) (rowAt b i .allocated))
-      → Sound (withRow b i (withReceived (rowAt b i) (lessKinds (rowAt b i .received) k)))
+      → SoundRows (withRow b i (withReceived (rowAt b i) (lessKinds (rowAt b i .received) k)))
   hand-back-sound k h = kept-sound _ refl refl live (omega (arith, s .ranges i m)) (omega arith) (omega arith)
 
   pub allocate-sound : (k : Kinds) → KindsWithin k (lessKinds (rowAt b i .received) (rowAt b i .allocated))
-      → Sound (withRow b i (withAllocated (rowAt b i) (plusKinds (rowAt b i .allocated) k)))
+      → SoundRows (withRow b i (withAllocated (rowAt b i) (plusKinds (rowAt b i .allocated) k)))
   allocate-sound k h = kept-sound _ refl refl live (omega (arith, s .ranges i m)) (omega arith) (omega arith)
 
   -- 11 and 12 do not apply
   pub release-sound : (k : Kinds) → KindsWithin k (rowAt b i .allocated) → addedUp k ≤ free (view b) i
-      → Sound (withRow b i (withAllocated (rowAt b i) (lessKinds (rowAt b i .allocated) k)))
+      → SoundRows (withRow b i (withAllocated (rowAt b i) (lessKinds (rowAt b i .allocated) k)))
   release-sound k h f = kept-sound _ refl refl live (omega (arith, s .ranges i m)) (omega arith) (omega arith)
 
   -- 10 does not apply
-  pub pledge-sound : (y : ℕ) → rowAt b i .pledged + y ≤ ceiling → Sound (withRow b i (withPledged (rowAt b i) (rowAt b i .pledged + y)))
+  pub pledge-sound : (y : ℕ) → rowAt b i .pledged + y ≤ ceiling → SoundRows (withRow b i (withPledged (rowAt b i) (rowAt b i .pledged + y)))
   pledge-sound y h = kept-sound _ refl refl live (omega (arith, s .ranges i m)) (omega arith) (omega arith)
 
   -- 11 and 12 do not apply
-  pub unpledge-sound : (y : ℕ) → y ≤ rowAt b i .pledged → y ≤ free (view b) i → Sound (withRow b i (withPledged (rowAt b i) (rowAt b i .pledged - y)))
+  pub unpledge-sound : (y : ℕ) → y ≤ rowAt b i .pledged → y ≤ free (view b) i → SoundRows (withRow b i (withPledged (rowAt b i) (rowAt b i .pledged - y)))
   unpledge-sound y h f = kept-sound _ refl refl live (omega (arith, s .ranges i m)) (omega arith) (omega arith)
 
   -- 13 does not apply
-  pub margin-sound : (y : ℕ) → y ≤ ceiling → Covered (view (withRow b i (withMargin (rowAt b i) y))) → Sound (withRow b i (withMargin (rowAt b i) y))
+  pub margin-sound : (y : ℕ) → y ≤ ceiling → Covered (view (withRow b i (withMargin (rowAt b i) y))) → SoundRows (withRow b i (withMargin (rowAt b i) y))
   margin-sound y h c = amounts-sound _ refl refl live (omega (arith, s .ranges i m)) c
 
   -- 13 never applies to a margin that doesn't rise
-  pub margin-falls : (y : ℕ) → y ≤ rowAt b i .margin → Sound (withRow b i (withMargin (rowAt b i) y))
+  pub margin-falls : (y : ℕ) → y ≤ rowAt b i .margin → SoundRows (withRow b i (withMargin (rowAt b i) y))
   margin-falls y h = kept-sound _ refl refl live (omega (arith, s .ranges i m)) h (omega arith)
 
 -- 7, 8 and 14 do not apply
@@ -125,7 +119,7 @@ module _ (b : Book) (s : Sound b) (i : ℕ) (m : i < b .count) (ne : i ≡ 0 →
   abbrev gone : Row
   gone = withLive (rowAt b i) false
 
-  pub retire-sound : Sound (withRow b i (withLive (rowAt b i) false))
+  pub retire-sound : SoundRows (withRow b i (withLive (rowAt b i) false))
   retire-sound =
       row-sound b s i m gone refl refl (same-range (s .ranges i m)) (λ q. none)
       (ap (λ r. r .live) (row-other b i 0 gone (λ e. ne (sym e))) ∙ s .top-live)
@@ -164,7 +158,7 @@ module _ (b : Book) (s : Sound b) (c t : ℕ) (room : b .count < 256) (sort : (c
   still-live : (j : ℕ) → j < b .count → rowAt b j .live ≡ true → rowAt opened j .live ≡ true
   still-live j l p = ap (λ r. r .live) (below b (openedRow c t) space j l) ∙ p
 
-  pub open-sound : Sound (withNew b (openedRow c t))
+  pub open-sound : SoundRows (withNew b (openedRow c t))
   open-sound = record {
     table = new-places b (openedRow c t) ∙ s .table;
     most = omega arith;

@@ -15,10 +15,10 @@ use Rattle.rows.specs.declared.Book.{Book}
 use Rattle.rows.specs.Rows.{noRow, rowAt, places}
 use Rattle.rows.specs.Ranges.{noAmounts, inRange}
 use Rattle.rows.specs.Facts.{InRange}
-use Rattle.book.specs.Sound.{isBlank, isTop, goodClient, goodSort, goodRetired, goodRow, rowSound, formedB, coveredB, soundB}
+use Rattle.book.specs.Sound.{isBlank, isTop, goodClient, goodSort, goodRetired, goodRow, rowSound, modeSound, formedB, coveredB, soundB}
 use Rattle.book.specs.Facts.{Sound}
 use Rattle.rows.proofs.RowPut.{row-far}
-use Rattle.book.proofs.RowFacts.{range→, range←, blank→, blank←}
+use Rattle.book.proofs.RowFacts.{range→, range←, blank→, blank←, mode→, mode←}
 
 -- "a client whose TM is a lower-numbered TM row. A live client's TM is live."
 record GoodClient (i : ℕ) (r t : Row) : Type 0 where
@@ -135,8 +135,12 @@ sound→ b e = record {
   retired = λ i l. row-retired b i (row i (omega (arith, most))) l;
   ranges = λ i l. row-ranges b i (row i (omega (arith, most))) l;
   covered = search (and-left, and-right, leb-true);
+  modes = λ i l. mode→ b i (mode i l);
 }
   where
+    mode : (i : ℕ) → i < 256 → modeSound b i ≡ true
+    mode = all-at 256 (modeSound b) (search (and-left, and-right))
+
     table : places b ≡ 256
     table = search (and-left, and-right, eqb-true)
 
@@ -187,5 +191,5 @@ sound→ b e = record {
 pub sound← : (b : Book) → Sound b → soundB b ≡ true
 unfolding soundB formedB coveredB
 sound← b s =
-    and-join (and-join (and-join (and-join (le-leb _ _ (s .shaped .some)) (le-leb _ _ (s .most)))
-    (all-from 256 (rowSound b) (λ i l. row← b i s))) (eq-eqb _ _ (s .table))) (le-leb _ _ (s .covered))
+    and-join (and-join (and-join (and-join (and-join (le-leb _ _ (s .shaped .some)) (le-leb _ _ (s .most)))
+    (all-from 256 (rowSound b) (λ i l. row← b i s))) (eq-eqb _ _ (s .table))) (all-from 256 (modeSound b) (λ i l. mode← b i (s .modes i l)))) (le-leb _ _ (s .covered))

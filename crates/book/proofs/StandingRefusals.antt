@@ -8,7 +8,7 @@ use Rattle.sums.specs.Table.{_when_, first}
 use Rattle.sums.proofs.Tables.{first-here, first-later}
 use Rattle.rows.specs.declared.Book.{Book}
 use Rattle.book.specs.declared.Figures.{Figures}
-use Rattle.rows.specs.Rows.{view, isLive}
+use Rattle.rows.specs.Rows.{modeAt, view, isLive}
 use Rattle.book.specs.Sound.{soundB}
 use Rattle.book.specs.Asked.{standingRefusal, noFigures, figuresOf, standingOf}
 
@@ -27,7 +27,7 @@ module _ (b : Book) (i : ℕ) where
   live-answered e l =
       first-later 1 (not (soundB b)) ((7 when not (isLive b i)) ∷ []) (ap not e) ∙ first-later 7 (not (isLive b i)) [] (ap not l)
 
-  pub standing-by : {r : Figures} (n : ℕ) → standingRefusal b i ≡ n → r ≡ unlessRefused n (figuresOf (view b) i) noFigures → r ≡ standingOf b i
+  pub standing-by : {r : Figures} (n : ℕ) → standingRefusal b i ≡ n → r ≡ unlessRefused n (figuresOf (view b) (modeAt b i) i) noFigures → r ≡ standingOf b i
   unfolding standingOf
   standing-by n e h = rw e h
 
@@ -36,6 +36,6 @@ module _ (b : Book) (i : ℕ) where
   unfolding standingOf
   standing-number = by (standingRefusal b i)
     where
-      by : (n : ℕ) → unlessRefused n (figuresOf (view b) i) noFigures .refusal ≡ n
+      by : (n : ℕ) → unlessRefused n (figuresOf (view b) (modeAt b i) i) noFigures .refusal ≡ n
       by zero = refl
       by (suc n) = refl

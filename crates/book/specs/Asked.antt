@@ -1,5 +1,5 @@
 -- "A standing is asked with a book and an account number: refusals 1, 7, and all five figures 0."
-use mathlib.Core.Bool.{not}
+use mathlib.Core.Bool.{Bool, false, not}
 use mathlib.Core.List.{List, [], _∷_}
 use Prim.Native.Nat.{ℕ}
 use Rattle.sums.specs.Choice.{unlessRefused}
@@ -7,7 +7,7 @@ use Rattle.sums.specs.Table.{Line, _when_, first}
 use Rattle.rows.specs.declared.Book.{Book}
 use Rattle.book.specs.declared.Figures.{Figures}
 use Rattle.rows.specs.View.{View, need, blocked, deemed, free}
-use Rattle.rows.specs.Rows.{placeOf, view, isLive}
+use Rattle.rows.specs.Rows.{placeOf, modeAt, view, isLive}
 use Rattle.book.specs.Sound.{soundB}
 
 -- "1: the book isn't sound"; "7: the account is not live, or its number was never given"
@@ -18,14 +18,22 @@ standingRefusals b number = (1 when not (soundB b)) ∷ (7 when not (isLive b nu
 unfoldable pub standingRefusal : Book → ℕ → ℕ
 standingRefusal b number = first (standingRefusals b number)
 
--- "A standing gives these five: collateral, need, blocked, deemed, free."
-abbrev pub figuresOf : View → ℕ → Figures
-figuresOf v i = record { refusal = 0; collateral = v .collateral i; need = need v i; blocked = blocked v i; deemed = deemed v i; free = free v i }
+-- "A standing gives these five: collateral, need, blocked, deemed, free."; document 02, K2: "Mode is .. shown in a standing"
+abbrev pub figuresOf : View → Bool → ℕ → Figures
+figuresOf v mode i = record {
+  refusal = 0;
+  collateral = v .collateral i;
+  need = need v i;
+  blocked = blocked v i;
+  deemed = deemed v i;
+  free = free v i;
+  mode = mode;
+}
 
--- "and all five figures 0"
+-- "and all five figures 0": the mode is off
 abbrev pub noFigures : ℕ → Figures
-noFigures n = record { refusal = n; collateral = 0; need = 0; blocked = 0; deemed = 0; free = 0 }
+noFigures n = record { refusal = n; collateral = 0; need = 0; blocked = 0; deemed = 0; free = 0; mode = false }
 
 -- what a standing gives
 unfoldable pub standingOf : Book → ℕ → Figures
-standingOf b number = unlessRefused (standingRefusal b number) (figuresOf (view b) (placeOf b number)) noFigures
+standingOf b number = unlessRefused (standingRefusal b number) (figuresOf (view b) (modeAt b (placeOf b number)) (placeOf b number)) noFigures

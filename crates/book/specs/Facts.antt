@@ -2,13 +2,14 @@
 -- where the test `soundB` does is a law (`sound-exactly` of the crate promises).
 use mathlib.Core.Path.{_≡_}
 use mathlib.Core.Bool.{true, false}
+use mathlib.Core.Logic.{_⊎_}
 use Prim.Native.Nat.{ℕ, _≤_, _<_}
 use Rattle.rows.specs.declared.Book.{Book}
-use Rattle.rows.specs.Rows.{noRow, rowAt, places, view}
+use Rattle.rows.specs.Rows.{noRow, rowAt, modeAt, places, view}
 use Rattle.rows.specs.Ranges.{noAmounts}
 use Rattle.rows.specs.Facts.{Shaped, NoTM, Covered, InRange}
 
--- what the list says of rows
+-- all that document 01's list says
 pub record SoundRows (b : Book) : Type 0 where
   -- a value of the type has 256 rows
   pub table : places b ≡ 256
@@ -31,6 +32,21 @@ pub record SoundRows (b : Book) : Type 0 where
   -- "The CM's need, defined below, is at most the CM's collateral."
   pub covered : Covered (view b)
 
--- all that the list says: of rows alone, so far
-abbrev pub Sound : Book → Type 0
-Sound = SoundRows
+-- the account at place i may be in the mode: it is the CM or a live TM
+abbrev pub MayBeOn : Book → ℕ → Type 0
+MayBeOn b i = (i ≡ 0) ⊎ ((rowAt b i .sort ≡ 1) × (rowAt b i .live ≡ true))
+
+-- the same, field by field, and what document 02 says of modes
+pub record Sound (b : Book) : Type 0 where
+  pub table : places b ≡ 256
+  pub most : b .count ≤ 256
+  pub top-live : rowAt b 0 .live ≡ true
+  pub blank : (i : ℕ) → b .count ≤ i → rowAt b i ≡ noRow
+  pub shaped : Shaped (view b)
+  pub no-tm : NoTM (view b)
+  pub tm-live : (i : ℕ) → i < b .count → rowAt b i .sort ≡ 2 → rowAt b i .live ≡ true → rowAt b (rowAt b i .tm) .live ≡ true
+  pub retired : (i : ℕ) → i < b .count → rowAt b i .live ≡ false → noAmounts (rowAt b i) ≡ true
+  pub ranges : (i : ℕ) → i < b .count → InRange (rowAt b i)
+  pub covered : Covered (view b)
+  -- document 02, K2: "In a sound book only a live TM or the CM can be in the mode."
+  pub modes : (i : ℕ) → i < 256 → modeAt b i ≡ true → MayBeOn b i

@@ -1,4 +1,4 @@
--- Document 01, 'A sound book': as the test that refusal 1 is about (as facts: Facts.antt).
+-- Document 01, 'A sound book', with document 02, K2: as the test that refusal 1 is about (as facts: Facts.antt).
 use mathlib.Core.Bool.{Bool, not, _&&_, _||_}
 use Prim.Native.Nat.{ℕ}
 use lib.Dec.{eqb, ltb, leb}
@@ -7,7 +7,7 @@ use Rattle.sums.specs.Choice.{pick}
 use Rattle.rows.specs.declared.Row.{Row}
 use Rattle.rows.specs.declared.Book.{Book}
 use Rattle.rows.specs.View.{needCM}
-use Rattle.rows.specs.Rows.{rowAt, places, collateral, view}
+use Rattle.rows.specs.Rows.{rowAt, modeAt, places, collateral, view}
 use Rattle.rows.specs.Ranges.{noAmounts, inRange}
 
 -- "rows beyond the number are all zero"
@@ -38,9 +38,18 @@ goodRow n i r t = pick (ltb i n) (pick (eqb i 0) (isTop r) (goodSort i r t) && g
 unfoldable pub rowSound : Book → ℕ → Bool
 rowSound b i = goodRow (b .count) i (rowAt b i) (rowAt b (rowAt b i .tm))
 
--- "The number of accounts is 1 to 256"; every row. A value of the type has 256 rows: the last test holds of each.
+-- document 02, K2: "In a sound book only a live TM or the CM can be in the mode.": the account at place i, of this sort, live or not, whose mode
+-- is m
+abbrev pub goodMode : ℕ → ℕ → Bool → Bool → Bool
+goodMode i sort live m = not m || eqb i 0 || eqb sort 1 && live
+
+-- the mode at place i of a book
+unfoldable pub modeSound : Book → ℕ → Bool
+modeSound b i = goodMode i (rowAt b i .sort) (rowAt b i .live) (modeAt b i)
+
+-- "The number of accounts is 1 to 256"; every row and every mode. A value of the type has 256 rows: the test of it holds of each.
 unfoldable pub formedB : Book → Bool
-formedB b = leb 1 (b .count) && leb (b .count) 256 && all 256 (rowSound b) && eqb (places b) 256
+formedB b = leb 1 (b .count) && leb (b .count) 256 && all 256 (rowSound b) && eqb (places b) 256 && all 256 (modeSound b)
 
 -- "The CM's need, defined below, is at most the CM's collateral."
 unfoldable pub coveredB : Book → Bool

@@ -16,9 +16,10 @@ pub(crate) fn figures<'a>(
     w: &'a [u64; 2560],
     count: u16,
     i: usize,
+    mode: bool,
 ) -> Figures
     requires { ⌜ Ranged (seenBook count (now sort) (now tm) (now w)) × (i < count) ⌝ }
-    ensures { λ x. ⌜ x ≡ figuresOf (view (seenBook count (now (sort .entry)) (now (tm .entry)) (now (w .entry)))) i ⌝ }
+    ensures { λ x. ⌜ x ≡ figuresOf (view (seenBook count (now (sort .entry)) (now (tm .entry)) (now (w .entry)))) mode i ⌝ }
 {
     let n = need_of(sort, tm, w, count, i);
     let c = account_at(sort, tm, w, i).collateral;
@@ -30,6 +31,7 @@ pub(crate) fn figures<'a>(
         blocked: k,
         deemed: n - k,
         free: c - k,
+        mode,
     }
 }
 
@@ -43,5 +45,6 @@ pub(crate) fn refused(n: u8) -> Figures
         blocked: 0,
         deemed: 0,
         free: 0,
+        mode: false,
     }
 }

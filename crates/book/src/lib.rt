@@ -13,7 +13,7 @@ pub mod sound;
 use sound::table_sound;
 use table::Table;
 
-// A standing's five figures, behind the refusal number or 0.
+// A standing's five figures and the account's mode, behind the refusal number or 0.
 pub struct Figures {
     pub refusal: u8,
     pub collateral: u64,
@@ -21,6 +21,7 @@ pub struct Figures {
     pub blocked: u64,
     pub deemed: u64,
     pub free: u64,
+    pub mode: bool,
 }
 
 // An amount that every account has.
@@ -54,6 +55,7 @@ pub fn fresh() -> Table
         sort: [0u8; 256],
         live,
         tm: [0u16; 256],
+        modes: [false; 256],
         amounts: [0u64; 2560],
     }
 }
@@ -62,14 +64,14 @@ pub fn is_sound(t: Table) -> bool
     ensures { λ r. ⌜ r ≡ soundB (turnedBack t) ⌝ }
 {
     let count = t.count;
-    table_sound(&t.sort, &t.live, &t.tm, &t.amounts, count)
+    table_sound(&t.sort, &t.live, &t.tm, &t.amounts, &t.modes, count)
 }
 
 pub fn standing(t: Table, account: u16) -> Figures
     ensures { λ r. ⌜ r ≡ standingOf (turnedBack t) account ⌝ }
 {
     let count = t.count;
-    if !table_sound(&t.sort, &t.live, &t.tm, &t.amounts, count) {
+    if !table_sound(&t.sort, &t.live, &t.tm, &t.amounts, &t.modes, count) {
         return blocking::refused(1);
     }
     if account >= count {
@@ -79,7 +81,8 @@ pub fn standing(t: Table, account: u16) -> Figures
     if !t.live[i] {
         return blocking::refused(7);
     }
-    blocking::figures(&t.sort, &t.tm, &t.amounts, count, i)
+    let mode = t.modes[i];
+    blocking::figures(&t.sort, &t.tm, &t.amounts, count, i, mode)
 }
 
 // The evening sums: an amount of all accounts, out of its own run of words.
@@ -87,7 +90,7 @@ pub fn amount_sum(t: Table, amount: Amount) -> Summed
     ensures { λ r. ⌜ r ≡ eveningOf (turnedBack t) amount ⌝ }
 {
     let count = t.count;
-    if !table_sound(&t.sort, &t.live, &t.tm, &t.amounts, count) {
+    if !table_sound(&t.sort, &t.live, &t.tm, &t.amounts, &t.modes, count) {
         return Summed {
             refusal: 1,
             total: 0,

@@ -1,6 +1,7 @@
-// The test of a sound book's rows, a sentence of 'A sound book' each, on the words in their places.
+// The test of a sound book's rows and modes, a sentence of 'A sound book' each, on the words in their places.
 ghost use mathlib.Core.Path.{_≡_};
 ghost use mathlib.Core.Bool.{false};
+ghost use mathlib.Core.List.{[]};
 ghost use Prim.Native.Nat.{_<_};
 ghost use lib.Dec.{eqb};
 ghost use lib.ListN.{getD};
@@ -9,7 +10,7 @@ ghost use Rattle.sums.specs.Choice.{pick};
 ghost use Rattle.rows.specs.Ranges.{noAmounts, inRange};
 ghost use Rattle.table.specs.Words.{marksFrom, bookFrom};
 ghost use Rattle.book.specs.Sound.{isTop, goodSort, rowSound, soundB};
-ghost use Rattle.book.specs.Inner.{marked, amountsAt};
+ghost use Rattle.book.specs.Inner.{marked, amountsAt, modesAt};
 use rows::CEILING;
 use rows::needs::slot;
 use rows::ranges::kinds_capped;
@@ -95,7 +96,7 @@ fn good_row<'a>(
     i: usize,
 ) -> bool
     requires { ⌜ i < 256 ⌝ }
-    ensures { λ x. ⌜ x ≡ rowSound (bookFrom n 0 (marksFrom (now (sort .entry)) (now (live .entry)) (now (tm .entry))) (now (w .entry))) i ⌝ }
+    ensures { λ x. ⌜ x ≡ rowSound (bookFrom n 0 (marksFrom (now (sort .entry)) (now (live .entry)) (now (tm .entry))) (now (w .entry)) []) i ⌝ }
 {
     let own = mark_at(sort, live, tm, i);
     let its = mark_at(sort, live, tm, slot(own.tm));
@@ -113,7 +114,7 @@ fn rows_sound<'a>(
     w: &'a [u64; 2560],
     count: u16,
 ) -> bool
-    ensures { λ x. ⌜ x ≡ all 256 (rowSound (bookFrom count 0 (marksFrom (now (sort .entry)) (now (live .entry)) (now (tm .entry))) (now (w .entry)))) ⌝ }
+    ensures { λ x. ⌜ x ≡ all 256 (rowSound (bookFrom count 0 (marksFrom (now (sort .entry)) (now (live .entry)) (now (tm .entry))) (now (w .entry)) [])) ⌝ }
 {
     let n = count as usize;
     let mut ok = true;
@@ -125,15 +126,29 @@ fn rows_sound<'a>(
     ok
 }
 
+// An account is in the mode only where it is the CM or a live TM.
+fn modes_sound<'a>(sort: &'a [u8; 256], live: &'a [bool; 256], modes: &'a [bool; 256]) -> bool
+    ensures { λ x. ⌜ x ≡ modesAt (now (sort .entry)) (now (live .entry)) (now (modes .entry)) ⌝ }
+{
+    let mut ok = true;
+    let mut i: usize = 0;
+    while i < 256 {
+        ok = ok & (!modes[i] | (i == 0) | ((sort[i] == 1) & live[i]));
+        i += 1;
+    }
+    ok
+}
+
 // The test of a table's arrays where they are. Ranges are tested before anything is added, so that no sum can pass a word.
 pub fn table_sound<'a>(
     sort: &'a [u8; 256],
     live: &'a [bool; 256],
     tm: &'a [u16; 256],
     w: &'a [u64; 2560],
+    modes: &'a [bool; 256],
     count: u16,
 ) -> bool
-    ensures { λ x. ⌜ x ≡ soundB (bookFrom count 0 (marksFrom (now (sort .entry)) (now (live .entry)) (now (tm .entry))) (now (w .entry))) ⌝ }
+    ensures { λ x. ⌜ x ≡ soundB (bookFrom count 0 (marksFrom (now (sort .entry)) (now (live .entry)) (now (tm .entry))) (now (w .entry)) (now (modes .entry))) ⌝ }
 {
     if count < 1 {
         return false;
@@ -142,6 +157,9 @@ pub fn table_sound<'a>(
         return false;
     }
     if !rows_sound(sort, live, tm, w, count) {
+        return false;
+    }
+    if !modes_sound(sort, live, modes) {
         return false;
     }
     let need = need_cm(sort, tm, w, count);

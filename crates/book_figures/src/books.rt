@@ -70,6 +70,14 @@ pub fn with_last(book: Book, i: u8, r: Row) -> Book {
     b
 }
 
+// The book with the account at place i in risk reduction mode.
+pub fn in_mode(book: Book, i: u8) -> Book {
+    let mut b = book;
+    let at = i as usize;
+    b.modes[at] = true;
+    b
+}
+
 // Annexure 4: CM 1000, TM-1 500, its clients A 300 and B 300, in rupees; A's margin is a and B's is b.
 pub fn annexure(a: u64, b: u64) -> Book {
     let cm = with_last(fresh(), 0, account(0, 0, 100_000, 0));

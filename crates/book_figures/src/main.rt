@@ -1,4 +1,4 @@
-// Prints the figures of Annexure 4's book, P1 to P5, evening sums, and which books are sound, of books that differ from a
+// Prints the figures of Annexure 4's book, P1 to P5, modes, evening sums, and which books are sound, of books that differ from a
 // sound one in one way each. Amounts are in paise.
 mod books;
 mod evening;
@@ -49,6 +49,16 @@ fn refused() {
     );
 }
 
+// A mode is shown as it stands in the book, whether it fits the figures or not.
+fn modes() {
+    let b = books::in_mode(books::annexure(0, 10_000), 1);
+    standing(b"TM-1 in the mode", b, 1);
+    standing(b"beside it the CM", b, 0);
+    standing(b"beside it A", b, 2);
+    standing(b"the CM in the mode", books::in_mode(b, 0), 0);
+    standing(b"with a client in the mode", books::in_mode(b, 2), 1);
+}
+
 fn main() {
     fresh(book::fresh());
     standings(b"P1", 0, 10_000);
@@ -57,6 +67,7 @@ fn main() {
     standings(b"P4", 60_000, 90_000);
     standings(b"P5", 60_000, 150_000);
     refused();
+    modes();
     unsound::all();
     evening::all();
 }

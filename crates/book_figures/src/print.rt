@@ -27,9 +27,18 @@ fn five(collateral: u64, need: u64, blocked: u64, deemed: u64, free: u64) {
     word(b" free ", free);
 }
 
+fn mode(on: bool) {
+    if on {
+        text(b" mode on");
+    } else {
+        text(b" mode off");
+    }
+}
+
 pub fn figures(name: &[u8], f: Figures) {
     text(name);
     word(b": refusal ", f.refusal as u64);
     five(f.collateral, f.need, f.blocked, f.deemed, f.free);
+    mode(f.mode);
     end();
 }

@@ -202,6 +202,29 @@ fn cover() {
     );
 }
 
+// Annexure 4's book with B's margin 100 and account 4, which is in the mode.
+fn fifth_in_mode(name: &[u8], r: Row) {
+    let b = books::with_last(books::annexure(0, 10_000), 4, r);
+    sound(name, books::in_mode(b, 4));
+}
+
+// "In a sound book only a live TM or the CM can be in the mode."
+fn modes() {
+    let b = books::annexure(0, 10_000);
+    sound(b"the CM in the mode", books::in_mode(b, 0));
+    sound(b"a live TM in the mode", books::in_mode(b, 1));
+    sound(
+        b"the CM and a live TM in the mode",
+        books::in_mode(books::in_mode(b, 0), 1),
+    );
+    sound(b"a client in the mode", books::in_mode(b, 3));
+    sound(b"row 4 of 4 in the mode", books::in_mode(b, 4));
+    sound(b"row 255 of 4 in the mode", books::in_mode(b, 255));
+    fifth_in_mode(b"a TM without amounts in the mode", words::opened_row(1, 0));
+    fifth_in_mode(b"a retired TM in the mode", books::retired(1, 0));
+    fifth_in_mode(b"a CP in the mode", words::opened_row(3, 0));
+}
+
 pub fn all() {
     counts();
     tops();
@@ -216,4 +239,5 @@ pub fn all() {
     allocated();
     pledges();
     cover();
+    modes();
 }

@@ -80,6 +80,6 @@ pub fn close_out(t: Table, losses: &[u64], room: &mut [u64]) -> Closed
     if !is_sound(t) {
         return refused(1);
     }
-    let under = table::needs::unders(&t.sort, &t.tm, &t.amounts, t.count);
+    let under = table::needs::unders(&t.sort, &t.tm, &t.amounts, t.count, false);
     close_out_at(table::turn_back(t), under, losses, room)
 }

@@ -134,5 +134,6 @@ pub(crate) fn full() -> Book {
         count: 256,
         serial: 0,
         rows: table,
+        modes: [false; 256],
     }
 }

@@ -2,3 +2,4 @@ pub mod Doing
 pub mod Effect
 pub mod Lasting
 pub mod Rows
+pub mod ModesAfter

@@ -8,6 +8,7 @@ use Rattle.sums.proofs.Choices.{pick-yes, pick-no}
 use Rattle.rows.specs.declared.Row.{Row}
 use Rattle.rows.specs.declared.Book.{Book}
 use Rattle.rows.specs.Rows.{rowAt, openedRow, withRow, withNew}
+use Rattle.rows.specs.Modes.{settled}
 use Rattle.rows.proofs.RowPut.{row-same, new, below}
 use Rattle.dayfile.specs.declared.Record.{Record}
 use Rattle.rules.specs.Refusals.{isOpening, namedRow, refusalOf}
@@ -26,7 +27,7 @@ module _ (b : Book) (r : Record) where
     passes = passes-all b r carried
 
     module _ (o : isOpening r ≡ false) where
-      put-book : stepOf b r .book ≡ movedOn (withRow b (r .account) (amended (namedRow b r) r))
+      put-book : stepOf b r .book ≡ settled (movedOn (withRow b (r .account) (amended (namedRow b r) r)))
       put-book = ap (λ d. d .book) (passed-as b r carried ∙ ap (doneBy b r) (pick-no (isOpening r) _ _ o))
 
       -- the row named is the row that the code makes of it
@@ -36,7 +37,7 @@ module _ (b : Book) (r : Record) where
           ∙ row-same b (r .account) (amended (namedRow b r) r) (omega (arith, passes .account, passes .sound .most, passes .sound .table))
 
     module _ (o : isOpening r ≡ true) where
-      open-book : stepOf b r .book ≡ movedOn (withNew b (openedRow (r .code) (r .account)))
+      open-book : stepOf b r .book ≡ settled (movedOn (withNew b (openedRow (r .code) (r .account))))
       open-book = ap (λ d. d .book) (passed-as b r carried ∙ ap (doneBy b r) (pick-yes (isOpening r) _ _ o))
 
       -- the next number's row is the one opened, and each row there was stays

@@ -9,7 +9,10 @@ ghost use Rattle.table.specs.Words.{turned, turnedBack};
 use dayfile::Found;
 use dayfile::Record;
 use rows::Book;
+use steps::At;
 use table::Table;
+use table::modes::look_all;
+use table::needs::unders;
 
 // What became of a record; the end is no refusal.
 pub enum Outcome {
@@ -84,16 +87,28 @@ fn step_at(t: Table, r: Record) -> Carried
     let mut live = t.live;
     let mut tm = t.tm;
     let mut amounts = t.amounts;
+    let was = t.modes;
     table::sizes(sort, live, tm, amounts);
-    let mut under = table::needs::unders(&sort, &tm, &amounts, t.count);
+    table::modes::size(was);
+    let count = t.count;
+    let mut under = unders(&sort, &tm, &amounts, count, false);
+    let mut used = unders(&sort, &tm, &amounts, count, true);
+    let mut modes = look_all(&sort, &tm, &amounts, count, &used, &was);
+    let at = At {
+        count,
+        serial: t.serial,
+        waiting: true,
+    };
     let gone = steps::step(
         &mut sort,
         &mut live,
         &mut tm,
         &mut amounts,
+        &mut modes,
         &mut under,
-        t.count,
-        t.serial,
+        &mut used,
+        &was,
+        at,
         r,
     );
     let outcome = outcome_of(gone.refusal, gone.given);
@@ -103,13 +118,15 @@ fn step_at(t: Table, r: Record) -> Carried
         account: r.account,
         outcome,
     };
+    let after = steps::on(at, gone);
     let table = Table {
-        count: gone.count,
-        serial: gone.serial,
+        count: after.count,
+        serial: after.serial,
         sort,
         live,
         tm,
         amounts,
+        modes: steps::modes_of(was, modes, after.waiting),
     };
     Carried { answer, table }
 }

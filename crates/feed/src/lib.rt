@@ -1,7 +1,8 @@
 // A day file carried out over a fresh book: a piece that is lent, or standard input read in large pieces.
+ghost use mathlib.Core.Bool.{true};
 ghost use mathlib.Core.Path.{_≡_};
-ghost use Rattle.table.specs.Words.{bookFrom, marksFrom};
-ghost use Rattle.steps.specs.Steps.{Ready};
+ghost use Rattle.table.specs.Words.{marksFrom};
+ghost use Rattle.steps.specs.Steps.{bookAt, Going};
 ghost use Rattle.records.specs.Runs.{runOf};
 ghost use Rattle.records.specs.Inner.{ranIn};
 ghost use Rattle.feed.specs.Fed.{wholeDay, Came};
@@ -10,7 +11,10 @@ use records::Closing;
 use records::Went;
 use records::go;
 use space::SPACE;
+use steps::At;
+use steps::modes_of;
 use table::Table;
+use table::modes::look_all;
 use table::needs::unders;
 use telling::tell;
 
@@ -39,25 +43,50 @@ fn stops(word: Closing) -> bool
     }
 }
 
-// The records of a piece on the words of a sound book, with a line each on standard output where that is asked for.
+// Where a book stands that was handed over.
+fn starting(count: u16, serial: u16) -> At
+    ensures { λ x. ⌜ x ≡ record { count = count; serial = serial; waiting = true } ⌝ }
+{
+    At {
+        count,
+        serial,
+        waiting: true,
+    }
+}
+
+// The records of a piece on the arrays of a sound book, with a line each on standard output where that is asked for.
 fn carry(
     sort: &mut [u8; 256],
     live: &mut [bool; 256],
     tm: &mut [u16; 256],
     w: &mut [u64; 2560],
+    modes: &mut [bool; 256],
     under: &mut [u64; 256],
-    count: u16,
-    serial: u16,
+    used: &mut [u64; 256],
+    was: &[bool; 256],
+    first: At,
     piece: &[u8],
     most: u64,
     telling: bool,
 ) -> Went
-    requires { ⌜ Ready count serial (marksFrom (now sort) (now live) (now tm)) (now w) (now under) ⌝ }
-    ensures { λ x. ⌜ ranIn x (marksFrom (now (sort .exit)) (now (live .exit)) (now (tm .exit))) (now (w .exit)) ≡ runOf (now (piece .entry)) most (bookFrom count serial (marksFrom (now (sort .entry)) (now (live .entry)) (now (tm .entry))) (now (w .entry))) 0 0 0 ⌝ }
-    ensures { λ x. ⌜ Ready (x .count) (x .serial) (marksFrom (now (sort .exit)) (now (live .exit)) (now (tm .exit))) (now (w .exit)) (now (under .exit)) ⌝ }
+    requires { ⌜ Going first (marksFrom (now sort) (now live) (now tm)) (now w) (now was) (now modes) (now under) (now used) ⌝ }
+    ensures { λ x. ⌜ ranIn x (marksFrom (now (sort .exit)) (now (live .exit)) (now (tm .exit))) (now (w .exit)) (now (was .entry)) (now (modes .exit)) ≡ runOf (now (piece .entry)) most (bookAt first (marksFrom (now (sort .entry)) (now (live .entry)) (now (tm .entry))) (now (w .entry)) (now (was .entry)) (now (modes .entry))) 0 0 0 ⌝ }
+    ensures { λ x. ⌜ Going (x .at) (marksFrom (now (sort .exit)) (now (live .exit)) (now (tm .exit))) (now (w .exit)) (now (was .entry)) (now (modes .exit)) (now (under .exit)) (now (used .exit)) ⌝ }
 {
     if telling {
-        return tell(sort, live, tm, w, under, count, serial, piece, most);
+        return tell(
+            sort,
+            live,
+            tm,
+            w,
+            modes,
+            under,
+            used,
+            was,
+            first,
+            piece,
+            most,
+        );
     }
     let mut nowhere = [0u16; 1];
     go(
@@ -65,9 +94,11 @@ fn carry(
         live,
         tm,
         w,
+        modes,
         under,
-        count,
-        serial,
+        used,
+        was,
+        first,
         piece,
         most,
         &mut nowhere,
@@ -84,28 +115,36 @@ pub fn day_of(piece: &[u8], telling: bool) -> Day
     let mut live = t.live;
     let mut tm = t.tm;
     let mut amounts = t.amounts;
+    let was = t.modes;
     table::sizes(sort, live, tm, amounts);
-    let mut under = unders(&sort, &tm, &amounts, t.count);
+    table::modes::size(was);
+    let mut under = unders(&sort, &tm, &amounts, t.count, false);
+    let mut used = unders(&sort, &tm, &amounts, t.count, true);
+    let mut modes = look_all(&sort, &tm, &amounts, t.count, &used, &was);
     let went = carry(
         &mut sort,
         &mut live,
         &mut tm,
         &mut amounts,
+        &mut modes,
         &mut under,
-        t.count,
-        t.serial,
+        &mut used,
+        &was,
+        starting(t.count, t.serial),
         piece,
         MILLION,
         telling,
     );
     let closing = went.closing;
+    let at = went.at;
     let table = Table {
-        count: went.count,
-        serial: went.serial,
+        count: at.count,
+        serial: at.serial,
         sort,
         live,
         tm,
         amounts,
+        modes: modes_of(was, modes, at.waiting),
     };
     Day {
         table,
@@ -126,10 +165,13 @@ pub fn whole_day(telling: bool) -> Day
     let mut live = t.live;
     let mut tm = t.tm;
     let mut amounts = t.amounts;
+    let was = t.modes;
     table::sizes(sort, live, tm, amounts);
-    let mut under = unders(&sort, &tm, &amounts, t.count);
-    let mut count = t.count;
-    let mut serial = t.serial;
+    table::modes::size(was);
+    let mut under = unders(&sort, &tm, &amounts, t.count, false);
+    let mut used = unders(&sort, &tm, &amounts, t.count, true);
+    let mut modes = look_all(&sort, &tm, &amounts, t.count, &used, &was);
+    let mut at = starting(t.count, t.serial);
     let mut kept: usize = 0;
     let mut read: u64 = 0;
     let mut done: u64 = 0;
@@ -140,16 +182,18 @@ pub fn whole_day(telling: bool) -> Day
             &mut live,
             &mut tm,
             &mut amounts,
+            &mut modes,
             &mut under,
-            count,
-            serial,
+            &mut used,
+            &was,
+            at,
             &space[..held],
             MILLION - read,
             telling,
         );
         let word = went.closing;
-        count = went.count;
-        serial = went.serial;
+        let stands = went.at;
+        at = stands;
         read += went.read;
         done += went.done;
         if stops(word) | (held < SPACE) {
@@ -158,12 +202,13 @@ pub fn whole_day(telling: bool) -> Day
         kept = space::keep(&mut space, went.place, held);
     };
     let table = Table {
-        count,
-        serial,
+        count: at.count,
+        serial: at.serial,
         sort,
         live,
         tm,
         amounts,
+        modes: modes_of(was, modes, at.waiting),
     };
     Day {
         table,

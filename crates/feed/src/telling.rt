@@ -1,8 +1,8 @@
 // The records of a piece, with a line each on standard output.
 ghost use mathlib.Core.Path.{_≡_};
 ghost use Prim.Native.Nat.{min};
-ghost use Rattle.table.specs.Words.{bookFrom, marksFrom};
-ghost use Rattle.steps.specs.Steps.{Ready};
+ghost use Rattle.table.specs.Words.{marksFrom};
+ghost use Rattle.steps.specs.Steps.{bookAt, Going};
 ghost use Rattle.records.specs.Runs.{runOf};
 ghost use Rattle.records.specs.Inner.{ranIn};
 ghost use Rattle.feed.specs.Inner.{isLong};
@@ -10,6 +10,7 @@ use libc::STDOUT_FILENO;
 use records::Closing;
 use records::Went;
 use records::go;
+use steps::At;
 
 fn is_long(word: Closing) -> bool
     ensures { λ t. ⌜ t ≡ isLong word ⌝ }
@@ -35,20 +36,21 @@ pub(crate) fn tell(
     live: &mut [bool; 256],
     tm: &mut [u16; 256],
     w: &mut [u64; 2560],
+    modes: &mut [bool; 256],
     under: &mut [u64; 256],
-    first: u16,
-    due: u16,
+    used: &mut [u64; 256],
+    was: &[bool; 256],
+    first: At,
     piece: &[u8],
     most: u64,
 ) -> Went
-    requires { ⌜ Ready first due (marksFrom (now sort) (now live) (now tm)) (now w) (now under) ⌝ }
-    ensures { λ x. ⌜ ranIn x (marksFrom (now (sort .exit)) (now (live .exit)) (now (tm .exit))) (now (w .exit)) ≡ runOf (now (piece .entry)) most (bookFrom first due (marksFrom (now (sort .entry)) (now (live .entry)) (now (tm .entry))) (now (w .entry))) 0 0 0 ⌝ }
-    ensures { λ x. ⌜ Ready (x .count) (x .serial) (marksFrom (now (sort .exit)) (now (live .exit)) (now (tm .exit))) (now (w .exit)) (now (under .exit)) ⌝ }
+    requires { ⌜ Going first (marksFrom (now sort) (now live) (now tm)) (now w) (now was) (now modes) (now under) (now used) ⌝ }
+    ensures { λ x. ⌜ ranIn x (marksFrom (now (sort .exit)) (now (live .exit)) (now (tm .exit))) (now (w .exit)) (now (was .entry)) (now (modes .exit)) ≡ runOf (now (piece .entry)) most (bookAt first (marksFrom (now (sort .entry)) (now (live .entry)) (now (tm .entry))) (now (w .entry)) (now (was .entry)) (now (modes .entry))) 0 0 0 ⌝ }
+    ensures { λ x. ⌜ Going (x .at) (marksFrom (now (sort .exit)) (now (live .exit)) (now (tm .exit))) (now (w .exit)) (now (was .entry)) (now (modes .exit)) (now (under .exit)) (now (used .exit)) ⌝ }
 {
     let mut text = [0u8; 2048];
     let mut told = [0u16; 320];
-    let mut count = first;
-    let mut serial = due;
+    let mut at = first;
     let mut place: usize = 0;
     let mut read: u64 = 0;
     let mut done: u64 = 0;
@@ -59,9 +61,11 @@ pub(crate) fn tell(
             live,
             tm,
             w,
+            modes,
             under,
-            count,
-            serial,
+            used,
+            was,
+            at,
             part,
             at_once(most - read),
             &mut told,
@@ -70,8 +74,8 @@ pub(crate) fn tell(
         let n = lines::told_lines(&told, went.read as usize, &mut text);
         io::write_all(STDOUT_FILENO, &text[..n]);
         let word = went.closing;
-        count = went.count;
-        serial = went.serial;
+        let stands = went.at;
+        at = stands;
         place += went.place;
         read += went.read;
         done += went.done;
@@ -80,8 +84,7 @@ pub(crate) fn tell(
         }
     };
     Went {
-        count,
-        serial,
+        at,
         place,
         closing,
         read,

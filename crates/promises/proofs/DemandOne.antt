@@ -10,7 +10,7 @@ use Rattle.sums.specs.Choice.{unlessRefused}
 use Rattle.sums.specs.Table.{Line, first, Given}
 use Rattle.sums.proofs.Tables.{given-first, first-given}
 use Rattle.rows.specs.declared.Book.{Book}
-use Rattle.rows.specs.Rows.{rowAt, view}
+use Rattle.rows.specs.Rows.{rowAt, modeAt, view}
 use Rattle.book.specs.Sound.{soundB}
 use Rattle.book.specs.Asked.{standingRefusals, standingRefusal, noFigures, figuresOf, standingOf}
 use Rattle.book.proofs.StandingRefusals.{standing-number}
@@ -125,10 +125,10 @@ refused-writer-leaves-room = writer-leaves
 pub standing-names-the-number : (b : Book) (account : ℕ) → standingOf b account .refusal ≡ standingRefusal b account
 standing-names-the-number = standing-number
 
--- A refused standing has all five figures 0.
+-- A refused standing has all five figures 0, and shows the mode off.
 pub refused-standing-is-zero : (b : Book) (account n : ℕ) → standingRefusal b account ≡ suc n → standingOf b account ≡ noFigures (suc n)
 unfolding standingOf
-refused-standing-is-zero b account n e = ap (λ k. unlessRefused k (figuresOf (view b) account) noFigures) e
+refused-standing-is-zero b account n e = ap (λ k. unlessRefused k (figuresOf (view b) (modeAt b account) account) noFigures) e
 
 module _ (b : Book) (losses room : List ℕ) where
   -- A close-out names the first of 1, 15 and 16 that applies, or 0.

@@ -1,10 +1,12 @@
--- Document 01, 'Figures to hold against it': P1 to P11, P8 as K1 of document 02 has it, in paise, by records carried out from a fresh book.
+-- Document 01, 'Figures to hold against it': P1 to P11, P8 as K1 of document 02 has it; and K2's case, the table of 004 Annexure 5. In paise,
+-- by records carried out from a fresh book.
 use mathlib.Core.List.{List, [], _∷_, _++_}
-use Prim.Native.Nat.{ℕ, _+_}
+use Prim.Native.Nat.{ℕ, _+_, _*_}
 use lib.ListN.{replicate, take, drop}
 use Rattle.rows.specs.declared.Book.{Book}
 use Rattle.rows.specs.View.{blocked, deemed}
-use Rattle.rows.specs.Rows.{noKinds, view, freshBook}
+use Rattle.rows.specs.Rows.{noKinds, modeAt, view, freshBook}
+use Rattle.rows.specs.Modes.{ownExcess, excessTM, useOf}
 use Rattle.dayfile.specs.declared.Record.{Record}
 use Rattle.dayfile.specs.Reading.{sizeOf}
 use Rattle.desk.specs.Answers.{refusalIn}
@@ -14,7 +16,7 @@ use Rattle.desk.specs.Steps.{stepOf, nextOf}
 use Rattle.closeout.specs.declared.Closed.{Closed}
 use Rattle.closeout.specs.Bound.{beyond}
 use Rattle.closeout.specs.Closing.{lossAt, closedOf, roomOf}
-use Rattle.sums.specs.Sum.{sum}
+use Rattle.sums.specs.Sum.{sum, only}
 use Rattle.promises.specs.Sequences.{afterAll}
 
 -- records: openings name the CM or the TM; receive, allocate and release of cash; a margin
@@ -67,6 +69,44 @@ atP4 = atP3 ++ (margin 14 3 90000 ∷ [])
 abbrev atP5 : List Record
 atP5 = atP4 ++ (margin 15 3 150000 ∷ [])
 
+-- received and allocated in cash, so that it is collateral: two records, from this serial on
+abbrev collateralOf : ℕ → ℕ → ℕ → List Record
+collateralOf serial account amount = cash serial 4 account amount ∷ cash (serial + 1) 6 account amount ∷ []
+
+-- 004 Annexure 5: CM-1 is account 0; TM-1 1, its Client-1 to Client-3 2, 3 and 4; TM-2 5, its Client-4 and Client-5 6 and 7. First the accounts,
+-- then the column Collateral, then the column Margin, of which TM-1's is m.
+abbrev annexure5 : ℕ → List Record
+annexure5 m =
+    (opening 0 1 0 ∷ opening 1 2 1 ∷ opening 2 2 1 ∷ opening 3 2 1 ∷ opening 4 1 0 ∷ opening 5 2 5 ∷ opening 6 2 5 ∷ [])
+    ++ (collateralOf 7 0 120000
+    ++ (collateralOf 9 1 50000
+    ++ (collateralOf 11 2 80000
+    ++ (collateralOf 13 3 50000
+    ++ (collateralOf 15 4 40000
+    ++ (collateralOf 17 5 50000
+    ++ (collateralOf 19 6 100000
+    ++ (collateralOf 21 7 100000
+    ++ (margin 23 0 80000
+    ∷ margin 24 1 m
+    ∷ margin 25 2 78000
+    ∷ margin 26 3 45000
+    ∷ margin 27 4 38000
+    ∷ margin 28 5 20000
+    ∷ margin 29 6 92000
+    ∷ margin 30 7 88000
+    ∷ [])))))))))
+
+-- "Annexure 5's table is a case": there TM-1's margin is 400
+abbrev atA5 : List Record
+atA5 = annexure5 40000
+
+-- "depends on history": TM-1's margin is 350 after that, and is 350 from the first
+abbrev atA5Less : List Record
+atA5Less = atA5 ++ (margin 31 1 35000 ∷ [])
+
+abbrev atA5Never : List Record
+atA5Never = annexure5 35000
+
 -- f of CM, TM-1, A and B
 abbrev each : (ℕ → ℕ) → List ℕ
 each f = f 0 ∷ f 1 ∷ f 2 ∷ f 3 ∷ []
@@ -99,6 +139,22 @@ module _
         ∷ (take 8 (drop 8 (filled rs losses (replicate 16 0)))
         ++ (closed rs losses (replicate 16 0) .total ∷ sum (after rs .count) (beyond (view (after rs)) (lossAt losses)) ∷ []))
 
+    -- K2's figures in tenths of a paisa: the excess of Annexure 5's five clients, and of its two TMs
+    abbrev excessAfter : List Record → List ℕ
+    excessAfter rs =
+        ownExcess (view (after rs)) 2
+        ∷ ownExcess (view (after rs)) 3
+        ∷ ownExcess (view (after rs)) 4
+        ∷ ownExcess (view (after rs)) 6
+        ∷ ownExcess (view (after rs)) 7
+        ∷ excessTM (view (after rs)) 1
+        ∷ excessTM (view (after rs)) 5
+        ∷ []
+
+    -- of a TM or the CM: its use, ten collaterals, and its mode, 1 for on
+    abbrev usedAfter : List Record → ℕ → List ℕ
+    usedAfter rs i = useOf (view (after rs)) i ∷ 10 * view (after rs) .collateral i ∷ only (modeAt (after rs) i) 1 ∷ []
+
     abbrev refusalRead : List ℕ → List ℕ
     refusalRead s = refusalIn (read s .answer .outcome) ∷ []
 
@@ -120,6 +176,12 @@ module _
         ∷ (sizeOf 255 ∷ [])  -- P11
         ∷ refusalRead (full 67)  -- P11
         ∷ refusalRead (full 68)  -- P11
+        ∷ excessAfter atA5  -- Annexure 5
+        ∷ usedAfter atA5 1  -- Annexure 5
+        ∷ usedAfter atA5 5  -- Annexure 5
+        ∷ usedAfter atA5 0  -- Annexure 5
+        ∷ usedAfter atA5Less 1  -- K2
+        ∷ usedAfter atA5Never 1  -- K2
         ∷ []
 
 -- the way of the rules
@@ -146,4 +208,10 @@ expected =
     ∷ (70 ∷ [])  -- P11: 70 bytes long
     ∷ (2 ∷ [])  -- P11: 69 bytes give 2
     ∷ (5 ∷ [])  -- P11: 70 with the right serial and code 4 give 5
+    ∷ (60000 ∷ 0 ∷ 20000 ∷ 20000 ∷ 0 ∷ 30000 ∷ 0 ∷ [])  -- Annexure 5: CliMrgn>90% is 60, 0, 20, 20, 0; TMMrgn>90% is 30, 0
+    ∷ (480000 ∷ 500000 ∷ 1 ∷ [])  -- Annexure 5: TM1 480 of 500, 96%, on
+    ∷ (220000 ∷ 500000 ∷ 0 ∷ [])  -- Annexure 5: TM2 220 of 500, 44%, off
+    ∷ (830000 ∷ 1200000 ∷ 0 ∷ [])  -- Annexure 5: CM 830 of 1200, 69.1%, off
+    ∷ (430000 ∷ 500000 ∷ 1 ∷ [])  -- K2: then TM1 430 of 500, 86%, still on
+    ∷ (430000 ∷ 500000 ∷ 0 ∷ [])  -- K2: TM1 430 of 500 from the first, 86%, off
     ∷ []

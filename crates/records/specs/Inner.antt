@@ -1,9 +1,11 @@
 -- Only for internal functions: no promise of a public call cites it.
+use mathlib.Core.Bool.{Bool}
 use mathlib.Core.List.{List}
 use Prim.Native.Nat.{ℕ, zero, suc, _+_, _*_}
 use lib.Seq.{sets}
 use Rattle.rows.specs.declared.Book.{Book}
-use Rattle.table.specs.Words.{Marks, bookFrom}
+use Rattle.table.specs.Words.{Marks}
+use Rattle.steps.specs.Steps.{bookAt}
 use Rattle.dayfile.specs.declared.Found.{Found}
 use Rattle.dayfile.specs.declared.Found.the-variants.{End as NoBytes, Cut as TooFew, Whole}
 use Rattle.dayfile.specs.Reading.{foundAt}
@@ -28,5 +30,5 @@ tellOf s zero b place k room = room
 tellOf s (suc most) b place k room = telling (tellOf s most) (foundAt s place) b k room
 
 -- what the loop came to, with the words that it left
-abbrev pub ranIn : Went → Marks → List ℕ → Ran
-ranIn x m w = record { book = bookFrom (x .count) (x .serial) m w; place = x .place; closing = x .closing; read = x .read; done = x .done }
+abbrev pub ranIn : Went → Marks → List ℕ → List Bool → List Bool → Ran
+ranIn x m w was modes = record { book = bookAt (x .at) m w was modes; place = x .place; closing = x .closing; read = x .read; done = x .done }

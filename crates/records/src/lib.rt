@@ -5,14 +5,16 @@ ghost use mathlib.Core.Path.{_≡_};
 ghost use Prim.Native.Nat.{_+_, _*_, _≤_};
 ghost use lib.ListN.{length};
 ghost use Rattle.sums.specs.Choice.{pick};
-ghost use Rattle.table.specs.Words.{bookFrom, marksFrom};
-ghost use Rattle.steps.specs.Steps.{Ready};
+ghost use Rattle.table.specs.Words.{marksFrom};
+ghost use Rattle.steps.specs.Steps.{bookAt, Going};
 ghost use Rattle.records.specs.Runs.{runOf};
 ghost use Rattle.records.specs.Inner.{putFive, tellOf, ranIn};
 use dayfile::Found;
 use dayfile::Record;
 use rows::Book;
+use steps::At;
 use steps::Gone;
+use steps::on;
 use steps::step;
 
 // Why the records stopped: at the end, at a cut, at the stated number, or since the book isn't sound.
@@ -32,10 +34,9 @@ pub struct Ran {
     pub done: u64,
 }
 
-// What the records came to beside the arrays: the count and the serial after them, the place reached, why they stopped, and the two counts.
+// What the records came to beside the arrays: where the book stands, the place reached, why they stopped, and the two counts.
 pub struct Went {
-    pub count: u16,
-    pub serial: u16,
+    pub at: At,
     pub place: usize,
     pub closing: Closing,
     pub read: u64,
@@ -61,20 +62,21 @@ pub fn go(
     live: &mut [bool; 256],
     tm: &mut [u16; 256],
     w: &mut [u64; 2560],
+    modes: &mut [bool; 256],
     under: &mut [u64; 256],
-    first: u16,
-    due: u16,
+    used: &mut [u64; 256],
+    was: &[bool; 256],
+    first: At,
     piece: &[u8],
     most: u64,
     room: &mut [u16],
     tell: bool,
 ) -> Went
-    requires { ⌜ Ready first due (marksFrom (now sort) (now live) (now tm)) (now w) (now under) × (tell ≡ true → 5 * most ≤ length (now room)) ⌝ }
-    ensures { λ x. ⌜ ranIn x (marksFrom (now (sort .exit)) (now (live .exit)) (now (tm .exit))) (now (w .exit)) ≡ runOf (now (piece .entry)) most (bookFrom first due (marksFrom (now (sort .entry)) (now (live .entry)) (now (tm .entry))) (now (w .entry))) 0 0 0 ⌝ }
-    ensures { λ x. ⌜ Ready (x .count) (x .serial) (marksFrom (now (sort .exit)) (now (live .exit)) (now (tm .exit))) (now (w .exit)) (now (under .exit)) × (now (room .exit) ≡ pick tell (tellOf (now (piece .entry)) most (bookFrom first due (marksFrom (now (sort .entry)) (now (live .entry)) (now (tm .entry))) (now (w .entry))) 0 0 (now (room .entry))) (now (room .entry))) ⌝ }
+    requires { ⌜ Going first (marksFrom (now sort) (now live) (now tm)) (now w) (now was) (now modes) (now under) (now used) × (tell ≡ true → 5 * most ≤ length (now room)) ⌝ }
+    ensures { λ x. ⌜ ranIn x (marksFrom (now (sort .exit)) (now (live .exit)) (now (tm .exit))) (now (w .exit)) (now (was .entry)) (now (modes .exit)) ≡ runOf (now (piece .entry)) most (bookAt first (marksFrom (now (sort .entry)) (now (live .entry)) (now (tm .entry))) (now (w .entry)) (now (was .entry)) (now (modes .entry))) 0 0 0 ⌝ }
+    ensures { λ x. ⌜ Going (x .at) (marksFrom (now (sort .exit)) (now (live .exit)) (now (tm .exit))) (now (w .exit)) (now (was .entry)) (now (modes .exit)) (now (under .exit)) (now (used .exit)) × (now (room .exit) ≡ pick tell (tellOf (now (piece .entry)) most (bookAt first (marksFrom (now (sort .entry)) (now (live .entry)) (now (tm .entry))) (now (w .entry)) (now (was .entry)) (now (modes .entry))) 0 0 (now (room .entry))) (now (room .entry))) ⌝ }
 {
-    let mut count = first;
-    let mut serial = due;
+    let mut at = first;
     let mut place: usize = 0;
     let mut read: u64 = 0;
     let mut done: u64 = 0;
@@ -94,12 +96,11 @@ pub fn go(
                 if most <= read {
                     break Closing::Long;
                 }
-                let gone = step(sort, live, tm, w, under, count, serial, r);
+                let gone = step(sort, live, tm, w, modes, under, used, was, at, r);
                 if tell {
                     put_five(room, read, r, gone);
                 }
-                count = gone.count;
-                serial = gone.serial;
+                at = on(at, gone);
                 place = next;
                 read += 1;
                 done += gone.carried;
@@ -107,8 +108,7 @@ pub fn go(
         }
     };
     Went {
-        count,
-        serial,
+        at,
         place,
         closing,
         read,

@@ -10,7 +10,7 @@ use Rattle.lines.specs.Lines.{space, newline, followed, spaced}
 use Rattle.sums.specs.Room.{over}
 use Rattle.lines.specs.Inner.{Puts}
 use Rattle.lines.proofs.Puts.{and-then, puts-length}
-use Rattle.report.specs.Inner.{spacedTo}
+use Rattle.report.specs.Reports.{andSpaces}
 
 -- nothing put
 pub none : (room : List ℕ) (at : ℕ) {p : ℕ} → p ≡ at → at ≤ length room → Puts room at [] room p
@@ -27,35 +27,33 @@ pub whole : {room₀ room : List ℕ} {at i after : ℕ} (text : List ℕ) → l
 whole {room₀} {room} {at} {i} text h f = rw (take-all i text h) at f
 
 -- one number more, a space after it
-pub spaced-step : (list : List ℕ) (i : ℕ) → i < length list → spacedTo list (suc i) ≡ spacedTo list i ++ followed (getD list i 0) space
-unfolding spacedTo
-spaced-step [] i h = absurd (omega arith)
-spaced-step (n ∷ list) zero h = append-nil (followed n space)
-spaced-step (n ∷ list) (suc i) h =
-    ap (λ (t : List ℕ). followed n space ++ t) (spaced-step list i (omega arith))
-    ∙ sym (append-assoc (followed n space) (spacedTo list i) (followed (getD list i 0) space))
+spaces-more : (list : List ℕ) (n : ℕ) → andSpaces (list ++ (n ∷ [])) ≡ andSpaces list ++ followed n space
+unfolding andSpaces
+spaces-more [] n = append-nil (followed n space)
+spaces-more (m ∷ list) n =
+    ap (λ (t : List ℕ). followed m space ++ t) (spaces-more list n) ∙ sym (append-assoc (followed m space) (andSpaces list) (followed n space))
 
 -- the last number, the line's end after it
-pub spaced-last : (list : List ℕ) (i : ℕ) → length list ≡ suc i → spacedTo list i ++ followed (getD list i 0) newline ≡ spaced list
-unfolding spacedTo spaced
+spaced-last : (list : List ℕ) (i : ℕ) → length list ≡ suc i → andSpaces (take i list) ++ followed (getD list i 0) newline ≡ spaced list
+unfolding andSpaces spaced
 spaced-last [] i h = absurd (omega arith)
 spaced-last (n ∷ []) zero h = refl
 spaced-last (n ∷ []) (suc i) h = absurd (omega arith)
 spaced-last (n ∷ m ∷ list) zero h = absurd (omega arith)
 spaced-last (n ∷ m ∷ list) (suc i) h =
-    append-assoc (followed n space) (spacedTo (m ∷ list) i) (followed (getD (m ∷ list) i 0) newline)
+    append-assoc (followed n space) (andSpaces (take i (m ∷ list))) (followed (getD (m ∷ list) i 0) newline)
     ∙ ap (λ (t : List ℕ). followed n space ++ t) (spaced-last (m ∷ list) i (omega arith))
 
-pub number-more : {room₀ room room′ : List ℕ} {at p q : ℕ} (list : List ℕ) (i : ℕ) → i < length list → Puts room₀ at (spacedTo list i) room p
-    → Puts room p (followed (getD list i 0) space) room′ q → Puts room₀ at (spacedTo list (i + 1)) room′ q
+pub number-more : {room₀ room room′ : List ℕ} {at p q : ℕ} (list : List ℕ) (i : ℕ) → i < length list → Puts room₀ at (andSpaces (take i list)) room p
+    → Puts room p (followed (getD list i 0) space) room′ q → Puts room₀ at (andSpaces (take (i + 1) list)) room′ q
 number-more list i h f g =
-    let e : spacedTo list (i + 1) ≡ spacedTo list i ++ followed (getD list i 0) space = ap (spacedTo list) (add-one i) ∙ spaced-step list i h in
-    rw e (and-then (spacedTo list i) (followed (getD list i 0) space) f g)
+    let e : take (i + 1) list ≡ take i list ++ (getD list i 0 ∷ []) = ap (λ (j : ℕ). take j list) (add-one i) ∙ take-suc list i 0 h in
+    rw (ap andSpaces e ∙ spaces-more (take i list) (getD list i 0)) (and-then (andSpaces (take i list)) (followed (getD list i 0) space) f g)
 
-pub number-last : {room₀ room room′ : List ℕ} {at p q : ℕ} (list : List ℕ) (i : ℕ) → length list ≡ i + 1 → Puts room₀ at (spacedTo list i) room p
+pub number-last : {room₀ room room′ : List ℕ} {at p q : ℕ} (list : List ℕ) (i : ℕ) → length list ≡ i + 1 → Puts room₀ at (andSpaces (take i list)) room p
     → Puts room p (followed (getD list i 0) newline) room′ q → Puts room₀ at (spaced list) room′ q
 number-last list i h f g =
-    rw (sym (spaced-last list i (h ∙ add-one i))) (and-then (spacedTo list i) (followed (getD list i 0) newline) f g)
+    rw (sym (spaced-last list i (h ∙ add-one i))) (and-then (andSpaces (take i list)) (followed (getD list i 0) newline) f g)
 
 -- a text at a room's start is within the room
 pub front : (n : ℕ) (text room after : List ℕ) → n ≡ length text → after ≡ over text room → n ≤ length after

@@ -9,7 +9,7 @@ use Rattle.rows.specs.declared.Book.{Book}
 use Rattle.rows.specs.Rows.{rowAt}
 use Rattle.book.specs.declared.Figures.{Figures}
 use Rattle.book.specs.Asked.{standingOf}
-use Rattle.lines.specs.Lines.{space, followed, spaced}
+use Rattle.lines.specs.Lines.{space, newline, followed, spaced}
 
 -- "A book holds at most 256 accounts, numbered from 0": a count beyond that names no further one
 abbrev pub accounts : ℕ → ℕ
@@ -31,14 +31,30 @@ abbrev pub stateWord : Bool → List ℕ
 stateWord true = 108 ∷ 105 ∷ 118 ∷ 101 ∷ []  -- l i v e
 stateWord false = 114 ∷ 101 ∷ 116 ∷ 105 ∷ 114 ∷ 101 ∷ 100 ∷ []  -- r e t i r e d
 
+-- document 02, K2: "Mode is .. shown in a standing": `standings` prints `on` or `off` as one more word
+abbrev pub modeWord : Bool → List ℕ
+modeWord true = 111 ∷ 110 ∷ []  -- o n
+modeWord false = 111 ∷ 102 ∷ 102 ∷ []  -- o f f
+
+-- a word and the line's end behind it
+abbrev pub andNewline : List ℕ → List ℕ
+andNewline word = word ++ (newline ∷ [])
+
+-- numbers, the space behind each
+unfoldable pub andSpaces : List ℕ → List ℕ
+andSpaces [] = []
+andSpaces (n ∷ rest) = followed n space ++ andSpaces rest
+
 -- its TM or 0, the five figures
 abbrev pub numbersOf : Row → Figures → List ℕ
 numbersOf row f = row .tm ∷ f .collateral ∷ f .need ∷ f .blocked ∷ f .deemed ∷ f .free ∷ []
 
--- a line per account: number, `cm`/`tm`/`client`/`cp`, `live`/`retired`, its TM or 0, the five figures
+-- a line per account: number, `cm`/`tm`/`client`/`cp`, `live`/`retired`, its TM or 0, the five figures, `on`/`off`
 unfoldable pub standingLine : ℕ → Row → Figures → List ℕ
 standingLine i row f =
-    followed i space ++ (andSpace (sortWord (row .sort)) ++ (andSpace (stateWord (row .live)) ++ spaced (numbersOf row f)))
+    followed i space
+    ++ (andSpace (sortWord (row .sort))
+    ++ (andSpace (stateWord (row .live)) ++ (andSpaces (numbersOf row f) ++ andNewline (modeWord (f .mode)))))
 
 -- the lines of the accounts below n, in rising number
 unfoldable pub standingLines : Book → ℕ → List ℕ

@@ -1,9 +1,10 @@
 // Words and numbers put into a room, one after the other.
 ghost use mathlib.Core.List.{[], _∷_};
 ghost use Prim.Native.Nat.{_+_, _*_, _≤_};
-ghost use lib.ListN.{length};
+ghost use lib.ListN.{length, take};
 ghost use Rattle.lines.specs.Lines.{followed, spaced};
 ghost use Rattle.lines.specs.Inner.{Puts};
+ghost use Rattle.report.specs.Reports.{andSpaces};
 
 // Puts a text at a place, and gives the place after it.
 pub(crate) fn put_text(room: &mut [u8], at: usize, text: &[u8]) -> usize
@@ -31,6 +32,21 @@ pub(crate) fn put_number(room: &mut [u8], at: usize, n: u64, mark: u8) -> usize
     p + 1
 }
 
+// Puts a list's first n numbers with a space behind each, and gives the place after them.
+pub(crate) fn put_each(room: &mut [u8], at: usize, list: &[u64], n: usize) -> usize
+    requires { ⌜ (n ≤ length (now list)) × (at + 21 * n ≤ length (now room)) ⌝ }
+    ensures { λ after. ⌜ Puts (now (room .entry)) at (andSpaces (take n (now (list .entry)))) (now (room .exit)) after ⌝ }
+    ensures { λ after. ⌜ after ≤ at + 21 * n ⌝ }
+{
+    let mut place = at;
+    let mut i: usize = 0;
+    while i < n {
+        place = put_number(room, place, list[i], b' ');
+        i += 1;
+    }
+    place
+}
+
 // Puts numbers with spaces between and the line's end behind, and gives the place after it.
 fn put_spaced(room: &mut [u8], at: usize, list: &[u64]) -> usize
     requires { ⌜ (1 ≤ length (now list)) × (at + 21 * length (now list) ≤ length (now room)) ⌝ }
@@ -38,16 +54,11 @@ fn put_spaced(room: &mut [u8], at: usize, list: &[u64]) -> usize
     ensures { λ after. ⌜ after ≤ at + 21 * length (now (list .entry)) ⌝ }
 {
     let last = list.len() - 1;
-    let mut place = at;
-    let mut i: usize = 0;
-    while i < last {
-        place = put_number(room, place, list[i], b' ');
-        i += 1;
-    }
+    let place = put_each(room, at, list, last);
     put_number(room, place, list[last], b'\n')
 }
 
-// Puts a line's last six numbers: they take 126 bytes at most.
+// Puts a line of six numbers: they take 126 bytes at most.
 pub(crate) fn put_six(
     room: &mut [u8],
     at: usize,

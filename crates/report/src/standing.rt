@@ -3,9 +3,9 @@ ghost use Prim.Native.Nat.{_+_, _*_, _≤_};
 ghost use lib.ListN.{length};
 ghost use Rattle.lines.specs.Inner.{Puts};
 ghost use Rattle.table.specs.Words.{turnedBack};
-ghost use Rattle.report.specs.Reports.{andSpace, sortWord, stateWord, standingLine, standingLines};
+ghost use Rattle.report.specs.Reports.{andSpace, andSpaces, andNewline, sortWord, stateWord, modeWord, numbersOf, standingLine, standingLines};
+use crate::put::put_each;
 use crate::put::put_number;
-use crate::put::put_six;
 use crate::put::put_text;
 use book::Figures;
 use rows::Row;
@@ -37,30 +37,52 @@ fn put_state(room: &mut [u8], at: usize, live: bool) -> usize
     }
 }
 
-// Puts one account's line: it takes 162 bytes at most.
-fn put_standing(room: &mut [u8], at: usize, i: usize, r: Row, f: Figures) -> usize
-    requires { ⌜ at + 162 ≤ length (now room) ⌝ }
-    ensures { λ after. ⌜ Puts (now (room .entry)) at (standingLine i r f) (now (room .exit)) after ⌝ }
-    ensures { λ after. ⌜ after ≤ at + 162 ⌝ }
+// Puts its TM or 0 and the five figures: they take 126 bytes at most.
+fn put_numbers(room: &mut [u8], at: usize, r: Row, f: Figures) -> usize
+    requires { ⌜ at + 126 ≤ length (now room) ⌝ }
+    ensures { λ after. ⌜ Puts (now (room .entry)) at (andSpaces (numbersOf r f)) (now (room .exit)) after ⌝ }
+    ensures { λ after. ⌜ after ≤ at + 126 ⌝ }
 {
-    let p1 = put_number(room, at, i as u64, b' ');
-    let p2 = put_sort(room, p1, r.sort);
-    let p3 = put_state(room, p2, r.live);
-    put_six(
-        room,
-        p3,
+    let list = [
         r.tm as u64,
         f.collateral,
         f.need,
         f.blocked,
         f.deemed,
         f.free,
-    )
+    ];
+    put_each(room, at, &list, 6)
+}
+
+// Puts the mode's word and the line's end.
+fn put_mode(room: &mut [u8], at: usize, mode: bool) -> usize
+    requires { ⌜ at + 4 ≤ length (now room) ⌝ }
+    ensures { λ after. ⌜ Puts (now (room .entry)) at (andNewline (modeWord mode)) (now (room .exit)) after ⌝ }
+    ensures { λ after. ⌜ after ≤ at + 4 ⌝ }
+{
+    if mode {
+        put_text(room, at, b"on\n")
+    } else {
+        put_text(room, at, b"off\n")
+    }
+}
+
+// Puts one account's line: it takes 166 bytes at most.
+fn put_standing(room: &mut [u8], at: usize, i: usize, r: Row, f: Figures) -> usize
+    requires { ⌜ at + 166 ≤ length (now room) ⌝ }
+    ensures { λ after. ⌜ Puts (now (room .entry)) at (standingLine i r f) (now (room .exit)) after ⌝ }
+    ensures { λ after. ⌜ after ≤ at + 166 ⌝ }
+{
+    let p1 = put_number(room, at, i as u64, b' ');
+    let p2 = put_sort(room, p1, r.sort);
+    let p3 = put_state(room, p2, r.live);
+    let p4 = put_numbers(room, p3, r, f);
+    put_mode(room, p4, f.mode)
 }
 
 // Puts the lines of the accounts below n, and gives how long they are.
 pub(crate) fn put_standings(room: &mut [u8], t: Table, n: usize) -> usize
-    requires { ⌜ (n ≤ 256) × (162 * n ≤ length (now room)) ⌝ }
+    requires { ⌜ (n ≤ 256) × (166 * n ≤ length (now room)) ⌝ }
     ensures { λ after. ⌜ Puts (now (room .entry)) 0 (standingLines (turnedBack t) n) (now (room .exit)) after ⌝ }
 {
     let mut at: usize = 0;

@@ -1,6 +1,10 @@
 pub mod BySort
 pub mod NeedSums
 pub mod Unders
+pub mod Bounds
+pub mod Tenths
+pub mod Looks
+pub mod Annexure5
 pub mod RowPut
 mod SetterWalk
 mod SetterFields

@@ -1,8 +1,8 @@
--- The sums of needs a row at a time, how large they get, and what a client adds to which place.
-use mathlib.Core.Path.{_≡_, refl, sym, ap, _∙_}
+-- The sums of needs a row at a time, the most that one account adds, and what a client adds to which place.
+use mathlib.Core.Path.{_≡_, refl, sym, _∙_}
 use mathlib.Core.Bool.{Bool, true, false, _&&_, and-false}
 use mathlib.Core.List.{List}
-use Prim.Native.Nat.{ℕ, _+_, _-_, _*_, _≤_, _<_}
+use Prim.Native.Nat.{ℕ, _+_, _*_, _≤_, _<_}
 use native.Mathlib.Omega.{arith}
 use native.Mathlib.Decide.{decLt, ℕ-discrete}
 use lib.Dec.{eqb, ltb}
@@ -11,13 +11,11 @@ use lib.Seq.{getD-set-same, getD-set-other}
 use borrow.Author.Tests.{eq-eqb, ne-eqb, lt-ltb, le-ltb}
 use Rattle.sums.specs.Sum.{sum, only}
 use Rattle.sums.proofs.Choices.{pick-no}
-use Rattle.sums.proofs.Sums.{sum-step, sum-most, only-most}
+use Rattle.sums.proofs.Sums.{sum-step, only-most}
 use Rattle.rows.specs.declared.Account.{Account}
-use Rattle.rows.specs.declared.Book.{Book}
 use Rattle.rows.specs.View.{View, isCM, isTM, isClientOf, ownDeemed, deemedOf, deemedTM, needTM, needCM, need, members}
-use Rattle.rows.specs.Rows.{ceiling, rowAt, view}
 use Rattle.rows.specs.Under.{accountAt, clientDue, memberDue, underTM, underCM}
-use Rattle.rows.specs.Inner.{Ranged, Slot, clientsBelow, membersBelow}
+use Rattle.rows.specs.Inner.{Slot, clientsBelow, membersBelow}
 
 pub clients-none : (v : View) (t : ℕ) → clientsBelow v t 0 ≡ 0
 unfolding clientsBelow sum
@@ -53,27 +51,6 @@ member-most a d =
 pub under-cm-most : (old new tm : Account) (under owed all : ℕ)
     → underCM old new under tm owed all ≤ all + owed + under + 3 * new .margin + 2 * tm .margin
 under-cm-most old new tm under owed all = omega (arith, member-most new under, member-most tm (underTM old new owed), due-most new)
-
-module _ (b : Book) (h : Ranged b) where
-  pub clients-most : (t n : ℕ) → n ≤ b .count → clientsBelow (view b) t n ≤ n * ceiling
-  unfolding clientsBelow
-  clients-most t n l =
-      sum-most n ceiling (λ i. only (isClientOf (view b) t i) (ownDeemed (view b) i))
-      (λ i m. omega (arith, only-most (isClientOf (view b) t i) (ownDeemed (view b) i), h .ranges i (omega arith) .margin))
-
-  -- all clients of one TM, at most 256 ceilings
-  pub clients-top : (t : ℕ) → clientsBelow (view b) t (b .count) ≤ 2_560_000_000_000_000
-  clients-top t = omega (arith, clients-most t (b .count) (omega arith), h .most)
-
-  pub members-most : (n : ℕ) → n ≤ b .count → membersBelow (view b) n ≤ n * 2_580_000_000_000_000
-  unfolding membersBelow clientsBelow needTM
-  members-most n l =
-      sum-most n 2_580_000_000_000_000 (members (view b) (deemedTM (view b)) (ownDeemed (view b)))
-      (λ i m. omega (arith, member-most (accountAt (view b) i) (clientsBelow (view b) i (b .count)), h .ranges i (omega arith) .margin, clients-top i))
-
-  -- the sum behind the CM's need is below 2 ^ 60
-  pub members-top : membersBelow (view b) (b .count) ≤ 660_480_000_000_000_000
-  members-top = omega (arith, members-most (b .count) (omega arith), h .most)
 
 pub need-cm-sum : (v : View) → needCM v ≡ v .margin 0 + membersBelow v (v .count)
 unfolding needCM membersBelow

@@ -1,10 +1,11 @@
 -- Sentences of 'A sound book' as facts, for internal functions and for proofs: no promise of a public call cites it.
 use mathlib.Core.Path.{_≡_}
+use mathlib.Core.Bool.{false}
 use mathlib.Core.Logic.{_⊎_}
 use Prim.Native.Nat.{ℕ, _≤_, _<_}
 use Rattle.rows.specs.declared.Kinds.{Kinds}
 use Rattle.rows.specs.declared.Row.{Row}
-use Rattle.rows.specs.View.{View, needCM}
+use Rattle.rows.specs.View.{View, isTM, needCM}
 use Rattle.rows.specs.Rows.{ceiling}
 use Rattle.rows.specs.Ranges.{ceilings}
 
@@ -18,6 +19,10 @@ pub record Shaped (v : View) : Type 0 where
 -- the TM word of an account that is no client is 0
 abbrev pub NoTM : View → Type 0
 NoTM v = (i : ℕ) → i < v .count → (v .sort i ≡ 2 → ⊥) → v .tm i ≡ 0
+
+-- no row beyond the number is a TM's
+abbrev pub NoneBeyond : View → Type 0
+NoneBeyond v = (i : ℕ) → v .count ≤ i → isTM v i ≡ false
 
 -- "The CM's need, defined below, is at most the CM's collateral."
 abbrev pub Covered : View → Type 0

@@ -1,9 +1,11 @@
 -- Only for internal functions: no promise of a public call cites it.
 use mathlib.Core.Path.{_≡_}
+use mathlib.Core.Bool.{Bool, true, false}
 use mathlib.Core.List.{List}
-use Prim.Native.Nat.{ℕ, _≤_, _<_}
+use Prim.Native.Nat.{ℕ, _*_, _≤_, _<_}
 use lib.ListN.{length, getD}
 use Rattle.sums.specs.Sum.{sum, only}
+use Rattle.rows.specs.declared.Account.{Account}
 use Rattle.rows.specs.declared.Book.{Book}
 use Rattle.rows.specs.View.{View, isClientOf, ownDeemed, deemedTM, members}
 use Rattle.rows.specs.Rows.{places, rowAt}
@@ -32,3 +34,26 @@ membersBelow v n = sum n (members v (deemedTM v) (ownDeemed v))
 pub record ClientSums (v : View) (owed : List ℕ) : Type 0 where
   pub size : length owed ≡ 256
   pub each : (t : ℕ) → t < 256 → getD owed t 0 ≡ clientsBelow v t (v .count)
+
+-- so many of an amount in tenths, and the amount itself otherwise
+abbrev pub times : Bool → ℕ → ℕ → ℕ
+times true n x = n * x
+times false n x = x
+
+-- an account in tenths, ten margins against nine collaterals, or as it is
+abbrev pub accountAs : Bool → Account → Account
+accountAs tenths a = record { sort = a .sort; tm = a .tm; margin = times tenths 10 (a .margin); collateral = times tenths 9 (a .collateral) }
+
+-- all accounts in tenths, or as they are
+abbrev pub viewAs : Bool → View → View
+viewAs tenths v = record {
+  count = v .count;
+  sort = v .sort;
+  tm = v .tm;
+  collateral = λ i. times tenths 9 (v .collateral i);
+  margin = λ i. times tenths 10 (v .margin i);
+}
+
+-- in tenths: K2's use is the need in this view, and its excess what is deemed (laws of rows.Tenths)
+abbrev pub inTenths : View → View
+inTenths v = viewAs true v

@@ -3,4 +3,5 @@ pub mod Rows
 pub mod Ranges
 pub mod Facts
 pub mod Under
+pub mod Modes
 pub mod Inner

@@ -1,6 +1,6 @@
--- Document 01, 'Amounts and sizes': a book's rows, its view, and a fresh book.
+-- Document 01, 'Amounts and sizes': a book's rows, its view, and a fresh book. With document 02, K2: its modes.
 use mathlib.Core.Bool.{Bool, true, false, _&&_}
-use mathlib.Core.List.{_∷_}
+use mathlib.Core.List.{List, _∷_}
 use Prim.Native.Nat.{ℕ, _+_, _-_}
 use lib.Dec.{ltb}
 use lib.ListN.{length, getD, set, replicate}
@@ -49,6 +49,10 @@ lessKinds a b = record {
 abbrev pub rowAt : Book → ℕ → Row
 rowAt b i = getD (b .rows) i noRow
 
+-- "Mode is part of the book": the mode of the account at place i
+abbrev pub modeAt : Book → ℕ → Bool
+modeAt b i = getD (b .modes) i false
+
 -- how many places the table has: 256, by its type
 abbrev pub places : Book → ℕ
 places b = length (b .rows)
@@ -80,9 +84,9 @@ view b = record {
 }
 
 -- "number 0 is the CM and is there from the start, live. In a fresh book it is the only account and all amounts are 0.";
--- "the next serial, 0 at first"
+-- "the next serial, 0 at first"; a mode is "off at first"
 unfoldable pub freshBook : Book
-freshBook = record { count = 1; serial = 0; rows = openedRow 0 0 ∷ replicate 255 noRow }
+freshBook = record { count = 1; serial = 0; rows = openedRow 0 0 ∷ replicate 255 noRow; modes = replicate 256 false }
 
 -- A row with one of its words put anew.
 abbrev pub withLive : Row → Bool → Row
@@ -102,15 +106,19 @@ withMargin r x = record { sort = r .sort; live = r .live; tm = r .tm; received =
 
 -- the book with row i put anew
 abbrev pub withRow : Book → ℕ → Row → Book
-withRow b i r = record { count = b .count; serial = b .serial; rows = set (b .rows) i r }
+withRow b i r = record { count = b .count; serial = b .serial; rows = set (b .rows) i r; modes = b .modes }
 
 -- the book with another next serial
 abbrev pub withSerial : Book → ℕ → Book
-withSerial b n = record { count = b .count; serial = n; rows = b .rows }
+withSerial b n = record { count = b .count; serial = n; rows = b .rows; modes = b .modes }
+
+-- the book with other modes
+abbrev pub withModes : Book → List Bool → Book
+withModes b modes = record { count = b .count; serial = b .serial; rows = b .rows; modes = modes }
 
 -- the book with one account more
 abbrev pub withNew : Book → Row → Book
-withNew b r = record { count = b .count + 1; serial = b .serial; rows = set (b .rows) (b .count) r }
+withNew b r = record { count = b .count + 1; serial = b .serial; rows = set (b .rows) (b .count) r; modes = b .modes }
 
 -- the account's number was given, and it is live
 abbrev pub isLive : Book → ℕ → Bool

@@ -1,4 +1,5 @@
-// What is deemed under an account, brought up to date from the one row that changes, without the table.
+// What is deemed under an account, brought up to date from the one row that changes, without the table. The bounds let accounts in
+// tenths through too, with what is in excess under them (K2).
 ghost use mathlib.Core.Path.{_≡_};
 ghost use Prim.Native.Nat.{_+_, _-_, _≤_};
 ghost use Rattle.rows.specs.View.{freeOf};

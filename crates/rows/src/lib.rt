@@ -1,5 +1,6 @@
 // The rows of the old order's book, and what one account adds to what is deemed under others.
 pub mod kept;
+pub mod modes;
 pub mod needs;
 pub mod ranges;
 pub mod setters;
@@ -33,10 +34,12 @@ pub struct Account {
     pub collateral: u64,
 }
 
+// `modes` says of each place whether its account is in risk reduction mode (K2).
 pub struct Book {
     pub count: u16,
     pub serial: u16,
     pub rows: [Row; 256],
+    pub modes: [bool; 256],
 }
 
 // The largest amount, in paise.

@@ -1,5 +1,6 @@
 // What one account is blocked and deemed, and what of it is due under its TM and under the CM.
 ghost use mathlib.Core.Path.{_≡_};
+ghost use mathlib.Core.Bool.{true};
 ghost use Prim.Native.Nat.{_≤_};
 ghost use lib.ListN.{replicate};
 ghost use Rattle.sums.specs.Sum.{only};
@@ -7,7 +8,7 @@ ghost use Rattle.rows.specs.View.{blockedOf, deemedOf};
 ghost use Rattle.rows.specs.Rows.{collateral, accountOf};
 ghost use Rattle.rows.specs.Facts.{InRange};
 ghost use Rattle.rows.specs.Under.{clientDue, memberDue};
-ghost use Rattle.rows.specs.Inner.{Slot};
+ghost use Rattle.rows.specs.Inner.{Slot, accountAs};
 use super::Account;
 use super::Row;
 
@@ -50,6 +51,19 @@ pub fn account_of(r: Row) -> Account
         tm: r.tm,
         margin: r.margin,
         collateral: collateral_of(r),
+    }
+}
+
+// Ten margins against nine collaterals (K2).
+pub fn in_tenths(a: Account) -> Account
+    requires { ⌜ (a .margin ≤ 100_000_000_000_000) × (a .collateral ≤ 100_000_000_000_000) ⌝ }
+    ensures { λ x. ⌜ x ≡ accountAs true a ⌝ }
+{
+    Account {
+        sort: a.sort,
+        tm: a.tm,
+        margin: 10 * a.margin,
+        collateral: 9 * a.collateral,
     }
 }
 

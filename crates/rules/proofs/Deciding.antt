@@ -89,6 +89,22 @@ module _ (b : Book) (r : Record) (x : Row) where
       by true h = cc
       by false h = let z : _≡_ {A = ℕ} 0 1 = cc in absurd (omega arith)
 
+  pub only-openings : changeOf b r ≡ Open x → isOpening r ≡ true
+  unfolding pick
+  only-openings e = by (isOpening r) (sym e ∙ passes-as b r x (open-passes b r x e) (no-refusal b r (ap isRefusal e)))
+    where
+      by : (t : Bool) → Open x ≡ pick t (Open (openedRow (r .code) (r .account))) (Put (amended (namedRow b r) r)) → t ≡ true
+      by true h = refl
+      by false h = let z : _≡_ {A = ℕ} 0 1 = cc in absurd (omega arith)
+
+  pub never-openings : changeOf b r ≡ Put x → isOpening r ≡ false
+  unfolding pick
+  never-openings e = by (isOpening r) (sym e ∙ passes-as b r x (put-passes b r x e) (no-refusal b r (ap isRefusal e)))
+    where
+      by : (t : Bool) → Put x ≡ pick t (Open (openedRow (r .code) (r .account))) (Put (amended (namedRow b r) r)) → t ≡ false
+      by true h = let z : _≡_ {A = ℕ} 0 1 = cc in absurd (omega arith)
+      by false h = refl
+
 -- a sound book never meets refusal 1
 pub never-one : (b : Book) (r : Record) → Sound b → refusalOf b r ≡ 1 → ⊥
 unfolding refusalOf

@@ -1,4 +1,4 @@
--- What is seen without the table is right where the list of what is deemed under each account is kept, and a change keeps it.
+-- What is seen without the table is right where the list of what is deemed under each account is kept, and a change keeps it, in tenths too.
 use mathlib.Core.Bool.{Bool, true, false, not, _&&_}
 use mathlib.Core.List.{List}
 use mathlib.Core.Path.{_≡_, refl, sym, ap, subst, _∙_}
@@ -15,23 +15,27 @@ use Rattle.rows.specs.declared.Book.{Book}
 use Rattle.rows.specs.View.{freeOf, blockedOf, needCM}
 use Rattle.rows.specs.Rows.{ceiling, rowAt, places, collateral, accountOf, view, withMargin, withRow, withNew, hasLiveClient}
 use Rattle.rows.specs.Under.{Under, accountAt, atMargin, underTM, underCM}
-use Rattle.rows.specs.Inner.{Slot}
+use Rattle.rows.specs.Modes.{lookAt, looked}
+use Rattle.rows.specs.Inner.{Slot, accountAs, viewAs}
 use Rattle.rows.proofs.BySort.{Sort, cm, tm, client, cp, sort-of}
+use Rattle.rows.proofs.Tenths.{shaped-in}
 use Rattle.rows.proofs.RowPut.{row-same, row-other, below, new}
-use Rattle.book.specs.Facts.{Sound}
+use Rattle.book.specs.Facts.{SoundRows, Sound}
 use Rattle.book.proofs.OneRow.{at-all, row-opened}
-use Rattle.book.proofs.Differences.{RowChanged, row-changed}
-use Rattle.book.proofs.Opens.{Opened}
+use Rattle.book.proofs.Differences.{RowChanged, changed-in, row-changed}
+use Rattle.book.proofs.Opens.{Opened, opened-in}
 use Rattle.book.proofs.SoundAfter.{in-table}
 use Rattle.book.proofs.UnderPut.{cm-after, under-put}
 use Rattle.book.proofs.UnderOpen.{under-open}
+use Rattle.book.proofs.LookAfter.{look-put, look-open}
+use Rattle.book.proofs.Settled.{sound-rows, none-beyond}
 use Rattle.dayfile.specs.declared.Record.{Record}
 use Rattle.rules.specs.declared.Change.the-variants.{Put, Open}
 use Rattle.rules.specs.Refusals.{namedRow, needOver, newMargin}
-use Rattle.rules.specs.Effects.{amended, changeOf, bookAfter}
+use Rattle.rules.specs.Effects.{amended, changeOf, changedBy}
 use Rattle.rules.specs.Inner.{SeenOf, seenWith, topMargin}
 use Rattle.rules.proofs.Deciding.{put-passes, open-below, made-put, made-open}
-use Rattle.rules.proofs.SoundChange.{change-sound}
+use Rattle.rules.proofs.SoundChange.{change-rows}
 
 right-zero : (n : ℕ) → n + 0 ≡ n
 right-zero n = omega arith
@@ -125,24 +129,39 @@ amended-same row r =
 
 -- a row put anew
 module _ (b : Book) (r : Record) (x : Row) (s : Sound b) (e : changeOf b r ≡ Put x) where
-  pub put-keeps : (owed : List ℕ) → Under (view b) owed → (p : ℕ) → Slot (namedRow b r .tm) p
-      → Under (view (withRow b (r .account) x))
-      (set (set owed p (underTM (accountOf (namedRow b r)) (accountOf x) (getD owed p 0))) 0
-      (underCM (accountOf (namedRow b r)) (accountOf x) (getD owed (r .account) 0) (accountOf (rowAt b p)) (getD owed p 0) (getD owed 0 0)))
-  put-keeps owed h p sl =
-      let l = put-passes b r x e .account in
+  inside : r .account < b .count
+  inside = put-passes b r x e .account
+
+  there : r .account < places b
+  there = in-table b s (r .account) inside
+
+  moved : RowChanged (view b) (view (withRow b (r .account) x)) (r .account)
+  moved =
       let a = amended-same (namedRow b r) r in
       let q = made-put b r x e in
-      let o = row-changed b (r .account) x (in-table b s (r .account) l) l (ap (λ z. z .sort) q ∙ a .0) (ap (λ z. z .tm) q ∙ a .1) in
-      let is-new : accountAt (view (withRow b (r .account) x)) (r .account) ≡ accountOf x = ap accountOf (row-same b (r .account) x (in-table b s (r .account) l)) in
-      subst (λ (y : Account). Under (view (withRow b (r .account) x)) (set (set owed p (underTM (accountOf (namedRow b r)) y (getD owed p 0))) 0
-      (underCM (accountOf (namedRow b r)) y (getD owed (r .account) 0) (accountOf (rowAt b p)) (getD owed p 0) (getD owed 0 0)))) is-new
-      (under-put (view b) (view (withRow b (r .account) x)) (r .account) o (s .shaped) (s .no-tm) (s .most) owed h p sl)
+      row-changed b (r .account) x there inside (ap (λ z. z .sort) q ∙ a .0) (ap (λ z. z .tm) q ∙ a .1)
+
+  -- what is deemed under each account, and in tenths its excess
+  pub put-keeps : (tenths : Bool) (owed : List ℕ) → Under (viewAs tenths (view b)) owed → (p : ℕ) → Slot (namedRow b r .tm) p
+      → Under (viewAs tenths (view (withRow b (r .account) x)))
+      (set (set owed p (underTM (accountAs tenths (accountOf (namedRow b r))) (accountAs tenths (accountOf x)) (getD owed p 0))) 0
+      (underCM (accountAs tenths (accountOf (namedRow b r))) (accountAs tenths (accountOf x)) (getD owed (r .account) 0) (accountAs tenths (accountOf (rowAt b p))) (getD owed p 0) (getD owed 0 0)))
+  put-keeps tenths owed h p sl =
+      let is-new : accountAt (view (withRow b (r .account) x)) (r .account) ≡ accountOf x = ap accountOf (row-same b (r .account) x there) in
+      subst (λ (y : Account). Under (viewAs tenths (view (withRow b (r .account) x))) (set (set owed p (underTM (accountAs tenths (accountOf (namedRow b r))) (accountAs tenths y) (getD owed p 0))) 0
+      (underCM (accountAs tenths (accountOf (namedRow b r))) (accountAs tenths y) (getD owed (r .account) 0) (accountAs tenths (accountOf (rowAt b p))) (getD owed p 0) (getD owed 0 0)))) is-new
+      (under-put (viewAs tenths (view b)) (viewAs tenths (view (withRow b (r .account) x))) (r .account) (changed-in tenths moved) (shaped-in tenths (s .shaped)) (s .no-tm) (s .most) owed h p sl)
+
+  -- K2: a look after it moves three places of a look before it
+  pub put-looks : (modes : List Bool) (p : ℕ) → Slot (namedRow b r .tm) p
+      → (let w = view (withRow b (r .account) x) in looked w modes
+      ≡ set (set (set (looked (view b) modes) (r .account) (lookAt w modes (r .account))) p (lookAt w modes p)) 0 (lookAt w modes 0))
+  put-looks modes p sl = look-put (view b) (view (withRow b (r .account) x)) (r .account) moved (s .shaped) (s .most) p sl modes
 
 -- an account opened
 module _ (b : Book) (r : Record) (x : Row) (s : Sound b) (e : changeOf b r ≡ Open x) where
-  after : Sound (bookAfter b (r .account) (Open x))
-  after = rw e at (change-sound b r s)
+  after : SoundRows (changedBy b (r .account) (Open x))
+  after = rw e at (change-rows b r s)
 
   room : b .count < places b
   room = omega (arith, open-below b r x e, s .table)
@@ -158,5 +177,10 @@ module _ (b : Book) (r : Record) (x : Row) (s : Sound b) (e : changeOf b r ≡ O
       row-opened b x room (ap (λ z. z .margin) (made-open b r x e))
       (rw (new b x room) at (after .shaped .sorts (b .count) (s .shaped .some) (omega arith))) its-tm
 
-  pub open-keeps : (owed : List ℕ) → Under (view b) owed → Under (view (withNew b x)) owed
-  open-keeps owed h = under-open (view b) (view (withNew b x)) opened (s .shaped) owed h
+  pub open-keeps : (tenths : Bool) (owed : List ℕ) → Under (viewAs tenths (view b)) owed → Under (viewAs tenths (view (withNew b x))) owed
+  open-keeps tenths owed h = under-open (viewAs tenths (view b)) (viewAs tenths (view (withNew b x))) (opened-in tenths opened) (shaped-in tenths (s .shaped)) owed h
+
+  -- K2: a look after it is a look before it
+  pub open-looks : (modes : List Bool) → looked (view (withNew b x)) modes ≡ looked (view b) modes
+  open-looks modes =
+      look-open (view b) (view (withNew b x)) opened (s .shaped) (none-beyond b (sound-rows b s)) (none-beyond (changedBy b (r .account) (Open x)) after) modes

@@ -6,3 +6,4 @@ pub mod Passing
 pub mod SoundChange
 pub mod Deciding
 pub mod Kept
+pub mod ModesAside

@@ -15,15 +15,16 @@ use Rattle.rows.specs.View.{free}
 use Rattle.rows.specs.Facts.{KindsWithin}
 use Rattle.rows.specs.Rows.{placeOf, ceiling, addedUp, view, openedRow, withRow, withNew, plusKinds, lessKinds, hasLiveClient}
 use Rattle.rows.specs.Ranges.{kindsCapped, kindsWithin, noAmounts}
-use Rattle.book.specs.Facts.{Sound}
+use Rattle.book.specs.Facts.{SoundRows, Sound}
 use Rattle.book.proofs.RowFacts.{within→, capped→}
-use Rattle.book.proofs.SoundAfter.{serial-sound, receive-sound, hand-back-sound, allocate-sound, release-sound, pledge-sound, unpledge-sound, margin-sound, retire-sound, open-sound}
+use Rattle.book.proofs.SoundAfter.{serial-rows, serial-sound, receive-sound, hand-back-sound, allocate-sound, release-sound, pledge-sound, unpledge-sound, margin-sound, retire-sound, open-sound}
 use Rattle.book.proofs.LiveClients.{no-live-client}
+use Rattle.book.proofs.Settled.{sound-rows, settled-sound}
 use Rattle.dayfile.specs.declared.Record.{Record}
 use Rattle.rules.specs.declared.Change.{Change}
 use Rattle.rules.specs.declared.Change.the-variants.{Refuse, Put, Open}
 use Rattle.rules.specs.Refusals.{isOpening, namedRow, needOver, newMargin, refusalOf}
-use Rattle.rules.specs.Effects.{amended, effectOf, changeOf, nextSerial, movedOn, bookAfter}
+use Rattle.rules.specs.Effects.{amended, effectOf, changeOf, nextSerial, movedOn, changedBy, bookAfter}
 use Rattle.rules.proofs.Faults.{amounts-in}
 use Rattle.rules.proofs.Codes.{Code, openTM, openClient, openCP, receive, handBack, allocate, release, pledge, unpledge, margin, retire, which}
 use Rattle.rules.proofs.Passing.{Passes, passes-all}
@@ -40,7 +41,7 @@ module _ (b : Book) (r : Record) (p : Passes b r) where
   row = namedRow b r
 
   -- a row that the rules make of the one named, put in its place
-  put : (x : Row) → amended row r ≡ x → Sound (withRow b (r .account) x) → Sound (withRow b (r .account) (amended row r))
+  put : (x : Row) → amended row r ≡ x → SoundRows (withRow b (r .account) x) → SoundRows (withRow b (r .account) (amended row r))
   put x e s = rw e s
 
   -- the account named is the CM, whose number is 0
@@ -56,7 +57,7 @@ module _ (b : Book) (r : Record) (p : Passes b r) where
           ⊎-none (inr (inl q)) = omega arith
           ⊎-none (inr (inr q)) = omega arith
 
-  receives : r .code ≡ 4 → Sound (withRow b (r .account) (amended row r))
+  receives : r .code ≡ 4 → SoundRows (withRow b (r .account) (amended row r))
   receives e =
       let h : (not (kindsCapped (plusKinds (row .received) (r .kinds))) || false) ≡ false = rw e at (p .capped) in
       put _ (by-receive row r e)
@@ -71,17 +72,17 @@ module _ (b : Book) (r : Record) (p : Passes b r) where
       let h : (not (kindsWithin (r .kinds) (lessKinds (row .received) (row .allocated))) || false || false) ≡ false = rw e at (p .enough) in
       within→ _ _ (not-false _ (or-fails _ _ (or-fails _ _ h .0) .0))
 
-  hands-back : r .code ≡ 5 → Sound (withRow b (r .account) (amended row r))
+  hands-back : r .code ≡ 5 → SoundRows (withRow b (r .account) (amended row r))
   hands-back e =
       put _ (by-hand-back row r e)
       (hand-back-sound b (p .sound) (r .account) (p .account) (p .live) (r .kinds) (left-enough (inl e)))
 
-  allocates : r .code ≡ 6 → Sound (withRow b (r .account) (amended row r))
+  allocates : r .code ≡ 6 → SoundRows (withRow b (r .account) (amended row r))
   allocates e =
       put _ (by-allocate row r e)
       (allocate-sound b (p .sound) (r .account) (p .account) (p .live) (r .kinds) (left-enough (inr e)))
 
-  releases : r .code ≡ 7 → Sound (withRow b (r .account) (amended row r))
+  releases : r .code ≡ 7 → SoundRows (withRow b (r .account) (amended row r))
   releases e =
       let h : (not (kindsWithin (r .kinds) (row .allocated)) || false) ≡ false = rw e at (p .enough) in
       let f : (ltb (free (view b) (r .account)) (addedUp (r .kinds)) || false) ≡ false = rw e at (p .isFree) in
@@ -89,25 +90,25 @@ module _ (b : Book) (r : Record) (p : Passes b r) where
       (release-sound b (p .sound) (r .account) (p .account) (p .live) (r .kinds) (within→ _ _ (not-false _ (or-fails _ _ h .0)))
       (ltb-false _ _ (or-fails _ _ f .0)))
 
-  pledges : r .code ≡ 8 → Sound (withRow b (r .account) (amended row r))
+  pledges : r .code ≡ 8 → SoundRows (withRow b (r .account) (amended row r))
   pledges e =
       let h : ltb ceiling (row .pledged + r .pledged) ≡ false = rw e at (p .capped) in
       put _ (by-pledge row r e) (pledge-sound b (p .sound) (r .account) (p .account) (p .live) (r .pledged) (ltb-false _ _ h))
 
-  unpledges : r .code ≡ 9 → Sound (withRow b (r .account) (amended row r))
+  unpledges : r .code ≡ 9 → SoundRows (withRow b (r .account) (amended row r))
   unpledges e =
       let h : ltb (row .pledged) (r .pledged) ≡ false = rw e at (p .enough) in
       let f : ltb (free (view b) (r .account)) (r .pledged) ≡ false = rw e at (p .isFree) in
       put _ (by-unpledge row r e)
       (unpledge-sound b (p .sound) (r .account) (p .account) (p .live) (r .pledged) (ltb-false _ _ h) (ltb-false _ _ f))
 
-  sets-margin : r .code ≡ 10 → Sound (withRow b (r .account) (amended row r))
+  sets-margin : r .code ≡ 10 → SoundRows (withRow b (r .account) (amended row r))
   sets-margin e =
       let h : needOver (view (newMargin b r)) ≡ false = rw e at (p .covered) in
       put _ (by-margin row r e)
       (margin-sound b (p .sound) (r .account) (p .account) (p .live) (r .margin) (amounts-in r (p .good) .margin) (ltb-false _ _ h))
 
-  retires : r .code ≡ 11 → Sound (withRow b (r .account) (amended row r))
+  retires : r .code ≡ 11 → SoundRows (withRow b (r .account) (amended row r))
   retires e =
       let h : (not (noAmounts row) || hasLiveClient b (r .account)) ≡ false = rw e at (p .retirable) in
       let z : eqb (r .account) 0 ≡ false = rw e at (p .sort) in
@@ -117,38 +118,38 @@ module _ (b : Book) (r : Record) (p : Passes b r) where
 
   -- an opening: the code's sort, a number left, and a TM or the CM named
   opens : (r .code ≡ 1) ⊎ ((r .code ≡ 2) ⊎ (r .code ≡ 3)) → leb 256 (b .count) ≡ false → (r .code ≡ 2 → row .sort ≡ 1)
-      → ((r .code ≡ 2 → ⊥) → row .sort ≡ 0) → Sound (withNew b (openedRow (r .code) (r .account)))
+      → ((r .code ≡ 2 → ⊥) → row .sort ≡ 0) → SoundRows (withNew b (openedRow (r .code) (r .account)))
   opens c n tm cm =
       open-sound b (p .sound) (r .code) (r .account) (leb-false _ _ n) c (λ e. (p .account, tm e, p .live)) (λ ne. cm-named (cm ne))
 
-  opens-TM : r .code ≡ 1 → Sound (withNew b (openedRow (r .code) (r .account)))
+  opens-TM : r .code ≡ 1 → SoundRows (withNew b (openedRow (r .code) (r .account)))
   opens-TM e =
       let n : leb 256 (b .count) ≡ false = rw e at (p .number) in
       let h : (not (eqb (row .sort) 0) || false || false) ≡ false = rw e at (p .sort) in
       opens (inl e) n (λ q. absurd (omega arith)) (λ q. eqb-true _ _ (not-false _ (or-fails _ _ (or-fails _ _ h .0) .0)))
 
-  opens-CP : r .code ≡ 3 → Sound (withNew b (openedRow (r .code) (r .account)))
+  opens-CP : r .code ≡ 3 → SoundRows (withNew b (openedRow (r .code) (r .account)))
   opens-CP e =
       let n : leb 256 (b .count) ≡ false = rw e at (p .number) in
       let h : (not (eqb (row .sort) 0) || false || false) ≡ false = rw e at (p .sort) in
       opens (inr (inr e)) n (λ q. absurd (omega arith)) (λ q. eqb-true _ _ (not-false _ (or-fails _ _ (or-fails _ _ h .0) .0)))
 
-  opens-client : r .code ≡ 2 → Sound (withNew b (openedRow (r .code) (r .account)))
+  opens-client : r .code ≡ 2 → SoundRows (withNew b (openedRow (r .code) (r .account)))
   opens-client e =
       let n : leb 256 (b .count) ≡ false = rw e at (p .number) in
       let h : (not (eqb (row .sort) 1) || false) ≡ false = rw e at (p .sort) in
       opens (inr (inl e)) n (λ q. eqb-true _ _ (not-false _ (or-fails _ _ h .0))) (λ q. absurd (q e))
 
-  putting : isOpening r ≡ false → Sound (withRow b (r .account) (amended row r)) → Sound (rowsAfter b r (effectOf row (r .account) r))
+  putting : isOpening r ≡ false → SoundRows (withRow b (r .account) (amended row r)) → SoundRows (rowsAfter b r (effectOf row (r .account) r))
   putting e s = rw (pick-no (isOpening r) (Open (openedRow (r .code) (r .account))) (Put (amended row r)) e) s
 
-  opening : isOpening r ≡ true → Sound (withNew b (openedRow (r .code) (r .account))) → Sound (rowsAfter b r (effectOf row (r .account) r))
+  opening : isOpening r ≡ true → SoundRows (withNew b (openedRow (r .code) (r .account))) → SoundRows (rowsAfter b r (effectOf row (r .account) r))
   opening e s = rw (pick-yes (isOpening r) (Open (openedRow (r .code) (r .account))) (Put (amended row r)) e) s
 
-  pub passing-sound : Sound (rowsAfter b r (effectOf row (r .account) r))
+  pub passing-sound : SoundRows (rowsAfter b r (effectOf row (r .account) r))
   passing-sound = by (which (r .code) (p .good .known))
     where
-      by : Code (r .code) → Sound (rowsAfter b r (effectOf row (r .account) r))
+      by : Code (r .code) → SoundRows (rowsAfter b r (effectOf row (r .account) r))
       by (openTM e) = opening (rw e) (opens-TM e)
       by (openClient e) = opening (rw e) (opens-client e)
       by (openCP e) = opening (rw e) (opens-CP e)
@@ -161,21 +162,35 @@ module _ (b : Book) (r : Record) (p : Passes b r) where
       by (margin e) = putting (rw e) (sets-margin e)
       by (retire e) = putting (rw e) (retires e)
 
--- a change leaves a sound book where the rows after it are sound
-moved-sound : (b : Book) (r : Record) (c : Change) → Sound b → Sound (rowsAfter b r c) → Sound (bookAfter b (r .account) c)
+-- a change leaves sound rows where those after it are
+moved-rows : (b : Book) (r : Record) (c : Change) → SoundRows b → SoundRows (rowsAfter b r c) → SoundRows (changedBy b (r .account) c)
 unfolding pick
-moved-sound b r (Refuse n) s t = by (leb n 3)
+moved-rows b r (Refuse n) s t = by (leb n 3)
+  where
+    by : (t : Bool) → SoundRows (pick t b (movedOn b))
+    by true = s
+    by false = serial-rows b (nextSerial (b .serial)) s
+moved-rows b r (Put x) s t = serial-rows (withRow b (r .account) x) (nextSerial (b .serial)) t
+moved-rows b r (Open x) s t = serial-rows (withNew b x) (nextSerial (b .serial)) t
+
+pub change-rows : (b : Book) (r : Record) → Sound b → SoundRows (changedBy b (r .account) (changeOf b r))
+unfolding changeOf
+change-rows b r s = moved-rows b r (changeOf b r) (sound-rows b s) (by (refusalOf b r) refl)
+  where
+    by : (n : ℕ) → refusalOf b r ≡ n → SoundRows (rowsAfter b r (unlessRefused n (effectOf (namedRow b r) (placeOf b (r .account)) r) Refuse))
+    by zero e = passing-sound b r (passes-all b r e)
+    by (suc n) e = sound-rows b s
+
+-- after a refusal the modes are as they were, and after a record carried out they were looked at
+looked-sound : (b : Book) (place : ℕ) (c : Change) → Sound b → SoundRows (changedBy b place c) → Sound (bookAfter b place c)
+unfolding pick
+looked-sound b place (Refuse n) s t = by (leb n 3)
   where
     by : (t : Bool) → Sound (pick t b (movedOn b))
     by true = s
     by false = serial-sound b (nextSerial (b .serial)) s
-moved-sound b r (Put x) s t = serial-sound (withRow b (r .account) x) (nextSerial (b .serial)) t
-moved-sound b r (Open x) s t = serial-sound (withNew b x) (nextSerial (b .serial)) t
+looked-sound b place (Put x) s t = settled-sound (changedBy b place (Put x)) t
+looked-sound b place (Open x) s t = settled-sound (changedBy b place (Open x)) t
 
 pub change-sound : (b : Book) (r : Record) → Sound b → Sound (bookAfter b (r .account) (changeOf b r))
-unfolding changeOf
-change-sound b r s = moved-sound b r (changeOf b r) s (by (refusalOf b r) refl)
-  where
-    by : (n : ℕ) → refusalOf b r ≡ n → Sound (rowsAfter b r (unlessRefused n (effectOf (namedRow b r) (placeOf b (r .account)) r) Refuse))
-    by zero e = passing-sound b r (passes-all b r e)
-    by (suc n) e = s
+change-sound b r s = looked-sound b (r .account) (changeOf b r) s (change-rows b r s)

@@ -12,7 +12,10 @@ ghost use Rattle.records.specs.Inner.{tellOf};
 ghost use Rattle.run.specs.Over.{overRan};
 use records::Closing;
 use records::go;
+use steps::At;
 use table::Table;
+use table::modes::look_all;
+use table::needs::unders;
 
 // The table after the records, the place reached, why they stopped, and the two counts.
 pub struct Ended {
@@ -33,32 +36,43 @@ fn run(t: Table, piece: &[u8], most: u64, room: &mut [u16], tell: bool) -> Ended
     let mut live = t.live;
     let mut tm = t.tm;
     let mut amounts = t.amounts;
+    let was = t.modes;
     table::sizes(sort, live, tm, amounts);
+    table::modes::size(was);
     let count = t.count;
-    let serial = t.serial;
-    let mut under = table::needs::unders(&sort, &tm, &amounts, count);
+    let mut under = unders(&sort, &tm, &amounts, count, false);
+    let mut used = unders(&sort, &tm, &amounts, count, true);
+    let mut modes = look_all(&sort, &tm, &amounts, count, &used, &was);
+    let first = At {
+        count,
+        serial: t.serial,
+        waiting: true,
+    };
     let went = go(
         &mut sort,
         &mut live,
         &mut tm,
         &mut amounts,
+        &mut modes,
         &mut under,
-        count,
-        serial,
+        &mut used,
+        &was,
+        first,
         piece,
         most,
         room,
         tell,
     );
-    table::sizes(sort, live, tm, amounts);
     let closing = went.closing;
+    let at = went.at;
     let table = Table {
-        count: went.count,
-        serial: went.serial,
+        count: at.count,
+        serial: at.serial,
         sort,
         live,
         tm,
         amounts,
+        modes: steps::modes_of(was, modes, at.waiting),
     };
     Ended {
         table,

@@ -16,11 +16,12 @@ use Rattle.sums.proofs.Choices.{refused-by, and-split, and-join, clash, pick-ye
 use Rattle.sums.proofs.Tables.{first-some, first-none, first-fails, first-clear}
 use Rattle.rows.specs.declared.Row.{Row}
 use Rattle.rows.specs.declared.Book.{Book}
-use Rattle.rows.specs.Rows.{rowAt, accountOf, openedRow, hasLiveClient, isLiveClientOf}
+use Rattle.rows.specs.Rows.{rowAt, accountOf, openedRow, withModes, hasLiveClient, isLiveClientOf}
 use Rattle.rows.specs.Inner.{Slot}
 use Rattle.rows.specs.Under.{underTM, underCM}
 use Rattle.book.specs.Facts.{Sound}
 use Rattle.book.proofs.LiveClients.{no-TM-none-live}
+use Rattle.book.proofs.Settled.{all-off}
 use Rattle.book.proofs.SoundRanges.{sound-ranges}
 use Rattle.book.proofs.UnderMost.{under-most}
 use Rattle.dayfile.specs.declared.Record.{Record}
@@ -30,16 +31,16 @@ use Rattle.rules.specs.declared.Seen.{Seen}
 use Rattle.rules.specs.declared.Change.{Change}
 use Rattle.rules.specs.declared.Change.the-variants.{Refuse, Put, Open}
 use Rattle.rules.specs.Refusals.{isOpening, namedRow, refusalOf}
-use Rattle.rules.specs.Effects.{amended, effectOf, changeOf, bookAfter, nextSerial}
+use Rattle.rules.specs.Effects.{amended, effectOf, changeOf, movedOn, changedBy, nextSerial}
 use Rattle.rules.specs.Inner.{SeenOf, refusalBy, seenWith}
 use Rattle.rules.proofs.Faults.{amounts-in}
 use Rattle.rules.proofs.WhatIsSeen.{toSee, refusal-seen}
-use Rattle.rules.proofs.SoundChange.{change-sound}
+use Rattle.rules.proofs.SoundChange.{change-rows}
 use Rattle.rules.proofs.Kept.{sees-kept, put-keeps, open-keeps}
 use Rattle.table.specs.Words.{Marks, rowIn, bookFrom}
 use Rattle.table.proofs.Gathered.{row-in}
 use Rattle.table.specs.Inner.{Anew}
-use Rattle.steps.specs.Steps.{Ready, Stepped, stayed, wentOn, goneWith}
+use Rattle.steps.specs.Steps.{Ready, Decided, stayed, wentOn, goneWith}
 use Rattle.steps.specs.Own.{before8, earlyNumber, aliveIn, from8, clientIn, tiedIn, seenIn, Held, Answered, Opens, Amending}
 use Rattle.steps.proofs.Lines.{open-own}
 
@@ -60,7 +61,7 @@ not-opening n e f = by (decLt 3 n)
     by (no l) = clash (and-join (and-split (leb 1 n) (leb n 11) e .0) (le-leb n 3 (omega arith))) f
 
 serial-picked : (count serial : ℕ) (m : Marks) (w : List ℕ) (t : Bool)
-    → bookFrom count (pick t serial (nextSerial serial)) m w ≡ pick t (bookFrom count serial m w) (bookFrom count (nextSerial serial) m w)
+    → bookFrom count (pick t serial (nextSerial serial)) m w [] ≡ pick t (bookFrom count serial m w []) (bookFrom count (nextSerial serial) m w [])
 unfolding pick
 serial-picked count serial m w true = refl
 serial-picked count serial m w false = refl
@@ -72,9 +73,20 @@ opening-not r l = rw (lt-leb (r .code) 3 l) (and-none (leb 1 (r .code)))
     and-none true = refl
     and-none false = refl
 
+-- a change before the look leaves the modes
+unmoded : (b : Book) (place : ℕ) (c : Change) → withModes (changedBy b place c) (b .modes) ≡ changedBy b place c
+unfolding pick
+unmoded b place (Refuse n) = by (leb n 3)
+  where
+    by : (t : Bool) → withModes (pick t b (movedOn b)) (b .modes) ≡ pick t b (movedOn b)
+    by true = refl
+    by false = refl
+unmoded b place (Put x) = refl
+unmoded b place (Open x) = refl
+
 module _ (count serial : ℕ) (m : Marks) (w under : List ℕ) (h : Ready count serial m w under) (r : Record) where
   abbrev b : Book
-  b = bookFrom count serial m w
+  b = bookFrom count serial m w []
 
   abbrev i : ℕ
   i = r .account
@@ -200,10 +212,11 @@ module _ (count serial : ℕ) (m : Marks) (w under : List ℕ) (h : Ready count 
   unfolding changeOf
   change-is k e = ap (λ q. unlessRefused q (effectOf (namedRow b r) (r .account) r) Refuse) e
 
-  after : (c : Change) → changeOf b r ≡ c → Sound (bookAfter b (r .account) c)
-  after c e = rw e at (change-sound b r (h .sound))
+  -- no mode is on before the look
+  after : (c : Change) → changeOf b r ≡ c → Sound (changedBy b (r .account) c)
+  after c e = rw (← (unmoded b (r .account) c)) (all-off (changedBy b (r .account) c) (rw e at (change-rows b r (h .sound))))
 
-  pub refused-at : (k : ℕ) (o : Bool) → refusalOf b r ≡ k → (k ≡ 0 → ⊥) → Stepped count serial m w r (goneWith k o count serial) m w under
+  pub refused-at : (k : ℕ) (o : Bool) → refusalOf b r ≡ k → (k ≡ 0 → ⊥) → Decided count serial m w r (goneWith k o count serial) m w under
   refused-at k o er ne = rw (pick-no (eqb k 0) (wentOn o count serial) (stayed k count serial) (ne-eqb k 0 ne)) (record {
     refusal = rw e;
     given = rw e;
@@ -215,17 +228,17 @@ module _ (count serial : ℕ) (m : Marks) (w under : List ℕ) (h : Ready count 
       e : changeOf b r ≡ Refuse k
       e = change-is k er ∙ sym (refused-by k _ Refuse ne)
 
-      same : bookFrom count (pick (leb k 3) serial (nextSerial serial)) m w ≡ bookAfter b (r .account) (Refuse k)
+      same : bookFrom count (pick (leb k 3) serial (nextSerial serial)) m w [] ≡ changedBy b (r .account) (Refuse k)
       same = serial-picked count serial m w (leb k 3)
 
   -- a row put anew, whose new account is settled with
   put-at : (x : Row) (n : Marks) (u v : List ℕ) (p : ℕ) → changeOf b r ≡ Put x → Slot (namedRow b r .tm) p → Anew m w (r .account) x n u
       → v ≡ set (set under p (underTM (accountOf (namedRow b r)) (accountOf x) (getD under p 0))) 0
       (underCM (accountOf (namedRow b r)) (accountOf x) (getD under (r .account) 0) (accountOf (rowAt b p)) (getD under p 0) (getD under 0 0))
-      → Stepped count serial m w r (wentOn false count serial) n u v
+      → Decided count serial m w r (wentOn false count serial) n u v
   unfolding pick
   put-at x n u v p e sl a ev =
-      let same = ap {B = Book} (λ q. record { count = count; serial = nextSerial serial; rows = q }) (a .rows) in
+      let same = ap {B = Book} (λ q. record { count = count; serial = nextSerial serial; rows = q; modes = [] }) (a .rows) in
       record {
         refusal = rw e;
         given = rw e;
@@ -234,14 +247,14 @@ module _ (count serial : ℕ) (m : Marks) (w under : List ℕ) (h : Ready count 
         ready = record {
           size = a .size;
           sound = rw same (after (Put x) e);
-          kept = rw (a .rows, ev) (put-keeps b r x (h .sound) e under (h .kept) p sl);
+          kept = rw (a .rows, ev) (put-keeps b r x (h .sound) e false under (h .kept) p sl);
         };
       }
 
-  open-at : (x : Row) (n : Marks) (u : List ℕ) → changeOf b r ≡ Open x → Anew m w count x n u → Stepped count serial m w r (wentOn true count serial) n u under
+  open-at : (x : Row) (n : Marks) (u : List ℕ) → changeOf b r ≡ Open x → Anew m w count x n u → Decided count serial m w r (wentOn true count serial) n u under
   unfolding pick
   open-at x n u e a =
-      let same = ap {B = Book} (λ q. record { count = count + 1; serial = nextSerial serial; rows = q }) (a .rows) in
+      let same = ap {B = Book} (λ q. record { count = count + 1; serial = nextSerial serial; rows = q; modes = [] }) (a .rows) in
       record {
         refusal = rw e;
         given = rw e;
@@ -250,7 +263,7 @@ module _ (count serial : ℕ) (m : Marks) (w under : List ℕ) (h : Ready count 
         ready = record {
           size = a .size;
           sound = rw same (after (Open x) e);
-          kept = rw (a .rows) (open-keeps b r x (h .sound) e under (h .kept));
+          kept = rw (a .rows) (open-keeps b r x (h .sound) e false under (h .kept));
         };
       }
 
@@ -261,20 +274,20 @@ module _ (count serial : ℕ) (m : Marks) (w under : List ℕ) (h : Ready count 
         → Anew m w (r .account) (amended row r) n u
         → v ≡ set (set under (row .tm) (underTM (accountOf row) (accountOf (amended row r)) (getD under (row .tm) 0))) 0
         (underCM (accountOf row) (accountOf (amended row r)) (getD under (r .account) 0) (accountOf its) (getD under (row .tm) 0) (getD under 0 0))
-        → Stepped count serial m w r (wentOn false count serial) n u v
+        → Decided count serial m w r (wentOn false count serial) n u v
     puts-by row its er ei l n u v e a ev =
         put-at (amended row r) n u v (row .tm) e (record { inside = l; named = λ o. sym (ap (λ x. x .tm) er) }) a
         (ev ∙ rw (er, ei))
 
     pub amends-at : isOpening r ≡ false → (q : ℕ) (n : Marks) (u v : List ℕ)
         → Answered count m w under r q n u v
-        → Stepped count serial m w r (goneWith q (isOpening r) count serial) n u v
+        → Decided count serial m w r (goneWith q (isOpening r) count serial) n u v
     amends-at o q n u v a = by (ℕ-discrete q 0)
       where
         number : refusalOf b r ≡ q
         number = decided k ek z ∙ sym (a .answers .number)
 
-        by : Dec (q ≡ 0) → Stepped count serial m w r (goneWith q (isOpening r) count serial) n u v
+        by : Dec (q ≡ 0) → Decided count serial m w r (goneWith q (isOpening r) count serial) n u v
         by (yes e) =
             let put : changeOf b r ≡ Put (amended (rowIn m w (r .account)) r) =
             change-is 0 (number ∙ e) ∙ pick-no (isOpening r) _ _ o ∙ ap (λ x. Put (amended x r)) (row-is k ek z) in
@@ -286,13 +299,13 @@ module _ (count serial : ℕ) (m : Marks) (w under : List ℕ) (h : Ready count 
             rw (s .0, s .1, a .owed ∙ pick-no (eqb q 0) _ _ (ne-eqb q 0 e)) (refused-at q (isOpening r) number e)
 
     pub opens-at : isOpening r ≡ true → (q : ℕ) (n : Marks) (u : List ℕ) → Opens m w count (r .code) (r .account) q n u
-        → Stepped count serial m w r (goneWith q (isOpening r) count serial) n u under
+        → Decided count serial m w r (goneWith q (isOpening r) count serial) n u under
     opens-at o q n u a = by (ℕ-discrete q 0)
       where
         number : refusalOf b r ≡ q
         number = decided k ek z ∙ open-own (rowIn m w (r .account)) count (seenIn count m w under r) r (which-opening (r .code) o) ∙ sym (a .number)
 
-        by : Dec (q ≡ 0) → Stepped count serial m w r (goneWith q (isOpening r) count serial) n u under
+        by : Dec (q ≡ 0) → Decided count serial m w r (goneWith q (isOpening r) count serial) n u under
         by (yes e) =
             let made : changeOf b r ≡ Open (openedRow (r .code) (r .account)) = change-is 0 (number ∙ e) ∙ pick-yes (isOpening r) _ _ o in
             rw (pick-yes (eqb q 0) (wentOn (isOpening r) count serial) (stayed q count serial) (eq-eqb q 0 e), o)
@@ -300,9 +313,9 @@ module _ (count serial : ℕ) (m : Marks) (w under : List ℕ) (h : Ready count 
         by (no e) = let s = a .stays e in rw (s .0, s .1) (refused-at q (isOpening r) number e)
 
 -- an opening that is carried out has room
-pub room : (count serial : ℕ) (m : Marks) (w : List ℕ) (r : Record) (k : ℕ) (n : Marks) (u v : List ℕ) → Stepped count serial m w r (goneWith k (isOpening r) count serial) n u v
+pub room : (count serial : ℕ) (m : Marks) (w : List ℕ) (r : Record) (k : ℕ) (n : Marks) (u v : List ℕ) → Decided count serial m w r (goneWith k (isOpening r) count serial) n u v
     → k ≡ 0 → isOpening r ≡ true → count < 256
 unfolding pick
 room count serial m w r k n u v h e o =
-    let g : Stepped count serial m w r (wentOn true count serial) n u v = rw (e, o) at h in
+    let g : Decided count serial m w r (wentOn true count serial) n u v = rw (e, o) at h in
     omega (arith, g .ready .sound .most)

@@ -1,20 +1,46 @@
--- Entering the words of a sound book: what adding up asks of them, and that with the sums beside them a step can be made.
-use mathlib.Core.List.{List}
+-- Entering the arrays of a sound book: what adding up and looking ask of them, and that with the sums and the look beside them a step can be made.
+use mathlib.Core.Bool.{Bool, true}
+use mathlib.Core.List.{List, []}
+use mathlib.Core.Path.{_≡_, sym, ap, subst, _∙_}
 use Prim.Native.Nat.{ℕ}
+use lib.ListN.{length}
+use Rattle.sums.specs.Choice.{pick}
+use Rattle.rows.specs.View.{View}
 use Rattle.rows.specs.Rows.{view}
-use Rattle.rows.specs.Facts.{Shaped}
+use Rattle.rows.specs.Facts.{Shaped, NoneBeyond}
 use Rattle.rows.specs.Under.{Under}
-use Rattle.rows.specs.Inner.{Ranged}
+use Rattle.rows.specs.Modes.{looked}
+use Rattle.rows.specs.Inner.{Ranged, inTenths}
 use Rattle.table.specs.Words.{Marks, bookFrom}
 use Rattle.table.specs.Facts.{Sized, seenBook}
 use Rattle.table.proofs.Seen.{seen-view, seen-ranged}
 use Rattle.book.specs.Facts.{Sound}
 use Rattle.book.proofs.RowTests.{sound-ranged}
-use Rattle.steps.specs.Steps.{Ready}
+use Rattle.book.proofs.Settled.{sound-rows, none-beyond}
+use Rattle.steps.specs.declared.At.{At}
+use Rattle.steps.specs.Steps.{Going}
 
-module _ (count serial : ℕ) (m : Marks) (w : List ℕ) (h : Sound (bookFrom count serial m w)) where
-  pub adds-up : Ranged (seenBook count (m .sort) (m .tm) w) × Shaped (view (seenBook count (m .sort) (m .tm) w))
-  adds-up = (seen-ranged count serial m w (sound-ranged _ h), rw (seen-view count serial m w) (h .shaped))
+module _ (count serial : ℕ) (m : Marks) (w : List ℕ) (modes : List Bool) (h : Sound (bookFrom count serial m w modes)) where
+  abbrev seen : View
+  seen = view (seenBook count (m .sort) (m .tm) w)
 
-  pub ready : (under : List ℕ) → Sized m w → Under (view (seenBook count (m .sort) (m .tm) w)) under → Ready count serial m w under
-  ready under s u = record { size = s; sound = h; kept = rw (seen-view count serial m w) at u }
+  is-seen : seen ≡ view (bookFrom count serial m w modes)
+  is-seen = seen-view count serial m w modes
+
+  pub adds-up : Ranged (seenBook count (m .sort) (m .tm) w) × Shaped seen
+  adds-up = (seen-ranged count serial m w modes (sound-ranged _ h), rw is-seen (h .shaped))
+
+  pub looks-up : (used : List ℕ) → Under (inTenths seen) used → NoneBeyond seen × Under (inTenths seen) used
+  looks-up used u = (subst NoneBeyond (sym is-seen) (none-beyond (bookFrom count serial m w modes) (sound-rows _ h)), u)
+
+  pub enters : Sized m w → length modes ≡ 256 → (under used : List ℕ) (after : List Bool) → Under seen under → Under (inTenths seen) used → after ≡ looked seen modes
+      → Going (record { count = count; serial = serial; waiting = true }) m w modes after under used
+  unfolding pick
+  enters s l under used after u e k = record {
+    size = s;
+    many = l;
+    sound = h;
+    kept = subst (λ v. Under v under) is-seen u;
+    uses = subst (λ v. Under (inTenths v) used) is-seen e;
+    looks = k ∙ ap (λ v. looked v modes) is-seen;
+  }

@@ -3,3 +3,5 @@ pub mod Made
 pub mod ByCode
 pub mod Carried
 pub mod Entering
+pub mod Placing
+pub mod LookedAt

@@ -88,12 +88,20 @@ accountIn m w i = accountOf (rowIn m w i)
 abbrev pub freeIn : Marks → List ℕ → List ℕ → ℕ → ℕ
 freeIn m w under i = freeOf (accountIn m w i .margin + getD under i 0) (accountIn m w i .collateral)
 
--- what is deemed under its TM and under the CM after the account at place i changed from a to x
-abbrev pub owedIn : Marks → List ℕ → List ℕ → ℕ → Account → Account → Owed
-owedIn m w under i a x = record {
+-- a list of what is under each account, nothing of it beyond 256 margins, in tenths
+pub record Borne (under : List ℕ) : Type 0 where
+  pub size : length under ≡ 256
+  pub most : (j : ℕ) → getD under j 0 ≤ 25_600_000_000_000_000
+
+-- what is under its TM and under the CM after the account at place i changed from a to x, where its TM's is given
+abbrev pub owedBy : List ℕ → ℕ → Account → Account → Account → Owed
+owedBy under i a x its = record {
   tm = underTM a x (getD under (a .tm) 0);
-  cm = underCM a x (getD under i 0) (accountIn m w (a .tm)) (getD under (a .tm) 0) (getD under 0 0);
+  cm = underCM a x (getD under i 0) its (getD under (a .tm) 0) (getD under 0 0);
 }
+
+abbrev pub owedIn : Marks → List ℕ → List ℕ → ℕ → Account → Account → Owed
+owedIn m w under i a x = owedBy under i a x (accountIn m w (a .tm))
 
 -- the list brought up to date
 abbrev pub settled : List ℕ → ℕ → Owed → List ℕ

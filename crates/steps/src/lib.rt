@@ -4,7 +4,7 @@ ghost use mathlib.Core.Path.{_≡_};
 ghost use Prim.Native.Nat.{_≤_, _<_};
 ghost use Rattle.rules.specs.Refusals.{isOpening};
 ghost use Rattle.table.specs.Words.{marksFrom};
-ghost use Rattle.steps.specs.Steps.{Ready, Stepped, goneWith};
+ghost use Rattle.steps.specs.Steps.{Ready, Decided, modesIn, atAfter, Going, Stepped, goneWith};
 ghost use Rattle.steps.specs.Own.{aliveIn, earlyNumber, Answered, Amending};
 use codes::allocate;
 use codes::hand_back;
@@ -16,9 +16,19 @@ use codes::retire;
 use codes::set_margin;
 use codes::unpledge;
 use dayfile::Record;
+use looking::look_after;
+use looking::past_of;
 
 mod codes;
+mod looking;
 mod settling;
+
+// Where a book stands: how many accounts it has, the next serial, and whether no record was carried out since it was handed over.
+pub struct At {
+    pub count: u16,
+    pub serial: u16,
+    pub waiting: bool,
+}
 
 // What a record came to: the refusal or 0, the number given or 0, 1 for one carried out, and the count and the serial after it.
 pub struct Gone {
@@ -94,7 +104,7 @@ fn decide(
     r: Record,
 ) -> u8
     requires { ⌜ Ready count serial (marksFrom (now sort) (now live) (now tm)) (now w) (now under) ⌝ }
-    ensures { λ x. ⌜ Stepped count serial (marksFrom (now (sort .entry)) (now (live .entry)) (now (tm .entry))) (now (w .entry)) r (goneWith x (isOpening r) count serial) (marksFrom (now (sort .exit)) (now (live .exit)) (now (tm .exit))) (now (w .exit)) (now (under .exit)) ⌝ }
+    ensures { λ x. ⌜ Decided count serial (marksFrom (now (sort .entry)) (now (live .entry)) (now (tm .entry))) (now (w .entry)) r (goneWith x (isOpening r) count serial) (marksFrom (now (sort .exit)) (now (live .exit)) (now (tm .exit))) (now (w .exit)) (now (under .exit)) ⌝ }
 {
     let n = early(live, count, serial, r);
     if n != 0 {
@@ -138,20 +148,65 @@ fn told(n: u8, opening: bool, count: u16, serial: u16) -> Gone
     }
 }
 
-// One record at the words of a sound book, with what is deemed under each account beside them.
-pub fn step(
+// A record whose code moves no figure: no mode changes beyond what the look before it left.
+fn plain(
     sort: &mut [u8; 256],
     live: &mut [bool; 256],
     tm: &mut [u16; 256],
     w: &mut [u64; 2560],
     under: &mut [u64; 256],
-    count: u16,
-    serial: u16,
+    at: At,
     r: Record,
 ) -> Gone
-    requires { ⌜ Ready count serial (marksFrom (now sort) (now live) (now tm)) (now w) (now under) ⌝ }
-    ensures { λ x. ⌜ Stepped count serial (marksFrom (now (sort .entry)) (now (live .entry)) (now (tm .entry))) (now (w .entry)) r x (marksFrom (now (sort .exit)) (now (live .exit)) (now (tm .exit))) (now (w .exit)) (now (under .exit)) ⌝ }
+    requires { ⌜ Ready (at .count) (at .serial) (marksFrom (now sort) (now live) (now tm)) (now w) (now under) ⌝ }
+    ensures { λ x. ⌜ Decided (at .count) (at .serial) (marksFrom (now (sort .entry)) (now (live .entry)) (now (tm .entry))) (now (w .entry)) r x (marksFrom (now (sort .exit)) (now (live .exit)) (now (tm .exit))) (now (w .exit)) (now (under .exit)) ⌝ }
 {
-    let n = decide(sort, live, tm, w, under, count, serial, r);
-    told(n, (1 <= r.code) & (r.code <= 3), count, serial)
+    let n = decide(sort, live, tm, w, under, at.count, at.serial, r);
+    told(n, (1 <= r.code) & (r.code <= 3), at.count, at.serial)
+}
+
+// One record at the arrays of a sound book. `modes` are those that a look leaves: where a record is carried out they are the book's, and K2's
+// look moves at most three of them.
+pub fn step(
+    sort: &mut [u8; 256],
+    live: &mut [bool; 256],
+    tm: &mut [u16; 256],
+    w: &mut [u64; 2560],
+    modes: &mut [bool; 256],
+    under: &mut [u64; 256],
+    used: &mut [u64; 256],
+    was: &[bool; 256],
+    at: At,
+    r: Record,
+) -> Gone
+    requires { ⌜ Going at (marksFrom (now sort) (now live) (now tm)) (now w) (now was) (now modes) (now under) (now used) ⌝ }
+    ensures { λ x. ⌜ Stepped at (marksFrom (now (sort .entry)) (now (live .entry)) (now (tm .entry))) (now (w .entry)) (now (was .entry)) (now (modes .entry)) r x (marksFrom (now (sort .exit)) (now (live .exit)) (now (tm .exit))) (now (w .exit)) (now (modes .exit)) (now (under .exit)) (now (used .exit)) ⌝ }
+{
+    if (r.code <= 5) | (10 < r.code) {
+        return plain(sort, live, tm, w, under, at, r);
+    }
+    let past = past_of(sort, live, tm, w, r.account);
+    let gone = plain(sort, live, tm, w, under, at, r);
+    if gone.refusal == 0 {
+        look_after(sort, live, tm, w, modes, used, was, at.waiting, past);
+    }
+    gone
+}
+
+// Where the book stands after a record.
+pub fn on(at: At, gone: Gone) -> At
+    ensures { λ x. ⌜ x ≡ atAfter at gone ⌝ }
+{
+    At {
+        count: gone.count,
+        serial: gone.serial,
+        waiting: at.waiting & (gone.carried == 0),
+    }
+}
+
+// The book's modes: those that it was handed over with while no record was carried out, and from then on those that a look left.
+pub fn modes_of(was: [bool; 256], modes: [bool; 256], waiting: bool) -> [bool; 256]
+    ensures { λ x. ⌜ x ≡ modesIn waiting was modes ⌝ }
+{
+    if waiting { was } else { modes }
 }

@@ -5,7 +5,7 @@ ghost use lib.Dec.{ltb};
 ghost use Rattle.rows.specs.Rows.{ceiling};
 ghost use Rattle.rules.specs.Inner.{topMargin};
 ghost use Rattle.table.specs.Words.{marksFrom};
-ghost use Rattle.steps.specs.Own.{owedIn, settled, Held};
+ghost use Rattle.steps.specs.Own.{owedBy, owedIn, settled, Held, Borne};
 use rows::Account;
 use rows::kept::under_cm;
 use rows::kept::under_tm;
@@ -19,7 +19,22 @@ pub struct Owed {
     pub cm: u64,
 }
 
-// After the account at place i changes from old to new.
+// After the account at place i changes from old to new, where its TM's is given.
+pub(crate) fn owes(under: &[u64; 256], i: usize, old: Account, new: Account, its: Account) -> Owed
+    requires { ⌜ Borne (now under) × (i < 256) × (old .tm < 256) × (old .margin ≤ 100_000_000_000_000) × (new .margin ≤ 100_000_000_000_000) × (its .margin ≤ 100_000_000_000_000) ⌝ }
+    ensures { λ x. ⌜ x ≡ owedBy (now (under .entry)) i old new its ⌝ }
+{
+    let t = old.tm as usize;
+    let owed = under[t];
+    let own = under[i];
+    let all = under[0];
+    Owed {
+        tm: under_tm(old, new, owed),
+        cm: under_cm(old, new, own, its, owed, all),
+    }
+}
+
+// The same, its TM's account being read from its place.
 pub(crate) fn owed_after(
     sort: &[u8; 256],
     live: &[bool; 256],
@@ -34,14 +49,8 @@ pub(crate) fn owed_after(
     ensures { λ x. ⌜ x ≡ owedIn (marksFrom (now (sort .entry)) (now (live .entry)) (now (tm .entry))) (now (w .entry)) (now (under .entry)) i old new ⌝ }
 {
     let t = old.tm as usize;
-    let member = account_of(row_at(sort, live, tm, w, t));
-    let owed = under[t];
-    let own = under[i];
-    let all = under[0];
-    Owed {
-        tm: under_tm(old, new, owed),
-        cm: under_cm(old, new, own, member, owed, all),
-    }
+    let its = account_of(row_at(sort, live, tm, w, t));
+    owes(under, i, old, new, its)
 }
 
 pub(crate) fn put_owed(under: &mut [u64; 256], t: usize, x: Owed)

@@ -4,7 +4,7 @@ use mathlib.Core.List.{List, [], _∷_, _++_}
 use Prim.Native.Nat.{ℕ, zero, suc, _+_, _<_}
 use native.Mathlib.Omega.{arith}
 use native.Mathlib.Decide.{ℕ-discrete}
-use lib.ListN.{length, getD, set, length-append, length-set, List·getD-append}
+use lib.ListN.{length, getD, set, replicate, length-append, length-set, List·getD-append}
 use lib.Seq.{ext-getD, getD-at, getD-set-same, getD-set-other}
 use Rattle.sums.specs.Listed.{listTo}
 
@@ -34,14 +34,39 @@ module _ {A : Type 0} where
   listTo-eq f g zero h = refl
   listTo-eq f g (suc n) h = let e = listTo-eq f g n (λ i l. h i (omega arith)) in let q = h n (omega arith) in rw (e, q)
 
+  -- place i put as g has it
+  put-as : (g : ℕ → A) (d : A) (xs : List A) (i j : ℕ) → i < length xs → ((j ≡ i → ⊥) → getD xs j d ≡ g j) → getD (set xs i (g i)) j d ≡ g j
+  put-as g d xs i j l h = by (ℕ-discrete j i)
+    where
+      by : Dec (j ≡ i) → getD (set xs i (g i)) j d ≡ g j
+      by (yes e) = rw e (getD-set-same xs i (g i) d l)
+      by (no e) = getD-set-other xs i j (g i) d e ∙ h e
+
   -- one place put anew, where f and g differ at that place alone
   pub listTo-set : (f g : ℕ → A) (n i : ℕ) → i < n → ((j : ℕ) → j < n → (j ≡ i → ⊥) → g j ≡ f j) → listTo g n ≡ set (listTo f n) i (g i)
   listTo-set f g n i l h =
-      list-is g n (g i) (set (listTo f n) i (g i)) (length-set (listTo f n) i (g i) ∙ length-listTo f n) (λ j m. by j m (ℕ-discrete j i))
+      list-is g n (g i) (set (listTo f n) i (g i)) (length-set (listTo f n) i (g i) ∙ length-listTo f n)
+      (λ j m. put-as g (g i) (listTo f n) i j (omega (arith, length-listTo f n)) (λ e. at-listTo f n j (g i) m ∙ sym (h j m e)))
+
+  -- three places, where they differ at these alone
+  pub listTo-three : (f g : ℕ → A) (n i k p : ℕ) → i < n → k < n → p < n
+      → ((j : ℕ) → j < n → (j ≡ i → ⊥) → (j ≡ k → ⊥) → (j ≡ p → ⊥) → g j ≡ f j) → listTo g n ≡ set (set (set (listTo f n) i (g i)) k (g k)) p (g p)
+  listTo-three f g n i k p li lk lp h =
+      list-is g n (g p) (set two p (g p)) (length-set two p (g p) ∙ size-two)
+      (λ j m. put-as g (g p) two p j (omega (arith, size-two)) (λ e. put-as g (g p) one k j (omega (arith, size-one))
+      (λ e′. put-as g (g p) (listTo f n) i j (omega (arith, length-listTo f n)) (λ e″. at-listTo f n j (g p) m ∙ sym (h j m e″ e′ e)))))
     where
-      by : (j : ℕ) → j < n → Dec (j ≡ i) → getD (set (listTo f n) i (g i)) j (g i) ≡ g j
-      by j m (yes e) = rw e (getD-set-same (listTo f n) i (g i) (g i) (omega (arith, length-listTo f n)))
-      by j m (no e) = getD-set-other (listTo f n) i j (g i) (g i) e ∙ at-listTo f n j (g i) m ∙ sym (h j m e)
+      one : List A
+      one = set (listTo f n) i (g i)
+
+      two : List A
+      two = set one k (g k)
+
+      size-one : length one ≡ n
+      size-one = length-set (listTo f n) i (g i) ∙ length-listTo f n
+
+      size-two : length two ≡ n
+      size-two = length-set one k (g k) ∙ size-one
 
   -- a list filled from the start on, one place more
   pub filled-step : (f : ℕ → A) (xs : List A) (d : A) (i : ℕ) (x : A) → i < length xs → ((j : ℕ) → j < i → getD xs j d ≡ f j) → x ≡ f i
@@ -51,3 +76,9 @@ module _ {A : Type 0} where
       by : Dec (j ≡ i) → getD (set xs i x) j d ≡ f j
       by (yes q) = rw q (getD-set-same xs i x d l ∙ e)
       by (no q) = getD-set-other xs i j x d q ∙ h j (omega arith)
+
+  -- every place of n times a is a, and so is the default
+  pub getD-same : (n i : ℕ) (a : A) → getD (replicate n a) i a ≡ a
+  getD-same zero i a = refl
+  getD-same (suc n) zero a = refl
+  getD-same (suc n) (suc i) a = getD-same n i a

@@ -1,10 +1,12 @@
 -- Laws of sums and of tests over the numbers below a bound.
-use mathlib.Core.Path.{_≡_, refl, sym}
+use mathlib.Core.Path.{_≡_, refl, sym, ap}
 use mathlib.Core.Bool.{Bool, true, false, _&&_, _||_}
 use Prim.Native.Nat.{ℕ, zero, suc, _+_, _-_, _*_, _≤_, _<_}
 use native.Mathlib.Omega.{arith}
 use native.Mathlib.Numerals.{add-one}
-use native.Mathlib.Decide.{ℕ-discrete}
+use native.Mathlib.Decide.{ℕ-discrete, decLt}
+use lib.Dec.{eqb}
+use borrow.Author.Tests.{ne-eqb}
 use Rattle.sums.specs.Sum.{sum, only, all, any}
 use Rattle.sums.proofs.Choices.{and-split, and-join, or-fails}
 
@@ -65,6 +67,19 @@ pub sum-single : (n : ℕ) (f : ℕ → ℕ) (k : ℕ) → k < n → ((i : ℕ) 
 sum-single n f k l h =
     omega (arith, sum-one n f (λ i. 0) k l h, sum-zero n (λ i. 0) (λ i m. refl))
 
+pub only-most : (t : Bool) (x : ℕ) → only t x ≤ x
+only-most true x = omega arith
+only-most false x = omega arith
+
+-- a term that stands at one place at most
+pub sum-once : (n k x : ℕ) → sum n (λ t. only (eqb k t) x) ≤ x
+sum-once n k x = by (decLt k n)
+  where
+    by : Dec (k < n) → sum n (λ t. only (eqb k t) x) ≤ x
+    by (yes l) =
+        omega (arith, sum-single n (λ t. only (eqb k t) x) k l (λ t m ne. ap (λ b. only b x) (ne-eqb k t (λ e. ne (sym e)))), only-most (eqb k k) x)
+    by (no l) = omega (arith, sum-zero n (λ t. only (eqb k t) x) (λ t m. ap (λ b. only b x) (ne-eqb k t (λ e. omega arith))))
+
 pub sum-only : (n : ℕ) (b : Bool) (f : ℕ → ℕ) → sum n (λ i. only b (f i)) ≡ only b (sum n f)
 sum-only n true f = refl
 sum-only n false f = sum-zero n (λ i. 0) (λ i m. refl)
@@ -83,10 +98,6 @@ waterfall (suc n) w r = omega (arith, waterfall n w r)
 pub only-le : (t : Bool) {x y : ℕ} → (t ≡ true → x ≤ y) → only t x ≤ only t y
 only-le true h = h refl
 only-le false h = omega arith
-
-pub only-most : (t : Bool) (x : ℕ) → only t x ≤ x
-only-most true x = omega arith
-only-most false x = omega arith
 
 pub only-zero : (t : Bool) (x : ℕ) → (t ≡ true → x ≡ 0) → only t x ≡ 0
 only-zero true x h = h refl
@@ -118,6 +129,11 @@ pub all-from : (n : ℕ) (p : ℕ → Bool) → ((i : ℕ) → i < n → p i ≡
 unfolding all
 all-from zero p h = refl
 all-from (suc n) p h = and-join (all-from n p (λ i l. h i (omega arith))) (h n (omega arith))
+
+pub all-eq : (n : ℕ) (p q : ℕ → Bool) → ((i : ℕ) → i < n → p i ≡ q i) → all n p ≡ all n q
+unfolding all
+all-eq zero p q h = refl
+all-eq (suc n) p q h = let e = all-eq n p q (λ i l. h i (omega arith)) in let f = h n (omega arith) in rw (e, f)
 
 pub any-none : (p : ℕ → Bool) → any 0 p ≡ false
 unfolding any

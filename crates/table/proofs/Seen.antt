@@ -1,4 +1,5 @@
--- Needs look at neither the serial nor who is live: what they see of the words is what they see of the book.
+-- Needs look neither at the serial nor at who is live or in the mode: what they see of the words is what they see of the book.
+use mathlib.Core.Bool.{Bool}
 use mathlib.Core.List.{List, []}
 use mathlib.Core.Path.{_≡_, ap, sym, _∙_}
 use Prim.Native.Nat.{ℕ, _<_}
@@ -13,12 +14,12 @@ use Rattle.table.specs.Words.{Marks, marksFrom, bookFrom}
 use Rattle.table.specs.Facts.{seenBook}
 use Rattle.table.proofs.Gathered.{rows-length, row-in}
 
-module _ (count serial : ℕ) (m : Marks) (w : List ℕ) where
+module _ (count serial : ℕ) (m : Marks) (w : List ℕ) (modes : List Bool) where
   abbrev seen : Book
   seen = seenBook count (m .sort) (m .tm) w
 
   abbrev whole : Book
-  whole = bookFrom count serial m w
+  whole = bookFrom count serial m w modes
 
   abbrev marks : Marks
   marks = marksFrom (m .sort) [] (m .tm)

@@ -18,7 +18,7 @@ use Rattle.table.proofs.Gathered.{row-in, row-eq, word-in}
 pub over-and-back : (b : Book) → length (b .rows) ≡ 256 → turnedBack (turned b) ≡ b
 unfolding rowsOf turned
 over-and-back b e =
-    ap (λ l. record { count = b .count; serial = b .serial; rows = l })
+    ap (λ l. record { count = b .count; serial = b .serial; rows = l; modes = b .modes })
     (list-is (rowIn (marksOf (turned b)) (turned b .amounts)) 256 noRow (b .rows) e (λ i l. sym (row i l)))
   where
     word : (k i : ℕ) → k < 10 → i < 256 → wordAt (turned b .amounts) k i ≡ amountOf (rowAt b i) k
@@ -41,6 +41,7 @@ back-and-over t h =
       sort = column (λ r. r .sort) (t .sort) 0 (h .sorts) (λ i. refl) j;
       live = column (λ r. r .live) (t .live) false (h .lives) (λ i. refl) j;
       tm = column (λ r. r .tm) (t .tm) 0 (h .tms) (λ i. refl) j;
+      modes = t .modes;
       amounts = list-is _ 2560 0 (t .amounts) (h .words) (λ n l. sym (word n l)) j;
     }
   where

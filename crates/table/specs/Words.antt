@@ -56,13 +56,14 @@ turned b = record {
   sort = listTo (λ i. rowAt b i .sort) 256;
   live = listTo (λ i. rowAt b i .live) 256;
   tm = listTo (λ i. rowAt b i .tm) 256;
+  modes = b .modes;
   amounts = listTo (λ n. amountOf (rowAt b (n % 256)) (n / 256)) 2560;
 }
 
--- "the old order": the book that the words are
-abbrev pub bookFrom : ℕ → ℕ → Marks → List ℕ → Book
-bookFrom count serial m w = record { count = count; serial = serial; rows = rowsOf m w }
+-- "the old order": the book that the words and the modes are
+abbrev pub bookFrom : ℕ → ℕ → Marks → List ℕ → List Bool → Book
+bookFrom count serial m w modes = record { count = count; serial = serial; rows = rowsOf m w; modes = modes }
 
 -- "and back": the table as a book of the old order
 abbrev pub turnedBack : Table → Book
-turnedBack t = bookFrom (t .count) (t .serial) (marksOf t) (t .amounts)
+turnedBack t = bookFrom (t .count) (t .serial) (marksOf t) (t .amounts) (t .modes)

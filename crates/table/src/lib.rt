@@ -9,16 +9,18 @@ use rows::Book;
 use rows::Row;
 
 pub mod evening;
+pub mod modes;
 pub mod needs;
 pub mod places;
 
-// Amount k of account i is word 256 k + i: 0 to 3 received, 4 to 7 allocated, 8 pledged, 9 margin.
+// Amount k of account i is word 256 k + i: 0 to 3 received, 4 to 7 allocated, 8 pledged, 9 margin. The modes stand as in the old order.
 pub struct Table {
     pub count: u16,
     pub serial: u16,
     pub sort: [u8; 256],
     pub live: [bool; 256],
     pub tm: [u16; 256],
+    pub modes: [bool; 256],
     pub amounts: [u64; 2560],
 }
 
@@ -50,12 +52,14 @@ pub fn turn(b: Book) -> Table
         put_row(&mut sort, &mut live, &mut tm, &mut amounts, i, r);
         i += 1;
     }
+    let modes = b.modes;
     Table {
         count: b.count,
         serial: b.serial,
         sort,
         live,
         tm,
+        modes,
         amounts,
     }
 }
@@ -64,9 +68,11 @@ pub fn turn_back(t: Table) -> Book
     ensures { λ x. ⌜ x ≡ turnedBack t ⌝ }
 {
     let table = rows_of(&t.sort, &t.live, &t.tm, &t.amounts);
+    let modes = t.modes;
     Book {
         count: t.count,
         serial: t.serial,
         rows: table,
+        modes,
     }
 }

@@ -1,16 +1,18 @@
-// Needs, in two rising passes over the words in their places: what each TM's clients are deemed, then what the TMs and CPs are.
+// Needs, in two rising passes over the words in their places: what each TM's clients are deemed, then what the TMs and CPs are. In tenths
+// the same passes give K2's uses.
 ghost use mathlib.Core.Path.{_≡_};
 ghost use Prim.Native.Nat.{_<_};
 ghost use Rattle.rows.specs.View.{needCM, need};
 ghost use Rattle.rows.specs.Rows.{rowAt, accountOf, view};
 ghost use Rattle.rows.specs.Facts.{Shaped, InRange};
 ghost use Rattle.rows.specs.Under.{Under};
-ghost use Rattle.rows.specs.Inner.{Ranged, ClientSums, membersBelow};
+ghost use Rattle.rows.specs.Inner.{Ranged, ClientSums, membersBelow, accountAs, viewAs};
 ghost use Rattle.table.specs.Facts.{seenBook};
 use super::places::kinds_at;
 use super::places::word_at;
 use rows::Account;
 use rows::needs::client_due;
+use rows::needs::in_tenths;
 use rows::needs::member_due;
 use rows::needs::slot;
 use rows::needs::zeros;
@@ -34,21 +36,37 @@ pub fn account_at<'a>(
     }
 }
 
+// The same, in tenths or as it is.
+fn account_as<'a>(
+    sort: &'a [u8; 256],
+    tm: &'a [u16; 256],
+    w: &'a [u64; 2560],
+    i: usize,
+    tenths: bool,
+) -> Account
+    requires { ⌜ (i < 256) × InRange (rowAt (seenBook 0 (now sort) (now tm) (now w)) i) ⌝ }
+    ensures { λ x. ⌜ x ≡ accountAs tenths (accountOf (rowAt (seenBook 0 (now (sort .entry)) (now (tm .entry)) (now (w .entry))) i)) ⌝ }
+{
+    let a = account_at(sort, tm, w, i);
+    if tenths { in_tenths(a) } else { a }
+}
+
 // What each account's clients are deemed, together.
 fn client_sums<'a>(
     sort: &'a [u8; 256],
     tm: &'a [u16; 256],
     w: &'a [u64; 2560],
     count: u16,
+    tenths: bool,
 ) -> [u64; 256]
     requires { ⌜ Ranged (seenBook count (now sort) (now tm) (now w)) ⌝ }
-    ensures { λ x. ⌜ ClientSums (view (seenBook count (now (sort .entry)) (now (tm .entry)) (now (w .entry)))) x ⌝ }
+    ensures { λ x. ⌜ ClientSums (viewAs tenths (view (seenBook count (now (sort .entry)) (now (tm .entry)) (now (w .entry))))) x ⌝ }
 {
     let mut owed = zeros();
     let n = count as usize;
     let mut i: usize = 0;
     while i < n {
-        let a = account_at(sort, tm, w, i);
+        let a = account_as(sort, tm, w, i, tenths);
         let t = slot(a.tm);
         let d = client_due(a);
         owed[t] = owed[t] + d;
@@ -63,34 +81,36 @@ fn members_sum<'a>(
     tm: &'a [u16; 256],
     w: &'a [u64; 2560],
     count: u16,
+    tenths: bool,
     owed: [u64; 256],
 ) -> u64
-    requires { ⌜ Ranged (seenBook count (now sort) (now tm) (now w)) × ClientSums (view (seenBook count (now sort) (now tm) (now w))) owed ⌝ }
-    ensures { λ x. ⌜ x ≡ membersBelow (view (seenBook count (now (sort .entry)) (now (tm .entry)) (now (w .entry)))) count ⌝ }
+    requires { ⌜ Ranged (seenBook count (now sort) (now tm) (now w)) × ClientSums (viewAs tenths (view (seenBook count (now sort) (now tm) (now w)))) owed ⌝ }
+    ensures { λ x. ⌜ x ≡ membersBelow (viewAs tenths (view (seenBook count (now (sort .entry)) (now (tm .entry)) (now (w .entry))))) count ⌝ }
 {
     let mut sum: u64 = 0;
     let n = count as usize;
     let mut i: usize = 0;
     while i < n {
-        let a = account_at(sort, tm, w, i);
+        let a = account_as(sort, tm, w, i, tenths);
         sum += member_due(a, owed[i]);
         i += 1;
     }
     sum
 }
 
-// What is deemed directly under each account: at the CM's place what the TMs and CPs are, at any other what its clients are.
+// What is deemed directly under each account, or in tenths its excess: at the CM's place that of the TMs and CPs, at any other that of its clients.
 pub fn unders<'a>(
     sort: &'a [u8; 256],
     tm: &'a [u16; 256],
     w: &'a [u64; 2560],
     count: u16,
+    tenths: bool,
 ) -> [u64; 256]
     requires { ⌜ Ranged (seenBook count (now sort) (now tm) (now w)) × Shaped (view (seenBook count (now sort) (now tm) (now w))) ⌝ }
-    ensures { λ x. ⌜ Under (view (seenBook count (now (sort .entry)) (now (tm .entry)) (now (w .entry)))) x ⌝ }
+    ensures { λ x. ⌜ Under (viewAs tenths (view (seenBook count (now (sort .entry)) (now (tm .entry)) (now (w .entry))))) x ⌝ }
 {
-    let mut owed = client_sums(sort, tm, w, count);
-    let all = members_sum(sort, tm, w, count, owed);
+    let mut owed = client_sums(sort, tm, w, count, tenths);
+    let all = members_sum(sort, tm, w, count, tenths, owed);
     owed[0] = all;
     owed
 }
@@ -99,8 +119,8 @@ pub fn need_cm<'a>(sort: &'a [u8; 256], tm: &'a [u16; 256], w: &'a [u64; 2560], 
     requires { ⌜ Ranged (seenBook count (now sort) (now tm) (now w)) × (0 < count) ⌝ }
     ensures { λ x. ⌜ x ≡ needCM (view (seenBook count (now (sort .entry)) (now (tm .entry)) (now (w .entry)))) ⌝ }
 {
-    let owed = client_sums(sort, tm, w, count);
-    word_at(w, 9, 0) + members_sum(sort, tm, w, count, owed)
+    let owed = client_sums(sort, tm, w, count, false);
+    word_at(w, 9, 0) + members_sum(sort, tm, w, count, false, owed)
 }
 
 pub fn need_of<'a>(
@@ -118,7 +138,7 @@ pub fn need_of<'a>(
         return need_cm(sort, tm, w, count);
     }
     if sort[i] == 1 {
-        let owed = client_sums(sort, tm, w, count);
+        let owed = client_sums(sort, tm, w, count, false);
         return margin + owed[i];
     }
     margin

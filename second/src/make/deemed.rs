@@ -35,7 +35,7 @@ pub fn spent(maker: &mut Maker) {
 }
 
 /// A few TMs with many clients, and CPs between them; some retire.
-fn open_groups(maker: &mut Maker) {
+pub fn open_groups(maker: &mut Maker) {
     maker.say(OPEN_TM, 0, 0, &[]);
     maker.say(OPEN_CP, 0, 0, &[]);
     let most = if maker.rng.one_in(6) { 120 } else { 20 };
@@ -53,7 +53,7 @@ fn open_groups(maker: &mut Maker) {
 }
 
 /// The more, the more others an account answers for.
-fn fund_by_sort(maker: &mut Maker, account: u16) {
+pub fn fund_by_sort(maker: &mut Maker, account: u16) {
     let times = match maker.book.rows[usize::from(account)].sort {
         Sort::Cm => 8,
         Sort::Tm => 4,

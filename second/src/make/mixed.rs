@@ -5,6 +5,7 @@ use super::lengths::wrong_serial;
 use super::lives::retire_step;
 use super::maker::Maker;
 use super::steer::{begin, step, stranger};
+use super::uses::waver;
 use crate::book::MOST_ACCOUNTS;
 
 pub fn mixed(maker: &mut Maker) {
@@ -17,6 +18,7 @@ pub fn mixed(maker: &mut Maker) {
             2 => edge_record(maker),
             3 | 4 => retire_step(maker),
             5 => stranger(maker),
+            6 => waver(maker),
             _ => step(maker),
         }
     }

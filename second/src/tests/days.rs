@@ -27,6 +27,7 @@ fn standing(book: &Book, account: usize) -> Standing {
         blocked,
         deemed: need - blocked,
         free: collateral - blocked,
+        mode: book.modes[account],
     }
 }
 

@@ -2,6 +2,7 @@
 
 use super::*;
 use crate::book::{Row, Sort, CEILING};
+use crate::mode::Mode;
 
 fn breached(breach: impl FnOnce(&mut Book)) -> bool {
     let mut book = book_after("tm\nclient 1\ncp\nclient 1\nretire 4\npledge 0 5\nreceive 2 cash 7");
@@ -53,5 +54,25 @@ fn amounts() {
     assert!(breached(|book| {
         book.rows[0].pledged = CEILING;
         book.rows[0].margin = CEILING + 1;
+    }));
+}
+
+/// "In a sound book only a live TM or the CM can be in the mode", and a mode
+/// need not fit the figures.
+#[test]
+fn modes() {
+    assert!(!breached(|book| book.modes[0] = Mode::On));
+    assert!(!breached(|book| book.modes[1] = Mode::On));
+    for account in [2, 3, 4, 5, 255] {
+        assert!(breached(|book| book.modes[account] = Mode::On));
+    }
+    assert!(breached(|book| {
+        book.rows[3].sort = Sort::Tm;
+        book.rows[3].live = false;
+        book.modes[3] = Mode::On;
+    }));
+    assert!(!breached(|book| {
+        book.rows[3].sort = Sort::Tm;
+        book.modes[3] = Mode::On;
     }));
 }

@@ -5,12 +5,11 @@ use mathlib.Core.Path.{_≡_, refl, sym, ap, _∙_}
 use Prim.Native.Nat.{ℕ, zero, suc, _+_, _*_}
 use lib.ListN.{getD, set, replicate}
 use borrow.Author.Needs.{needs}
-use Rattle.sums.proofs.Lists.{list-is}
+use Rattle.sums.proofs.Lists.{list-is, getD-same}
 use Rattle.rows.specs.Rows.{noRow, rowAt, freshBook}
 use Rattle.table.specs.Words.{wordAt, rowFrom, Marks, marksFrom, rowIn, rowsOf}
 use Rattle.table.proofs.Gathered.{row-eq}
 use Rattle.table.proofs.Turning.{turned-from}
-use Rattle.book.proofs.FreshSound.{getD-same}
 use Rattle.book.proofs.fresh.Statement.{statement}
 use Rattle.book.proofs.fresh.Tie as tie
 
@@ -37,7 +36,7 @@ returns : tie.Need-returns
 unfolding rowsOf freshBook
 returns c =
     turned-from _ freshBook (record { sorts = refl; lives = refl; tms = refl; words = refl })
-    (ap (λ l. record { count = 1; serial = 0; rows = l }) (list-is (rowIn marks words) 256 noRow (freshBook .rows) refl (λ i l. row i)))
+    (ap (λ l. record { count = 1; serial = 0; rows = l; modes = replicate 256 false }) (list-is (rowIn marks words) 256 noRow (freshBook .rows) refl (λ i l. row i)))
 
 pub fresh-spec : {M : Type 1} → statement M
 fresh-spec = tie.close (tie.spec array-write-live returns)

@@ -4,7 +4,7 @@ use mathlib.Core.Path.{_≡_, sym, ap, _∙_}
 use native.Mathlib.Omega.{arith}
 use borrow.Author.Needs.{needs}
 use borrow.Author.Tests.{lt-ltb, le-ltb, not-true, not-false}
-use Rattle.rows.specs.Rows.{rowAt}
+use Rattle.rows.specs.Rows.{rowAt, modeAt}
 use Rattle.rows.specs.Inner.{Ranged}
 use Rattle.table.specs.Words.{marksOf, turnedBack, rowIn}
 use Rattle.table.proofs.Gathered.{row-in}
@@ -25,12 +25,12 @@ refused-requires c κs = search needs
 
 -- where the call begins
 abbrev start : tie.After-table-sound → tie.Start
-start c = c .before .before .before .before .before .before
+start c = c .before .before .before .before .before .before .before
 
 tested : (c : tie.After-table-sound) → c .table-sound .result ≡ soundB (turnedBack (start c .args .t1))
 tested c =
     let t = start c .args .t1 in
-    c .table-sound .ensures ∙ sound-serial (t .count) (t .serial) (marksOf t) (t .amounts)
+    c .table-sound .ensures ∙ sound-serial (t .count) (t .serial) (marksOf t) (t .amounts) (t .modes)
 
 returns : tie.Need-returns
 returns c =
@@ -81,22 +81,25 @@ returns-3 c =
     (dead-refused b i (holds e) (simp (ap (λ r. r .live) (row given) ∙ not-true _ (c .before .if3 .taken), and-false)))
     (c .refused3 .ensures)
 
+element-copy-out-mode : tie.Need-element-copy-out-mode
+element-copy-out-mode c = omega (arith, ranged (c .before .before .before) .most)
+
 figures-requires : tie.Need-figures-requires
 figures-requires c κs =
-    let given = c .before .before .before .before .before .before in
+    let given = c .before .before .before .before .before .before .before in
     let t = start (given .before .before) .args .t1 in
-    (seen-ranged (t .count) (t .serial) (marksOf t) (t .amounts) (ranged (given .before)), given .if2 .left)
+    (seen-ranged (t .count) (t .serial) (marksOf t) (t .amounts) (t .modes) (ranged (given .before)), given .if2 .left)
 
 returns-4 : tie.Need-returns-4
 returns-4 c =
-    let live = c .before .before .before .before .before in
+    let live = c .before .before .before .before .before .before in
     let given = live .before .before in
     let e = given .before in
     let t = start (e .before) .args .t1 in
     let i = start (e .before) .args .account in
     standing-by (turnedBack t) i 0
     (live-answered (turnedBack t) i (holds e) (simp (lt-ltb i (t .count) (given .if2 .left), ap (λ r. r .live) (row given) ∙ not-false _ (live .if3 .left))))
-    (c .figures .ensures ∙ ap (λ v. figuresOf v i) (seen-view (t .count) (t .serial) (marksOf t) (t .amounts)))
+    (c .figures .ensures ∙ ap (λ v. figuresOf v (modeAt (turnedBack t) i) i) (seen-view (t .count) (t .serial) (marksOf t) (t .amounts) (t .modes)))
 
 pub standing-spec : {M : Type 1} → statement M
 standing-spec =
@@ -110,5 +113,6 @@ standing-spec =
     element-copy-out-if3
     refused-requires-3
     returns-3
+    element-copy-out-mode
     figures-requires
     returns-4)

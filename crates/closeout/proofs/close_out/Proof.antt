@@ -30,7 +30,7 @@ unders-requires : tie.Need-unders-requires
 unders-requires c κs =
     let e = c .before .before .before .before in
     let t = e .before .before .before .before .args .t1 in
-    (seen-ranged (t .count) (t .serial) (marksOf t) (t .amounts) (sound-ranged _ (tested e)), rw (seen-view (t .count) (t .serial) (marksOf t) (t .amounts)) (tested e .shaped))
+    (seen-ranged (t .count) (t .serial) (marksOf t) (t .amounts) (t .modes) (sound-ranged _ (tested e)), rw (seen-view (t .count) (t .serial) (marksOf t) (t .amounts) (t .modes)) (tested e .shaped))
 
 turn-back-requires : tie.Need-turn-back-requires
 turn-back-requires c κs = search needs
@@ -41,7 +41,7 @@ close-out-at-requires c κs =
     let u = back .before in
     let e = u .before .before .before .before .before in
     let t = e .before .before .before .before .args .t1 in
-    rw (back .turn-back .ensures) (tested e, rw (seen-view (t .count) (t .serial) (marksOf t) (t .amounts)) at (u .unders .ensures))
+    rw (back .turn-back .ensures) (tested e, rw (seen-view (t .count) (t .serial) (marksOf t) (t .amounts) (t .modes)) at (u .unders .ensures))
 
 same-length : tie.Need-same-length
 same-length c = search needs

@@ -1,34 +1,96 @@
 -- `desk::step_at` meets its contract.
+use mathlib.Core.Path.{_≡_, ap, _∙_}
 use borrow.Author.Needs.{needs}
-use Rattle.table.specs.Words.{marksOf}
-use Rattle.steps.proofs.Entering.{adds-up, ready}
+use Rattle.sums.specs.Choice.{pick}
+use Rattle.table.specs.Words.{marksFrom, marksOf, bookFrom}
+use Rattle.steps.specs.Steps.{bookAt}
+use Rattle.steps.proofs.Entering.{adds-up, looks-up, enters}
 use Rattle.desk.proofs.Doing.{stepped-over}
 use Rattle.desk.proofs.step_at.Statement.{statement}
 use Rattle.desk.proofs.step_at.Tie as tie
 
+-- THE PLACES, each named once.
+abbrev called : tie.After-size → tie.Start
+called s = s .before .before .before .before .before .before .before
+
+abbrev sized : tie.After-unders → tie.After-size
+sized u = u .before .before .before .before
+
+abbrev owed : tie.After-unders2 → tie.After-unders
+owed u = u .before .before .before .before
+
+abbrev summed : tie.After-look-all → tie.After-unders2
+summed l = l .before .before .before .before .before .before
+
+abbrev looked : tie.After-step → tie.After-look-all
+looked s = s .before .before .before .before .before .before .before .before .before
+
 sizes-requires : tie.Need-sizes-requires
 sizes-requires c κs = search needs
 
+size-requires : tie.Need-size-requires
+size-requires c κs = search needs
+
 unders-requires : tie.Need-unders-requires
 unders-requires c κs =
-    let start = c .before .before .before .before .before .before .before .before in
-    let t = start .args .t in
-    adds-up (t .count) (t .serial) (marksOf t) (t .amounts) (start .pre)
+    let s = called (c .before .before .before) in
+    let t = s .args .t in
+    adds-up (t .count) (t .serial) (marksOf t) (t .amounts) (t .modes) (s .pre)
+
+unders-requires-2 : tie.Need-unders-requires-2
+unders-requires-2 c κs =
+    let s = called (sized (c .before .before .before)) in
+    let t = s .args .t in
+    adds-up (t .count) (t .serial) (marksOf t) (t .amounts) (t .modes) (s .pre)
+
+look-all-requires : tie.Need-look-all-requires
+look-all-requires c κs =
+    let u = c .before .before .before .before .before in
+    let s = called (sized (owed u)) in
+    let t = s .args .t in
+    (adds-up (t .count) (t .serial) (marksOf t) (t .amounts) (t .modes) (s .pre), looks-up (t .count) (t .serial) (marksOf t) (t .amounts) (t .modes) (s .pre) _ (u .unders2 .ensures))
 
 step-requires : tie.Need-step-requires
 step-requires c κs =
-    let start = c .before .before .before .before .before .before .before .before .before .before .before .before .before .before in
-    let t = start .args .t in
-    ready (t .count) (t .serial) (marksOf t) (t .amounts) (start .pre) _ (c .before .before .before .before .before .before .before .before .before .sizes .ensures) (c .before .before .before .before .before .unders .ensures)
+    let l = c .before .before .before .before .before .before .before .before in
+    let u = owed (summed l) in
+    let s = called (sized u) in
+    let t = s .args .t in
+    enters (t .count) (t .serial) (marksOf t) (t .amounts) (t .modes) (s .pre) (sized u .before .sizes .ensures) (sized u .size .ensures) _ _ _ (u .unders .ensures) (summed l .unders2 .ensures) (l .look-all .ensures)
 
 outcome-of-requires : tie.Need-outcome-of-requires
 outcome-of-requires c κs = search needs
 
+on-requires : tie.Need-on-requires
+on-requires c κs = search needs
+
+modes-of-requires : tie.Need-modes-of-requires
+modes-of-requires c κs = search needs
+
 returns : tie.Need-returns
+unfolding pick
 returns c =
-    let start = c .before .before .before .before .before .before .before .before .before .before .before .before .before .before .before .before in
-    let h = c .before .step .ensures in
-    stepped-over _ (start .args .r) (start .pre) _ _ _ _ (c .outcome-of .ensures) (h .refusal) (h .given) (h .ready .size) (h .book)
+    let f = c .before .before .before in
+    let s = called (sized (owed (summed (looked f)))) in
+    let h = f .step .ensures in
+    let x = f .step .last in
+    let n = marksFrom (x .0) (x .1 .0) (x .1 .1 .0) in
+    let u = x .1 .1 .1 .0 in
+    let after = c .before .on .result in
+    stepped-over _ (s .args .r) (s .pre) _ _ _ _ (c .before .before .outcome-of .ensures) (h .refusal) (h .given) (h .ready .size)
+    (ap (bookFrom (after .count) (after .serial) n u) (c .modes-of .ensures) ∙ ap (λ a. bookAt a n u (s .args .t .modes) (x .1 .1 .1 .1 .0)) (c .before .on .ensures) ∙ h .book)
 
 pub step-at-spec : {M : Type 1} → statement M
-step-at-spec = tie.close (tie.spec sizes-requires unders-requires step-requires outcome-of-requires returns)
+step-at-spec =
+    tie.close
+    (tie.spec
+    sizes-requires
+    size-requires
+    unders-requires
+    unders-requires-2
+    look-all-requires
+    step-requires
+    outcome-of-requires
+    on-requires
+    modes-of-requires
+    returns)

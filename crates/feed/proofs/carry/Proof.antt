@@ -14,7 +14,7 @@ slice-aggregate-go : tie.Need-slice-aggregate-go
 slice-aggregate-go c = search needs
 
 go-requires : tie.Need-go-requires
-go-requires c κs = (c .before .before .before .before .before .before .before .before .pre, λ t. absurd (false≢true t))
+go-requires c κs = (c .before .before .before .before .before .before .before .before .before .before .pre, λ t. absurd (false≢true t))
 
 returns-2 : tie.Need-returns-2
 returns-2 c = let g = c .before .go .ensures in (g .0, g .1 .0)

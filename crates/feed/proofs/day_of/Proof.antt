@@ -1,12 +1,15 @@
 -- `feed::day_of` meets its contract.
+use mathlib.Core.Bool.{Bool}
+use mathlib.Core.List.{List}
 use mathlib.Core.Path.{_≡_, sym, ap, _∙_}
-use Prim.Native.Nat.{ℕ}
 use borrow.Author.Needs.{needs}
+use Rattle.sums.specs.Choice.{pick}
 use Rattle.table.specs.declared.Table.{Table}
-use Rattle.table.specs.Words.{marksOf, turnedBack}
+use Rattle.table.specs.Words.{marksFrom, marksOf, bookFrom, turned, turnedBack}
 use Rattle.table.proofs.Turning.{back-and-over}
-use Rattle.steps.proofs.Entering.{adds-up, ready}
-use Rattle.records.specs.Runs.{ranOf}
+use Rattle.steps.specs.Steps.{bookAt}
+use Rattle.steps.proofs.Entering.{adds-up, looks-up, enters}
+use Rattle.records.specs.Runs.{runOf, ranOf}
 use Rattle.feed.specs.Fed.{dayOf, wholeDay}
 use Rattle.feed.proofs.FreshWords.{is-fresh, sound-at-first}
 use Rattle.feed.proofs.Calls.{as-ran}
@@ -14,14 +17,20 @@ use Rattle.feed.proofs.day_of.Statement.{statement}
 use Rattle.feed.proofs.day_of.Tie as tie
 
 -- THE PLACES, each named once.
-abbrev made : tie.After-sizes → tie.After-fresh
-made s = s .before .before .before .before .before
+abbrev made : tie.After-size → tie.After-fresh
+made s = s .before .before .before .before .before .before .before
 
-abbrev sized : tie.After-unders → tie.After-sizes
+abbrev sized : tie.After-unders → tie.After-size
 sized u = u .before .before .before .before
 
-abbrev summed : tie.After-carry → tie.After-unders
-summed c = c .before .before .before .before .before .before
+abbrev owed : tie.After-unders2 → tie.After-unders
+owed u = u .before .before .before .before
+
+abbrev summed : tie.After-look-all → tie.After-unders2
+summed l = l .before .before .before .before .before .before
+
+abbrev looked : tie.After-starting → tie.After-look-all
+looked s = s .before .before .before .before .before .before .before .before .before
 
 fresh-requires : tie.Need-fresh-requires
 fresh-requires c κs = search needs
@@ -29,28 +38,74 @@ fresh-requires c κs = search needs
 sizes-requires : tie.Need-sizes-requires
 sizes-requires c κs = search needs
 
+size-requires : tie.Need-size-requires
+size-requires c κs = search needs
+
 unders-requires : tie.Need-unders-requires
 unders-requires c κs =
     let f = made (c .before .before .before) .fresh in
     let t = f .result in
-    adds-up (t .count) (t .serial) (marksOf t) (t .amounts) (sound-at-first t (f .ensures))
+    adds-up (t .count) (t .serial) (marksOf t) (t .amounts) (t .modes) (sound-at-first t (f .ensures))
+
+unders-requires-2 : tie.Need-unders-requires-2
+unders-requires-2 c κs =
+    let f = made (sized (c .before .before .before)) .fresh in
+    let t = f .result in
+    adds-up (t .count) (t .serial) (marksOf t) (t .amounts) (t .modes) (sound-at-first t (f .ensures))
+
+look-all-requires : tie.Need-look-all-requires
+look-all-requires c κs =
+    let u = c .before .before .before .before .before in
+    let f = made (sized (owed u)) .fresh in
+    let t = f .result in
+    let h = sound-at-first t (f .ensures) in
+    (adds-up (t .count) (t .serial) (marksOf t) (t .amounts) (t .modes) h, looks-up (t .count) (t .serial) (marksOf t) (t .amounts) (t .modes) h _ (u .unders2 .ensures))
+
+starting-requires : tie.Need-starting-requires
+starting-requires c κs = search needs
 
 carry-requires : tie.Need-carry-requires
 carry-requires c κs =
-    let u = c .before .before .before .before .before in
+    let l = looked c in
+    let u = owed (summed l) in
     let f = made (sized u) .fresh in
     let t = f .result in
-    ready (t .count) (t .serial) (marksOf t) (t .amounts) (sound-at-first t (f .ensures)) _ (sized u .sizes .ensures) (u .unders .ensures)
+    rw (c .starting .ensures) (enters (t .count) (t .serial) (marksOf t) (t .amounts) (t .modes) (sound-at-first t (f .ensures)) (sized u .before .sizes .ensures) (sized u .size .ensures) _ _ _ (u .unders .ensures) (summed l .unders2 .ensures) (l .look-all .ensures))
+
+modes-of-requires : tie.Need-modes-of-requires
+modes-of-requires c κs = search needs
 
 returns : tie.Need-returns
-unfolding wholeDay
+unfolding wholeDay pick
 returns c =
-    let f = made (sized (summed c)) .fresh in
-    let s = made (sized (summed c)) .before .before .args .piece .now in
-    let g = c .carry in
-    let e = g .ensures .0 ∙ as-ran (turnedBack (f .result)) s 1_000_000 (sound-at-first (f .result) (f .ensures)) ∙ ap (λ b. ranOf b s 1_000_000) (is-fresh (f .result) (f .ensures)) in
-    ap (λ (t : Table). record { table = t; closing = g .result .closing; read = g .result .read; done = g .result .done }) (sym (back-and-over _ (g .ensures .1 .size)))
-    ∙ ap dayOf e
+    let k = c .before .before in
+    let f = made (sized (owed (summed (looked (k .before))))) .fresh in
+    let s = made (sized (owed (summed (looked (k .before))))) .before .before .args .piece .now in
+    let x = k .carry .last in
+    let w = k .carry .result in
+    let n = marksFrom (x .0) (x .1 .0) (x .1 .1 .0) in
+    let t = f .result in
+    let l = looked (k .before) in
+    let run =
+    k .carry .ensures .0
+    ∙ ap (λ a. runOf s 1_000_000 (bookAt a (marksOf t) (t .amounts) (t .modes) (l .look-all .result)) 0 0 0) (k .before .starting .ensures)
+    ∙ as-ran (turnedBack t) s 1_000_000 (sound-at-first t (f .ensures))
+    ∙ ap (λ b. ranOf b s 1_000_000) (is-fresh t (f .ensures)) in
+    ap (λ (q : Table). record { table = q; closing = w .closing; read = w .read; done = w .done })
+    (sym (back-and-over _ (k .carry .ensures .1 .size)) ∙ ap (λ (q : List Bool). turned (bookFrom (w .at .count) (w .at .serial) n (x .1 .1 .1 .0) q)) (c .modes-of .ensures))
+    ∙ ap dayOf run
 
 pub day-of-spec : {M : Type 1} → statement M
-day-of-spec = tie.close (tie.spec fresh-requires sizes-requires unders-requires carry-requires returns)
+day-of-spec =
+    tie.close
+    (tie.spec
+    fresh-requires
+    sizes-requires
+    size-requires
+    unders-requires
+    unders-requires-2
+    look-all-requires
+    starting-requires
+    carry-requires
+    modes-of-requires
+    returns)

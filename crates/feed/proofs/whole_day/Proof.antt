@@ -1,13 +1,16 @@
 -- `feed::whole_day`: the records of the pieces so far are those of what was read so far.
+use mathlib.Core.Bool.{Bool}
+use mathlib.Core.List.{List}
 use mathlib.Core.Path.{sym, ap, _∙_}
 use Prim.Native.Nat.{_+_, _-_}
 use native.Mathlib.Omega.{arith}
 use lib.Seq.{length-take-le}
 use borrow.Author.Needs.{needs}
-use Rattle.table.specs.Words.{marksOf, bookFrom, marksFrom}
+use Rattle.sums.specs.Choice.{pick}
+use Rattle.table.specs.Words.{marksOf, bookFrom, marksFrom, turned}
 use Rattle.table.proofs.Turning.{back-and-over}
-use Rattle.steps.specs.Steps.{Ready}
-use Rattle.steps.proofs.Entering.{adds-up, ready}
+use Rattle.steps.specs.Steps.{bookAt, Going}
+use Rattle.steps.proofs.Entering.{adds-up, looks-up, enters}
 use Rattle.records.specs.declared.Ran.{Ran}
 use Rattle.records.specs.Inner.{ranIn}
 use Rattle.feed.proofs.FreshWords.{is-fresh, sound-at-first}
@@ -17,37 +20,51 @@ use Rattle.feed.proofs.whole_day.Statement.{statement}
 use Rattle.feed.proofs.whole_day.Tie as tie
 
 abbrev Inv-loop : tie.InvT-loop
-Inv-loop telling space₀ sort₀ live₀ tm₀ amounts₀ under₀ count₀ serial₀ kept₀ read₀ done₀ space sort live tm amounts under count serial kept read done =
-    Feeding space (bookFrom count serial (marksFrom sort live tm) amounts) kept read done × Ready count serial (marksFrom sort live tm) amounts under
+Inv-loop telling space₀ sort₀ live₀ tm₀ amounts₀ was under₀ used₀ modes₀ at₀ kept₀ read₀ done₀ space sort live tm amounts under used modes at kept read done =
+    Feeding space (bookAt at (marksFrom sort live tm) amounts was modes) kept read done × Going at (marksFrom sort live tm) amounts was modes under used
 
 abbrev μ-loop : tie.MeasureT-loop
-μ-loop telling space₀ sort₀ live₀ tm₀ amounts₀ under₀ count₀ serial₀ kept₀ read₀ done₀ space sort live tm amounts under count serial kept read done = 1_000_000 - read
+μ-loop telling space₀ sort₀ live₀ tm₀ amounts₀ was under₀ used₀ modes₀ at₀ kept₀ read₀ done₀ space sort live tm amounts under used modes at kept read done =
+    1_000_000 - read
 
 -- THE PLACES, each named once.
-abbrev made : tie.After-sizes Inv-loop μ-loop → tie.After-fresh Inv-loop μ-loop
-made s = s .before .before .before .before .before
+abbrev made : tie.After-size Inv-loop μ-loop → tie.After-fresh Inv-loop μ-loop
+made s = s .before .before .before .before .before .before .before
 
-abbrev sized : tie.After-unders Inv-loop μ-loop → tie.After-sizes Inv-loop μ-loop
+abbrev sized : tie.After-unders Inv-loop μ-loop → tie.After-size Inv-loop μ-loop
 sized u = u .before .before .before .before
 
+abbrev owed : tie.After-unders2 Inv-loop μ-loop → tie.After-unders Inv-loop μ-loop
+owed u = u .before .before .before .before
+
+abbrev summed : tie.After-look-all Inv-loop μ-loop → tie.After-unders2 Inv-loop μ-loop
+summed l = l .before .before .before .before .before .before
+
+abbrev started : tie.At-loop Inv-loop μ-loop → tie.After-starting Inv-loop μ-loop
+started t = t .before
+
 abbrev filled : tie.After-carry Inv-loop μ-loop → tie.After-refill Inv-loop μ-loop
-filled c = c .before .before .before .before .before .before .before .before
+filled c = c .before .before .before .before .before .before .before .before .before .before .before
 
 abbrev turn : tie.After-refill Inv-loop μ-loop → tie.At-loop Inv-loop μ-loop
 turn f = f .before .before
 
 abbrev carried : tie.After-stops Inv-loop μ-loop → tie.After-carry Inv-loop μ-loop
-carried s = s .before .before .before
+carried s = s .before .before .before .before
 
 abbrev judged : tie.After-keep Inv-loop μ-loop → tie.After-stops Inv-loop μ-loop
 judged k = k .before .before .before
 
+-- the modes that the fresh book was handed over with
+abbrev was : tie.At-loop Inv-loop μ-loop → List Bool
+was t = made (sized (owed (summed (started t .before)))) .fresh .result .modes
+
 -- what the piece came to
 abbrev ran : tie.After-carry Inv-loop μ-loop → Ran
-ran c = let x = c .carry .last in ranIn (c .carry .result) (marksFrom (x .0) (x .1 .0) (x .1 .1 .0)) (x .1 .1 .1 .0)
+ran c = let x = c .carry .last in ranIn (c .carry .result) (marksFrom (x .0) (x .1 .0) (x .1 .1 .0)) (x .1 .1 .1 .0) (was (turn (filled c))) (x .1 .1 .1 .1 .0)
 
 piece : (c : tie.After-carry Inv-loop μ-loop) → (let f = filled c in let v = turn f .loop in
-    Piece (v .space) (bookFrom (v .count) (v .serial) (marksFrom (v .sort) (v .live) (v .tm)) (v .amounts)) (v .kept) (v .read) (v .done) (f .refill .last .0) (v .kept + f .refill .result) (ran c))
+    Piece (v .space) (bookAt (v .at) (marksFrom (v .sort) (v .live) (v .tm)) (v .amounts) (was (turn f)) (v .modes)) (v .kept) (v .read) (v .done) (f .refill .last .0) (v .kept + f .refill .result) (ran c))
 piece c =
     let g = turn (filled c) .loop .inv in
     let f = filled c .refill in
@@ -70,18 +87,42 @@ fresh-requires c κs = search needs
 sizes-requires : tie.Need-sizes-requires Inv-loop μ-loop
 sizes-requires c κs = search needs
 
+size-requires : tie.Need-size-requires Inv-loop μ-loop
+size-requires c κs = search needs
+
 unders-requires : tie.Need-unders-requires Inv-loop μ-loop
 unders-requires c κs =
     let f = made (c .before .before .before) .fresh in
     let t = f .result in
-    adds-up (t .count) (t .serial) (marksOf t) (t .amounts) (sound-at-first t (f .ensures))
+    adds-up (t .count) (t .serial) (marksOf t) (t .amounts) (t .modes) (sound-at-first t (f .ensures))
+
+unders-requires-2 : tie.Need-unders-requires-2 Inv-loop μ-loop
+unders-requires-2 c κs =
+    let f = made (sized (c .before .before .before)) .fresh in
+    let t = f .result in
+    adds-up (t .count) (t .serial) (marksOf t) (t .amounts) (t .modes) (sound-at-first t (f .ensures))
+
+look-all-requires : tie.Need-look-all-requires Inv-loop μ-loop
+look-all-requires c κs =
+    let u = c .before .before .before .before .before in
+    let f = made (sized (owed u)) .fresh in
+    let t = f .result in
+    let h = sound-at-first t (f .ensures) in
+    (adds-up (t .count) (t .serial) (marksOf t) (t .amounts) (t .modes) h, looks-up (t .count) (t .serial) (marksOf t) (t .amounts) (t .modes) h _ (u .unders2 .ensures))
+
+starting-requires : tie.Need-starting-requires Inv-loop μ-loop
+starting-requires c κs = search needs
 
 loop-holds : tie.Need-loop-holds Inv-loop μ-loop
+unfolding pick
 loop-holds c =
-    let f = made (sized c) .fresh in
-    let t = f .result in (
-      nothing-read _ _ (sym (made (sized c) .before .blank .ensures)) (is-fresh t (f .ensures)),
-      ready (t .count) (t .serial) (marksOf t) (t .amounts) (sound-at-first t (f .ensures)) _ (sized c .sizes .ensures) (c .unders .ensures),
+    let l = c .before in
+    let u = owed (summed l) in
+    let f = made (sized u) .fresh in
+    let t = f .result in
+    rw (c .starting .ensures) (
+      nothing-read _ _ (sym (made (sized u) .before .blank .ensures)) (is-fresh t (f .ensures)),
+      enters (t .count) (t .serial) (marksOf t) (t .amounts) (t .modes) (sound-at-first t (f .ensures)) (sized u .before .sizes .ensures) (sized u .size .ensures) _ _ _ (u .unders .ensures) (summed l .unders2 .ensures) (l .look-all .ensures),
     )
 
 slice-aggregate-refill : tie.Need-slice-aggregate-refill Inv-loop μ-loop
@@ -94,22 +135,24 @@ add-held : tie.Need-add-held Inv-loop μ-loop
 add-held c = omega (arith, c .before .refill .ensures .0, c .before .refill .kept .0, turn (c .before) .loop .inv .0 .size)
 
 array-share-prefix-space : tie.Need-array-share-prefix-space Inv-loop μ-loop
-array-share-prefix-space c = c .before .before .before .before .before .before .refill .ensures .0
+array-share-prefix-space c = c .before .before .before .before .before .before .before .before .before .refill .ensures .0
 
 slice-aggregate-carry : tie.Need-slice-aggregate-carry Inv-loop μ-loop
-slice-aggregate-carry c = sym (length-take-le _ _ (c .before .before .before .before .before .before .before .refill .ensures .0))
+slice-aggregate-carry c = sym (length-take-le _ _ (c .before .before .before .before .before .before .before .before .before .before .refill .ensures .0))
 
 sub-carry : tie.Need-sub-carry Inv-loop μ-loop
-sub-carry c = turn (c .before .before .before .before .before .before .before) .loop .inv .0 .upto
+sub-carry c = turn (c .before .before .before .before .before .before .before .before .before .before) .loop .inv .0 .upto
 
 carry-requires : tie.Need-carry-requires Inv-loop μ-loop
-carry-requires c κs = turn (c .before .before .before .before .before .before .before) .loop .inv .1
+carry-requires c κs = turn (c .before .before .before .before .before .before .before .before .before .before) .loop .inv .1
 
 add-read : tie.Need-add-read Inv-loop μ-loop
-add-read c = omega (arith, read-within (piece (c .before)))
+add-read c = omega (arith, read-within (piece (c .before .before)))
 
 add-done : tie.Need-add-done Inv-loop μ-loop
-add-done c = omega (arith, read-within (piece (c .before .before)), done-within (piece (c .before .before)))
+add-done c =
+    let t = c .before .before .before in
+    omega (arith, read-within (piece t), done-within (piece t))
 
 stops-requires : tie.Need-stops-requires Inv-loop μ-loop
 stops-requires c κs = search needs
@@ -133,10 +176,17 @@ loop-again c =
     let k = c .before .keep in
     (fed (piece t) _ _ (k .kept .0 ∙ piece t .size) (k .ensures .0) (k .ensures .1), t .carry .ensures .1)
 
+modes-of-requires : tie.Need-modes-of-requires Inv-loop μ-loop
+modes-of-requires c κs = search needs
+
 returns : tie.Need-returns Inv-loop μ-loop
 returns c =
-    let t = carried (c .before) in
-    came (piece t) _ (back-and-over _ (t .carry .ensures .1 .size))
+    let t = carried (c .before .before) in
+    let x = t .carry .last in
+    let at = t .carry .result .at in
+    let n = marksFrom (x .0) (x .1 .0) (x .1 .1 .0) in
+    came (piece t) _
+    (ap (λ (l : List Bool). turned (bookFrom (at .count) (at .serial) n (x .1 .1 .1 .0) l)) (sym (c .modes-of .ensures)) ∙ back-and-over _ (t .carry .ensures .1 .size))
 
 pub whole-day-spec : {M : Type 1} → statement M
 whole-day-spec =
@@ -147,7 +197,11 @@ whole-day-spec =
     blank-requires
     fresh-requires
     sizes-requires
+    size-requires
     unders-requires
+    unders-requires-2
+    look-all-requires
+    starting-requires
     loop-holds
     slice-aggregate-refill
     refill-requires
@@ -163,4 +217,5 @@ whole-day-spec =
     keep-requires
     loop-less
     loop-again
+    modes-of-requires
     returns)

@@ -9,8 +9,8 @@ use Rattle.sums.specs.Choice.{pick}
 use Rattle.sums.proofs.Choices.{pass, stop}
 use Rattle.dayfile.specs.declared.Found.{Found}
 use Rattle.dayfile.specs.Reading.{foundAt}
-use Rattle.table.specs.Words.{bookFrom, marksFrom}
-use Rattle.steps.specs.Steps.{Ready}
+use Rattle.table.specs.Words.{marksFrom}
+use Rattle.steps.specs.Steps.{bookAt, Going}
 use Rattle.records.specs.Runs.{runOf}
 use Rattle.records.specs.Inner.{putFive, tellOf}
 use Rattle.records.proofs.Turning.{Loop, ends, cuts, long-cut, long-whole}
@@ -19,12 +19,12 @@ use Rattle.records.proofs.go.Statement.{statement}
 use Rattle.records.proofs.go.Tie as tie
 
 abbrev Inv-loop : tie.InvT-loop
-Inv-loop sort₀ live₀ tm₀ w₀ under₀ first due piece most room₀ tell count₀ serial₀ place₀ read₀ done₀ sort live tm w under room count serial place read done =
-    Loop piece most tell room₀ (bookFrom count₀ serial₀ (marksFrom sort₀ live₀ tm₀) w₀) place₀ read₀ done₀ room (bookFrom count serial (marksFrom sort live tm) w) place read done
-    × Ready count serial (marksFrom sort live tm) w under
+Inv-loop sort₀ live₀ tm₀ w₀ modes₀ under₀ used₀ was piece most room₀ tell at₀ place₀ read₀ done₀ sort live tm w modes under used room at place read done =
+    Loop piece most tell room₀ (bookAt at₀ (marksFrom sort₀ live₀ tm₀) w₀ was modes₀) place₀ read₀ done₀ room (bookAt at (marksFrom sort live tm) w was modes) place read done
+    × Going at (marksFrom sort live tm) w was modes under used
 
 abbrev μ-loop : tie.MeasureT-loop
-μ-loop sort₀ live₀ tm₀ w₀ under₀ first due piece most room₀ tell count₀ serial₀ place₀ read₀ done₀ sort live tm w under room count serial place read done =
+μ-loop sort₀ live₀ tm₀ w₀ modes₀ under₀ used₀ was piece most room₀ tell at₀ place₀ read₀ done₀ sort live tm w modes under used room at place read done =
     most - read
 
 -- THE PLACES, each named once: seen from where the piece was looked at, and from where a record was carried out.
@@ -35,7 +35,7 @@ abbrev called : tie.At-loop Inv-loop μ-loop → tie.Start Inv-loop μ-loop
 called t = t .before .before .before
 
 abbrev more : tie.After-step Inv-loop μ-loop → tie.Else2 Inv-loop μ-loop
-more s = s .before .before .before .before .before .before
+more s = s .before .before .before .before .before .before .before .before
 
 abbrev whole : tie.Else2 Inv-loop μ-loop → tie.After-found Inv-loop μ-loop
 whole e = e .before .before
@@ -68,8 +68,8 @@ loop-holds c =
         sound = start .pre .0 .sound;
         same = refl;
         space = start .pre .1;
-        runs = ap (λ n. runOf (a .piece .now) n (bookFrom (a .first) (a .due) (marksFrom (a .sort .now) (a .live .now) (a .tm .now)) (a .w .now)) 0 0 0) (less-zero (a .most));
-        tells = ap (λ n. pick (a .tell) (tellOf (a .piece .now) n (bookFrom (a .first) (a .due) (marksFrom (a .sort .now) (a .live .now) (a .tm .now)) (a .w .now)) 0 0 (a .room .now)) (a .room .now)) (less-zero (a .most));
+        runs = ap (λ n. runOf (a .piece .now) n (bookAt (a .first) (marksFrom (a .sort .now) (a .live .now) (a .tm .now)) (a .w .now) (a .was .now) (a .modes .now)) 0 0 0) (less-zero (a .most));
+        tells = ap (λ n. pick (a .tell) (tellOf (a .piece .now) n (bookAt (a .first) (marksFrom (a .sort .now) (a .live .now) (a .tm .now)) (a .w .now) (a .was .now) (a .modes .now)) 0 0 (a .room .now)) (a .room .now)) (less-zero (a .most));
       },
       start .pre .0,
     )
@@ -87,7 +87,7 @@ enum-known-found : tie.Need-enum-known-found Inv-loop μ-loop
 enum-known-found c = search needs
 
 step-requires : tie.Need-step-requires Inv-loop μ-loop
-step-requires c κs = turn (looked (whole (c .before .before .before .before .before))) .loop .inv .1
+step-requires c κs = turn (looked (whole (c .before .before .before .before .before .before .before))) .loop .inv .1
 
 put-five-requires : tie.Need-put-five-requires Inv-loop μ-loop
 put-five-requires c κs =
@@ -95,23 +95,28 @@ put-five-requires c κs =
     let g = its-turn s .loop .inv .0 in
     omega (arith, g .space (c .before .if3 .taken), g .same, more s .if2 .left)
 
+on-requires : tie.Need-on-requires Inv-loop μ-loop
+on-requires c κs = search needs
+
 add-read : tie.Need-add-read Inv-loop μ-loop
-add-read c = omega (arith, more (c .before) .if2 .left, called (its-turn (c .before)) .fits .most .fits)
+add-read c = omega (arith, more (c .before .before) .if2 .left, called (its-turn (c .before .before)) .fits .most .fits)
 
 add-done : tie.Need-add-done Inv-loop μ-loop
 add-done c =
-    let s = c .before .before in
+    let s = c .before .before .before in
     omega (arith, its-turn s .loop .inv .0 .fewer, few (s .step .ensures), more s .if2 .left, called (its-turn s) .fits .most .fits)
 
 loop-less : tie.Need-loop-less Inv-loop μ-loop
-loop-less c = omega (arith, more (c .before .before) .if2 .left)
+loop-less c = omega (arith, more (c .before .before .before) .if2 .left)
 
 loop-again : tie.Need-loop-again Inv-loop μ-loop
 loop-again c =
-    let s = c .before .before in
-    let v = its-turn s .loop in (
-      turn-on _ _ _ _ _ _ _ _ (v .room) (v .count) (v .serial) _ (v .w) (v .place) (v .read) (v .done) (v .inv .0) _ _ (more s .if2 .left)
-          (met (looked (whole (more s))) _ (whole (more s) .found .given .1)) _ _ _ _ (s .step .ensures) _ (told-is (c .before)),
+    let s = c .before .before .before in
+    let e = c .before .on .ensures in
+    let v = its-turn s .loop in
+    rw e (
+      turn-on _ _ _ _ _ _ _ _ (v .room) (v .at) _ (v .w) _ (v .modes) (v .place) (v .read) (v .done) (v .inv .0) _ _ (more s .if2 .left)
+          (met (looked (whole (more s))) _ (whole (more s) .found .given .1)) _ _ _ _ _ _ (s .step .ensures) _ (told-is (c .before .before)),
       s .step .ensures .ready,
     )
 
@@ -168,6 +173,7 @@ go-spec =
     enum-known-found
     step-requires
     put-five-requires
+    on-requires
     add-read
     add-done
     loop-less

@@ -1,38 +1,93 @@
 -- `run::run` meets its contract.
+use mathlib.Core.Bool.{Bool}
+use mathlib.Core.List.{List}
+use mathlib.Core.Path.{_≡_, ap, _∙_}
 use borrow.Author.Needs.{needs}
-use Rattle.table.specs.Words.{marksOf}
-use Rattle.steps.proofs.Entering.{adds-up, ready}
+use Rattle.sums.specs.Choice.{pick}
+use Rattle.table.specs.Words.{marksFrom, marksOf, bookFrom}
+use Rattle.steps.proofs.Entering.{adds-up, looks-up, enters}
+use Rattle.records.specs.declared.Ran.{Ran}
 use Rattle.run.proofs.Turned.{left-over}
 use Rattle.run.proofs.run.Statement.{statement}
 use Rattle.run.proofs.run.Tie as tie
 
+-- THE PLACES, each named once.
+abbrev sized : tie.After-unders → tie.After-size
+sized u = u .before .before .before .before
+
+abbrev owed : tie.After-unders2 → tie.After-unders
+owed u = u .before .before .before .before
+
+abbrev summed : tie.After-look-all → tie.After-unders2
+summed l = l .before .before .before .before .before .before
+
+abbrev called : tie.After-size → tie.Start
+called s = s .before .before .before .before .before .before .before .before .before
+
+abbrev looked : tie.After-go → tie.After-look-all
+looked g = g .before .before .before .before .before .before .before .before .before .before
+
 sizes-requires : tie.Need-sizes-requires
 sizes-requires c κs = search needs
 
+size-requires : tie.Need-size-requires
+size-requires c κs = search needs
+
 unders-requires : tie.Need-unders-requires
 unders-requires c κs =
-    let start = c .before .before .before .before .before .before .before .before .before .before in
-    let t = start .args .t in
-    adds-up (t .count) (t .serial) (marksOf t) (t .amounts) (start .pre .0)
+    let s = called (c .before .before .before) in
+    let t = s .args .t in
+    adds-up (t .count) (t .serial) (marksOf t) (t .amounts) (t .modes) (s .pre .0)
+
+unders-requires-2 : tie.Need-unders-requires-2
+unders-requires-2 c κs =
+    let s = called (sized (c .before .before .before)) in
+    let t = s .args .t in
+    adds-up (t .count) (t .serial) (marksOf t) (t .amounts) (t .modes) (s .pre .0)
+
+look-all-requires : tie.Need-look-all-requires
+look-all-requires c κs =
+    let u = c .before .before .before .before .before in
+    let s = called (sized (owed u)) in
+    let t = s .args .t in
+    (adds-up (t .count) (t .serial) (marksOf t) (t .amounts) (t .modes) (s .pre .0), looks-up (t .count) (t .serial) (marksOf t) (t .amounts) (t .modes) (s .pre .0) _ (u .unders2 .ensures))
 
 go-requires : tie.Need-go-requires
 go-requires c κs =
-    let start = c .before .before .before .before .before .before .before .before .before .before .before .before .before .before .before .before .before in
-    let t = start .args .t in (
-      ready (t .count) (t .serial) (marksOf t) (t .amounts) (start .pre .0) _ (c .before .before .before .before .before .before .before .before .before .before .sizes .ensures) (c .before .before .before .before .before .before .unders .ensures),
-      start .pre .1,
-    )
+    let l = c .before .before .before .before .before .before .before .before .before in
+    let u = owed (summed l) in
+    let s = called (sized u) in
+    let t = s .args .t in
+    (enters (t .count) (t .serial) (marksOf t) (t .amounts) (t .modes) (s .pre .0) (sized u .before .sizes .ensures) (sized u .size .ensures) _ _ _ (u .unders .ensures) (summed l .unders2 .ensures) (l .look-all .ensures), s .pre .1)
 
-sizes-requires-2 : tie.Need-sizes-requires-2
-sizes-requires-2 c κs = search needs
+modes-of-requires : tie.Need-modes-of-requires
+modes-of-requires c κs = search needs
 
 same-length : tie.Need-same-length
 same-length c = search needs
 
 returns : tie.Need-returns
+unfolding pick
 returns c =
-    let g = c .before .before .before .go .ensures in
-    (left-over _ _ (c .sizes2 .ensures) (g .0), g .1 .1)
+    let g = c .before .before .before .before in
+    let x = g .go .last in
+    let w = g .go .result in
+    let n = marksFrom (x .0) (x .1 .0) (x .1 .1 .0) in (
+      left-over _ _ (g .go .ensures .1 .0 .size)
+          (ap {B = Ran} (λ (l : List Bool). record { book = bookFrom (w .at .count) (w .at .serial) n (x .1 .1 .1 .0) l; place = w .place; closing = w .closing; read = w .read; done = w .done }) (c .modes-of .ensures) ∙ g .go .ensures .0),
+      g .go .ensures .1 .1,
+    )
 
 pub run-spec : {M : Type 1} → statement M
-run-spec = tie.close (tie.spec sizes-requires unders-requires go-requires sizes-requires-2 same-length returns)
+run-spec =
+    tie.close
+    (tie.spec
+    sizes-requires
+    size-requires
+    unders-requires
+    unders-requires-2
+    look-all-requires
+    go-requires
+    modes-of-requires
+    same-length
+    returns)

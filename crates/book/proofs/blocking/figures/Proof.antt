@@ -16,11 +16,11 @@ account-at-requires c κs =
 blocked-of-requires : tie.Need-blocked-of-requires
 blocked-of-requires c κs = search needs
 
-sub-t10 : tie.Need-sub-t10
-sub-t10 c = search needs
-
 sub-t11 : tie.Need-sub-t11
 sub-t11 c = search needs
+
+sub-t12 : tie.Need-sub-t12
+sub-t12 c = search needs
 
 returns : tie.Need-returns
 returns c = rw (c .blocked-of .ensures, c .before .before .need-of .ensures, c .before .account-at .ensures)
@@ -28,4 +28,4 @@ returns c = rw (c .blocked-of .ensures, c .before .before .need-of .ensures, c .
 pub figures-spec : {M : Type 1} → statement M
 figures-spec =
     tie.close
-    (tie.spec need-of-requires account-at-requires blocked-of-requires sub-t10 sub-t11 returns)
+    (tie.spec need-of-requires account-at-requires blocked-of-requires sub-t11 sub-t12 returns)

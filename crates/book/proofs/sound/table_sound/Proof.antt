@@ -12,8 +12,9 @@ use Rattle.table.specs.Words.{Marks, marksFrom, bookFrom}
 use Rattle.table.specs.Facts.{seenBook}
 use Rattle.table.proofs.Gathered.{rows-length}
 use Rattle.table.proofs.Seen.{seen-view, seen-account, seen-ranged}
-use Rattle.book.specs.Sound.{rowSound, formedB, coveredB, soundB}
+use Rattle.book.specs.Sound.{rowSound, modeSound, formedB, coveredB, soundB}
 use Rattle.book.proofs.RowTests.{rows-ranged}
+use Rattle.book.proofs.SoundInPlace.{rows-modes, modes-in-place}
 use Rattle.book.proofs.sound.table_sound.Statement.{statement}
 use Rattle.book.proofs.sound.table_sound.Tie as tie
 
@@ -21,7 +22,7 @@ abbrev marksIn : tie.Start → Marks
 marksIn c = marksFrom (c .args .sort .now) (c .args .live .now) (c .args .tm .now)
 
 abbrev bookOf : tie.Start → Book
-bookOf c = bookFrom (c .args .count) 0 (marksIn c) (c .args .w .now)
+bookOf c = bookFrom (c .args .count) 0 (marksIn c) (c .args .w .now) (c .args .modes .now)
 
 returns : tie.Need-returns
 unfolding soundB formedB
@@ -34,22 +35,41 @@ returns-2 c = simp (lt-leb (c .before .before .args .count) 256 (c .if2 .taken),
 rows-sound-requires : tie.Need-rows-sound-requires
 rows-sound-requires c κs = search needs
 
+-- the rows' test, as the book's
+rows-tested : (c : tie.After-rows-sound) → all 256 (rowSound (bookOf (c .before .before .before))) ≡ c .rows-sound .result
+rows-tested c =
+    let start = c .before .before .before in
+    sym (c .rows-sound .ensures ∙ rows-modes (start .args .count) (marksIn start) (start .args .w .now) (start .args .modes .now))
+
 returns-3 : tie.Need-returns-3
 unfolding soundB formedB
-returns-3 c = simp (sym (c .before .rows-sound .ensures) ∙ not-true _ (c .if3 .taken), and-false)
+returns-3 c = simp (rows-tested (c .before) ∙ not-true _ (c .if3 .taken), and-false)
+
+modes-sound-requires : tie.Need-modes-sound-requires
+modes-sound-requires c κs = search needs
 
 -- past the tests of the number and of the rows
 rows-hold : (c : tie.Else3) → all 256 (rowSound (bookOf (c .before .before .before .before))) ≡ true
-rows-hold c = sym (c .before .rows-sound .ensures) ∙ not-false _ (c .if3 .left)
+rows-hold c = rows-tested (c .before) ∙ not-false _ (c .if3 .left)
 
-ranged : (c : tie.Else3) →
-    let a = c .before .before .before .before .args in
+modes-tested : (c : tie.After-modes-sound) → all 256 (modeSound (bookOf (c .before .before .before .before .before))) ≡ c .modes-sound .result
+modes-tested c =
+    let start = c .before .before .before .before .before in
+    sym (c .modes-sound .ensures ∙ modes-in-place (start .args .count) (marksIn start) (start .args .w .now) (start .args .modes .now))
+
+returns-4 : tie.Need-returns-4
+unfolding soundB formedB
+returns-4 c = simp (modes-tested (c .before) ∙ not-true _ (c .if4 .taken), and-false)
+
+ranged : (c : tie.Else4) →
+    let a = c .before .before .before .before .before .before .args in
     Ranged (seenBook (a .count) (a .sort .now) (a .tm .now) (a .w .now))
 ranged c =
-    let start = c .before .before .before .before in
+    let past = c .before .before in
+    let start = past .before .before .before .before in
     let a = start .args in
-    seen-ranged (a .count) 0 (marksIn start) (a .w .now)
-    (rows-ranged (bookOf start) (rows-length (marksIn start) (a .w .now)) (c .before .before .if2 .left) (rows-hold c))
+    seen-ranged (a .count) 0 (marksIn start) (a .w .now) (a .modes .now)
+    (rows-ranged (bookOf start) (rows-length (marksIn start) (a .w .now)) (past .before .before .if2 .left) (rows-hold past))
 
 need-cm-requires : tie.Need-need-cm-requires
 need-cm-requires c κs = (ranged c, omega arith)
@@ -57,20 +77,22 @@ need-cm-requires c κs = (ranged c, omega arith)
 account-at-requires : tie.Need-account-at-requires
 account-at-requires c κs = (omega arith, ranged (c .before) .ranges 0 (omega arith))
 
-returns-4 : tie.Need-returns-4
+returns-5 : tie.Need-returns-5
 unfolding soundB formedB coveredB
-returns-4 c =
-    let rows = c .before .before .before in
+returns-5 c =
+    let modes = c .before .before .before in
+    let rows = modes .before .before in
     let start = rows .before .before .before .before in
     let a = start .args in
     let m = marksIn start in
     simp (
-      ap (λ x. x .collateral) (c .before .account-at .ensures ∙ seen-account (a .count) 0 m (a .w .now) 0),
-      c .before .before .need-cm .ensures ∙ ap needCM (seen-view (a .count) 0 m (a .w .now)),
+      ap (λ x. x .collateral) (c .before .account-at .ensures ∙ seen-account (a .count) 0 m (a .w .now) (a .modes .now) 0),
+      c .before .before .need-cm .ensures ∙ ap needCM (seen-view (a .count) 0 m (a .w .now) (a .modes .now)),
       le-leb 1 (a .count) (omega arith),
       le-leb (a .count) 256 (omega arith),
       rows-hold rows,
       eq-eqb _ 256 (rows-length m (a .w .now)),
+      modes-tested (modes .before) ∙ not-false _ (modes .if4 .left),
     )
 
 pub table-sound-spec : {M : Type 1} → statement M
@@ -81,6 +103,8 @@ table-sound-spec =
     returns-2
     rows-sound-requires
     returns-3
+    modes-sound-requires
+    returns-4
     need-cm-requires
     account-at-requires
-    returns-4)
+    returns-5)

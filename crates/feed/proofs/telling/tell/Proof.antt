@@ -6,8 +6,8 @@ use lib.ListN.{length, length-replicate}
 use lib.Seq.{length-take-le}
 use borrow.Author.Needs.{needs}
 use Rattle.rows.specs.declared.Book.{Book}
-use Rattle.table.specs.Words.{Marks, bookFrom, marksFrom}
-use Rattle.steps.specs.Steps.{Ready}
+use Rattle.table.specs.Words.{marksFrom}
+use Rattle.steps.specs.Steps.{bookAt, Going}
 use Rattle.records.specs.declared.Ran.{Ran}
 use Rattle.records.specs.Runs.{runOf}
 use Rattle.records.specs.Inner.{ranIn}
@@ -17,12 +17,12 @@ use Rattle.feed.proofs.telling.tell.Statement.{statement}
 use Rattle.feed.proofs.telling.tell.Tie as tie
 
 abbrev Inv-loop : tie.InvT-loop
-Inv-loop sort₀ live₀ tm₀ w₀ under₀ first due piece most text₀ told₀ count₀ serial₀ place₀ read₀ done₀ sort live tm w under text told count serial place read done =
-    Telling piece most (bookFrom count₀ serial₀ (marksFrom sort₀ live₀ tm₀) w₀) text told (bookFrom count serial (marksFrom sort live tm) w) place read done
-    × Ready count serial (marksFrom sort live tm) w under
+Inv-loop sort₀ live₀ tm₀ w₀ modes₀ under₀ used₀ was piece most text₀ told₀ at₀ place₀ read₀ done₀ sort live tm w modes under used text told at place read done =
+    Telling piece most (bookAt at₀ (marksFrom sort₀ live₀ tm₀) w₀ was modes₀) text told (bookAt at (marksFrom sort live tm) w was modes) place read done
+    × Going at (marksFrom sort live tm) w was modes under used
 
 abbrev μ-loop : tie.MeasureT-loop
-μ-loop sort₀ live₀ tm₀ w₀ under₀ first due piece most text₀ told₀ count₀ serial₀ place₀ read₀ done₀ sort live tm w under text told count serial place read done =
+μ-loop sort₀ live₀ tm₀ w₀ modes₀ under₀ used₀ was piece most text₀ told₀ at₀ place₀ read₀ done₀ sort live tm w modes under used text told at place read done =
     most - read
 
 -- THE PLACES, each named once.
@@ -30,7 +30,7 @@ abbrev called : tie.At-loop Inv-loop μ-loop → tie.Start Inv-loop μ-loop
 called t = t .before .before
 
 abbrev turn : tie.After-go Inv-loop μ-loop → tie.At-loop Inv-loop μ-loop
-turn g = g .before .before .before .before .before .before .before .before .before
+turn g = g .before .before .before .before .before .before .before .before .before .before .before
 
 abbrev went : tie.After-told-lines Inv-loop μ-loop → tie.After-go Inv-loop μ-loop
 went l = l .before .before .before .before
@@ -39,17 +39,17 @@ abbrev lined : tie.After-write-all Inv-loop μ-loop → tie.After-told-lines Inv
 lined w = w .before .before .before
 
 abbrev printed : tie.After-is-long Inv-loop μ-loop → tie.After-write-all Inv-loop μ-loop
-printed s = s .before .before .before .before
+printed s = s .before .before .before .before .before
 
 -- the book at the start, and that after a call
 abbrev b₀ : tie.Start Inv-loop μ-loop → Book
-b₀ s = let a = s .args in bookFrom (a .first) (a .due) (marksFrom (a .sort .now) (a .live .now) (a .tm .now)) (a .w .now)
+b₀ s = let a = s .args in bookAt (a .first) (marksFrom (a .sort .now) (a .live .now) (a .tm .now)) (a .w .now) (a .was .now) (a .modes .now)
 
 abbrev ran : tie.After-go Inv-loop μ-loop → Ran
-ran g = let x = g .go .last in ranIn (g .go .result) (marksFrom (x .0) (x .1 .0) (x .1 .1 .0)) (x .1 .1 .1 .0)
+ran g = let x = g .go .last in ranIn (g .go .result) (marksFrom (x .0) (x .1 .0) (x .1 .1 .0)) (x .1 .1 .1 .0) (called (turn g) .args .was .now) (x .1 .1 .1 .1 .0)
 
 call : (g : tie.After-go Inv-loop μ-loop) → (let s = called (turn g) in let v = turn g .loop in
-    Call (s .args .piece .now) (s .args .most) (b₀ s) (v .text) (v .told) (bookFrom (v .count) (v .serial) (marksFrom (v .sort) (v .live) (v .tm)) (v .w)) (v .place) (v .read) (v .done) (ran g))
+    Call (s .args .piece .now) (s .args .most) (b₀ s) (v .text) (v .told) (bookAt (v .at) (marksFrom (v .sort) (v .live) (v .tm)) (v .w) (s .args .was .now) (v .modes)) (v .place) (v .read) (v .done) (ran g))
 call g =
     let v = turn g .loop in
     record {
@@ -79,11 +79,11 @@ at-once-requires : tie.Need-at-once-requires Inv-loop μ-loop
 at-once-requires c κs = search needs
 
 slice-aggregate-go : tie.Need-slice-aggregate-go Inv-loop μ-loop
-slice-aggregate-go c = sym (c .before .before .before .before .before .before .before .before .loop .inv .0 .numbers)
+slice-aggregate-go c = sym (c .before .before .before .before .before .before .before .before .before .before .loop .inv .0 .numbers)
 
 go-requires : tie.Need-go-requires Inv-loop μ-loop
 go-requires c κs =
-    let v = c .before .before .before .before .before .before .before .before .loop in
+    let v = c .before .before .before .before .before .before .before .before .before .before .loop in
     (v .inv .1, λ t. omega (arith, c .before .at-once .ensures, v .inv .0 .numbers))
 
 slice-aggregate-told-lines : tie.Need-slice-aggregate-told-lines Inv-loop μ-loop
@@ -106,17 +106,17 @@ write-all-requires c κs = search needs
 
 add-place : tie.Need-add-place Inv-loop μ-loop
 add-place c =
-    let g = went (lined (c .before)) in
-    omega (arith, place-most (call g), called (turn g) .good .1 .1 .1 .1 .1 .1 .1 .0)
+    let g = went (lined (c .before .before)) in
+    omega (arith, place-most (call g), called (turn g) .good .1 .1 .1 .1 .1 .1 .1 .1 .1 .0)
 
 add-read : tie.Need-add-read Inv-loop μ-loop
 add-read c =
-    let g = went (lined (c .before .before)) in
+    let g = went (lined (c .before .before .before)) in
     omega (arith, read-most (call g), called (turn g) .fits .most .fits)
 
 add-done : tie.Need-add-done Inv-loop μ-loop
 add-done c =
-    let g = went (lined (c .before .before .before)) in
+    let g = went (lined (c .before .before .before .before)) in
     omega (arith, read-most (call g), done-most (call g), called (turn g) .fits .most .fits)
 
 is-long-requires : tie.Need-is-long-requires Inv-loop μ-loop
@@ -132,7 +132,7 @@ loop-again : tie.Need-loop-again Inv-loop μ-loop
 loop-again c =
     let t = lined (printed (c .before)) in
     let g = went t in
-    (told-on (call g) _ _ (t .told-lines .kept .1 .1 .0 ∙ call g .before .size) (g .go .kept .1 .1 .1 .1 .1 .1 .1 .1 .1 .0 ∙ call g .before .numbers), g .go .ensures .1 .0)
+    (told-on (call g) _ _ (t .told-lines .kept .1 .1 .0 ∙ call g .before .size) (g .go .kept .1 .1 .1 .1 .1 .1 .1 .1 .1 .1 .1 .0 ∙ call g .before .numbers), g .go .ensures .1 .0)
 
 returns : tie.Need-returns Inv-loop μ-loop
 returns c =

@@ -15,11 +15,11 @@ put-sort-requires c κs = search needs
 put-state-requires : tie.Need-put-state-requires
 put-state-requires c κs = search needs
 
-cast-put-six : tie.Need-cast-put-six
-cast-put-six c = search needs
+put-numbers-requires : tie.Need-put-numbers-requires
+put-numbers-requires c κs = search needs
 
-put-six-requires : tie.Need-put-six-requires
-put-six-requires c κs = search needs
+put-mode-requires : tie.Need-put-mode-requires
+put-mode-requires c κs = search needs
 
 same-length : tie.Need-same-length
 same-length c = search needs
@@ -27,10 +27,14 @@ same-length c = search needs
 returns : tie.Need-returns
 unfolding standingLine
 returns c =
-    let p = c .before .before .put-six .ensures in (
-      and-then _ _ (c .before .before .before .before .before .before .before .before .before .before .before .before .before .before .before .put-number .ensures .0)
-          (and-then _ _ (c .before .before .before .before .before .before .before .before .before .before .before .put-sort .ensures .0)
-          (and-then _ _ (c .before .before .before .before .before .before .before .put-state .ensures .0) (p .0))),
+    let m = c .before .before in
+    let n = m .before .before .before .before in
+    let s = n .before .before .before .before in
+    let k = s .before .before .before .before in
+    let i = k .before .before .before .before in (
+      and-then _ _ (i .put-number .ensures .0)
+          (and-then _ _ (k .put-sort .ensures .0)
+          (and-then _ _ (s .put-state .ensures .0) (and-then _ _ (n .put-numbers .ensures .0) (m .put-mode .ensures .0)))),
       omega arith,
     )
 
@@ -41,7 +45,7 @@ put-standing-spec =
     put-number-requires
     put-sort-requires
     put-state-requires
-    cast-put-six
-    put-six-requires
+    put-numbers-requires
+    put-mode-requires
     same-length
     returns)

@@ -9,19 +9,20 @@ use Rattle.sums.specs.Sum.{only}
 use Rattle.rows.specs.declared.Account.{Account}
 use Rattle.rows.specs.View.{isClientOf, ownDeemed}
 use Rattle.rows.specs.Rows.{rowAt, accountOf, view}
-use Rattle.rows.specs.Under.{clientDue}
-use Rattle.rows.specs.Inner.{Slot, clientsBelow}
-use Rattle.rows.proofs.NeedSums.{clients-none, clients-step, clients-most, due-most, due-at, add-at}
+use Rattle.rows.specs.Under.{accountAt, clientDue}
+use Rattle.rows.specs.Inner.{Slot, clientsBelow, accountAs, viewAs}
+use Rattle.rows.proofs.NeedSums.{clients-none, clients-step, due-most, due-at, add-at}
+use Rattle.rows.proofs.Bounds.{clients-most, bounded-in}
 use Rattle.table.specs.Facts.{seenBook}
 use Rattle.table.proofs.needs.client_sums.Statement.{statement}
 use Rattle.table.proofs.needs.client_sums.Tie as tie
 
 abbrev Inv-loop : tie.InvT-loop
-Inv-loop sort tm w count owed₀ n i₀ owed i =
-    (n ≡ count) × (i ≤ n) × (length owed ≡ 256) × ((t : ℕ) → t < 256 → getD owed t 0 ≡ clientsBelow (view (seenBook count sort tm w)) t i)
+Inv-loop sort tm w count tenths owed₀ n i₀ owed i =
+    (n ≡ count) × (i ≤ n) × (length owed ≡ 256) × ((t : ℕ) → t < 256 → getD owed t 0 ≡ clientsBelow (viewAs tenths (view (seenBook count sort tm w))) t i)
 
 abbrev μ-loop : tie.MeasureT-loop
-μ-loop sort tm w count owed₀ n i₀ owed i = n - i
+μ-loop sort tm w count tenths owed₀ n i₀ owed i = n - i
 
 zeros-requires : tie.Need-zeros-requires Inv-loop μ-loop
 zeros-requires c κs = search needs
@@ -32,11 +33,11 @@ loop-holds c =
       refl,
       omega arith,
       ap length (c .zeros .ensures) ∙ length-replicate {A = ℕ} 256 0,
-      λ t h. rw (c .zeros .ensures) (getD-replicate 256 t 0 0 h ∙ sym (clients-none (view (seenBook (a .count) (a .sort .now) (a .tm .now) (a .w .now))) t)),
+      λ t h. rw (c .zeros .ensures) (getD-replicate 256 t 0 0 h ∙ sym (clients-none (viewAs (a .tenths) (view (seenBook (a .count) (a .sort .now) (a .tm .now) (a .w .now)))) t)),
     )
 
-account-at-requires : tie.Need-account-at-requires Inv-loop μ-loop
-account-at-requires c κs =
+account-as-requires : tie.Need-account-as-requires Inv-loop μ-loop
+account-as-requires c κs =
     let start = c .before .before .before in
     let most = start .pre .most in
     (omega arith, start .pre .ranges (c .before .loop .i) (omega arith))
@@ -65,10 +66,10 @@ add-owed c =
     omega (
       arith,
       at .loop .inv .3 t (c .before .slot .ensures .inside),
-      clients-most b (start .pre) t i (omega arith),
-      c .client-due .ensures ∙ ap clientDue (c .before .before .account-at .ensures),
-      due-most (accountOf (rowAt b i)),
-      start .pre .ranges i (omega arith) .margin,
+      clients-most (viewAs (a .tenths) (view b)) 100_000_000_000_000 (bounded-in (a .tenths) b (start .pre)) t i (omega arith),
+      c .client-due .ensures ∙ ap clientDue (c .before .before .account-as .ensures),
+      due-most (accountAs (a .tenths) (accountOf (rowAt b i))),
+      bounded-in (a .tenths) b (start .pre) .margins i (omega arith),
     )
 
 mul-owed-2 : tie.Need-mul-owed-2 Inv-loop μ-loop
@@ -93,16 +94,17 @@ loop-again c =
     let s = c .before .slot .result in
     let d = c .client-due .result in
     let inside = c .before .slot .ensures .inside in
-    let is-account = c .before .before .account-at .ensures in
-    let is-due : d ≡ clientDue (accountOf (rowAt b i)) = c .client-due .ensures ∙ ap clientDue is-account in
+    let is-account = c .before .before .account-as .ensures in
+    let v = viewAs (a .tenths) (view b) in
+    let is-due : d ≡ clientDue (accountAt v i) = c .client-due .ensures ∙ ap clientDue is-account in
     let is-slot : Slot (rowAt b i .tm) s = subst (λ (x : Account). Slot (x .tm) s) is-account (c .before .slot .ensures) in (
       refl,
       omega arith,
       length-set owed s (getD owed s 0 + d) ∙ at .loop .inv .2,
       λ t h.
-          let due : only (isClientOf (view b) t i) (ownDeemed (view b) i) ≡ only (eqb s t) d =
-          rw (is-due) (due-at (accountOf (rowAt b i)) s t h is-slot) in
-          omega (arith, add-at owed s d t (omega arith), at .loop .inv .3 t h, clients-step (view b) t i),
+          let due : only (isClientOf v t i) (ownDeemed v i) ≡ only (eqb s t) d =
+          rw (is-due) (due-at (accountAt v i) s t h is-slot) in
+          omega (arith, add-at owed s d t (omega arith), at .loop .inv .3 t h, clients-step v t i),
     )
 
 returns : tie.Need-returns Inv-loop μ-loop
@@ -110,7 +112,7 @@ returns c =
     let a = c .before .before .before .args in
     record {
       size = c .before .loop .inv .2;
-      each = λ t h. c .before .loop .inv .3 t h ∙ ap (clientsBelow (view (seenBook (a .count) (a .sort .now) (a .tm .now) (a .w .now))) t) (omega arith);
+      each = λ t h. c .before .loop .inv .3 t h ∙ ap (clientsBelow (viewAs (a .tenths) (view (seenBook (a .count) (a .sort .now) (a .tm .now) (a .w .now)))) t) (omega arith);
     }
 
 pub client-sums-spec : {M : Type 1} → statement M
@@ -121,7 +123,7 @@ client-sums-spec =
     μ-loop
     zeros-requires
     loop-holds
-    account-at-requires
+    account-as-requires
     slot-requires
     client-due-requires
     mul-owed

@@ -4,28 +4,36 @@ use Prim.Native.Nat.{ℕ, _-_, _≤_}
 use native.Mathlib.Omega.{arith}
 use Rattle.rows.specs.declared.Account.{Account}
 use Rattle.rows.specs.declared.Book.{Book}
+use Rattle.rows.specs.View.{View}
 use Rattle.rows.specs.Rows.{view}
 use Rattle.rows.specs.Under.{accountAt, memberDue}
-use Rattle.rows.specs.Inner.{clientsBelow, membersBelow}
-use Rattle.rows.proofs.NeedSums.{members-none, members-step, members-most, member-most, clients-top}
+use Rattle.rows.specs.Inner.{clientsBelow, membersBelow, viewAs}
+use Rattle.rows.proofs.NeedSums.{members-none, members-step, member-most}
+use Rattle.rows.proofs.Bounds.{Bounded, members-most, clients-top, bounded-in}
 use Rattle.table.specs.Facts.{seenBook}
 use Rattle.table.proofs.needs.members_sum.Statement.{statement}
 use Rattle.table.proofs.needs.members_sum.Tie as tie
 
 abbrev Inv-loop : tie.InvT-loop
-Inv-loop sort tm w count owed sum₀ n i₀ sum i = (n ≡ count) × (i ≤ n) × (sum ≡ membersBelow (view (seenBook count sort tm w)) i)
+Inv-loop sort tm w count tenths owed sum₀ n i₀ sum i = (n ≡ count) × (i ≤ n) × (sum ≡ membersBelow (viewAs tenths (view (seenBook count sort tm w))) i)
 
 abbrev μ-loop : tie.MeasureT-loop
-μ-loop sort tm w count owed sum₀ n i₀ sum i = n - i
+μ-loop sort tm w count tenths owed sum₀ n i₀ sum i = n - i
 
 abbrev bookOf : tie.Start Inv-loop μ-loop → Book
 bookOf c = seenBook (c .args .count) (c .args .sort .now) (c .args .tm .now) (c .args .w .now)
 
-loop-holds : tie.Need-loop-holds Inv-loop μ-loop
-loop-holds c = (refl, omega arith, omega (arith, members-none (view (bookOf c))))
+abbrev seen : tie.Start Inv-loop μ-loop → View
+seen c = viewAs (c .args .tenths) (view (bookOf c))
 
-account-at-requires : tie.Need-account-at-requires Inv-loop μ-loop
-account-at-requires c κs =
+bounded : (c : tie.Start Inv-loop μ-loop) → Bounded (seen c) 100_000_000_000_000
+bounded c = bounded-in (c .args .tenths) (bookOf c) (c .pre .0)
+
+loop-holds : tie.Need-loop-holds Inv-loop μ-loop
+loop-holds c = (refl, omega arith, omega (arith, members-none (seen c)))
+
+account-as-requires : tie.Need-account-as-requires Inv-loop μ-loop
+account-as-requires c κs =
     let start = c .before .before in
     let most = start .pre .0 .most in
     (omega arith, start .pre .0 .ranges (c .before .loop .i) (omega arith))
@@ -41,8 +49,8 @@ member-due-requires c κs =
     let start = c .before .before .before in
     let i = c .before .before .loop .i in
     let most = start .pre .0 .most in (
-      rw (c .account-at .ensures) (omega (arith, start .pre .0 .ranges i (omega arith) .margin)),
-      omega (arith, start .pre .1 .each i (omega arith), clients-top (bookOf start) (start .pre .0) i),
+      rw (c .account-as .ensures) (bounded start .margins i (omega arith)),
+      omega (arith, start .pre .1 .each i (omega arith), clients-top (seen start) 100_000_000_000_000 (bounded start) i),
     )
 
 both : {a a′ : Account} {d d′ : ℕ} → a ≡ a′ → d ≡ d′ → memberDue a d ≡ memberDue a′ d′
@@ -50,26 +58,26 @@ both p q = cc
 
 -- what the account adds, by the sum of its clients
 adds : (c : tie.After-member-due Inv-loop μ-loop)
-    → c .member-due .result ≡ memberDue (accountAt (view (bookOf (c .before .before .before .before))) (c .before .before .before .loop .i)) (clientsBelow (view (bookOf (c .before .before .before .before))) (c .before .before .before .loop .i) (c .before .before .before .before .args .count))
+    → c .member-due .result ≡ memberDue (accountAt (seen (c .before .before .before .before)) (c .before .before .before .loop .i)) (clientsBelow (seen (c .before .before .before .before)) (c .before .before .before .loop .i) (c .before .before .before .before .args .count))
 adds c =
     let start = c .before .before .before .before in
     let i = c .before .before .before .loop .i in
     let most = start .pre .0 .most in
-    c .member-due .ensures ∙ both (c .before .account-at .ensures) (start .pre .1 .each i (omega arith))
+    c .member-due .ensures ∙ both (c .before .account-as .ensures) (start .pre .1 .each i (omega arith))
 
 add-sum : tie.Need-add-sum Inv-loop μ-loop
 add-sum c =
     let start = c .before .before .before .before in
-    let b = bookOf start in
+    let v = seen start in
     let i = c .before .before .before .loop .i in
     let most = start .pre .0 .most in
     omega (
       arith,
       adds c,
-      members-most b (start .pre .0) i (omega arith),
-      member-most (accountAt (view b) i) (clientsBelow (view b) i (b .count)),
-      start .pre .0 .ranges i (omega arith) .margin,
-      clients-top b (start .pre .0) i,
+      members-most v 100_000_000_000_000 (bounded start) i (omega arith),
+      member-most (accountAt v i) (clientsBelow v i (v .count)),
+      bounded start .margins i (omega arith),
+      clients-top v 100_000_000_000_000 (bounded start) i,
     )
 
 add-i : tie.Need-add-i Inv-loop μ-loop
@@ -80,10 +88,10 @@ loop-less c = omega arith
 
 loop-again : tie.Need-loop-again Inv-loop μ-loop
 loop-again c =
-    (refl, omega arith, omega (arith, adds c, members-step (view (bookOf (c .before .before .before .before))) (c .before .before .before .loop .i)))
+    (refl, omega arith, omega (arith, adds c, members-step (seen (c .before .before .before .before)) (c .before .before .before .loop .i)))
 
 returns : tie.Need-returns Inv-loop μ-loop
-returns c = c .before .loop .inv .2 ∙ ap (membersBelow (view (bookOf (c .before .before)))) (omega arith)
+returns c = c .before .loop .inv .2 ∙ ap (membersBelow (seen (c .before .before))) (omega arith)
 
 pub members-sum-spec : {M : Type 1} → statement M
 members-sum-spec =
@@ -92,7 +100,7 @@ members-sum-spec =
     Inv-loop
     μ-loop
     loop-holds
-    account-at-requires
+    account-as-requires
     mul-member-due
     array-read-member-due
     member-due-requires

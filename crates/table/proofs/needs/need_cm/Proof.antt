@@ -4,8 +4,9 @@ use mathlib.Core.Path.{_≡_, ap, sym, _∙_}
 use native.Mathlib.Omega.{arith}
 use borrow.Author.Needs.{needs}
 use Rattle.rows.specs.declared.Book.{Book}
-use Rattle.rows.specs.Rows.{rowAt, view}
-use Rattle.rows.proofs.NeedSums.{members-top, need-cm-sum}
+use Rattle.rows.specs.Rows.{ceiling, rowAt, view}
+use Rattle.rows.proofs.NeedSums.{need-cm-sum}
+use Rattle.rows.proofs.Bounds.{members-top, ranged-bounded}
 use Rattle.table.specs.Words.{marksFrom}
 use Rattle.table.specs.Facts.{seenBook}
 use Rattle.table.proofs.Gathered.{row-in}
@@ -36,7 +37,7 @@ add-result c =
       arith,
       own (c .before),
       c .members-sum .ensures,
-      members-top (bookOf start) (start .pre .0),
+      members-top (view (bookOf start)) ceiling (ranged-bounded (bookOf start) (start .pre .0)),
       start .pre .0 .ranges 0 (start .pre .1) .margin,
     )
 

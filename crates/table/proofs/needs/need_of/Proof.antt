@@ -7,8 +7,9 @@ use borrow.Author.Tests.{eq-eqb, ne-eqb}
 use Rattle.sums.proofs.Choices.{pass, stop}
 use Rattle.rows.specs.declared.Book.{Book}
 use Rattle.rows.specs.View.{need}
-use Rattle.rows.specs.Rows.{rowAt, view}
-use Rattle.rows.proofs.NeedSums.{clients-top, need-tm-sum}
+use Rattle.rows.specs.Rows.{ceiling, rowAt, view}
+use Rattle.rows.proofs.NeedSums.{need-tm-sum}
+use Rattle.rows.proofs.Bounds.{clients-top, ranged-bounded}
 use Rattle.table.specs.Words.{marksFrom, rowIn}
 use Rattle.table.specs.Facts.{seenBook}
 use Rattle.table.proofs.Gathered.{row-in}
@@ -58,7 +59,7 @@ add-result c =
     let start = word .before in
     let i = start .args .i in
     let most = start .pre .0 .most in
-    omega (arith, own word, c .client-sums .ensures .each i (omega arith), clients-top (bookOf start) (start .pre .0) i, start .pre .0 .ranges i (start .pre .1) .margin)
+    omega (arith, own word, c .client-sums .ensures .each i (omega arith), clients-top (view (bookOf start)) ceiling (ranged-bounded (bookOf start) (start .pre .0)) i, start .pre .0 .ranges i (start .pre .1) .margin)
 
 returns-2 : tie.Need-returns-2
 unfolding need

@@ -1,0 +1,123 @@
+-- K2: the modes after a record. They are looked at after one that is carried out, and stay at a refusal.
+use mathlib.Core.Bool.{Bool, true, false}
+use mathlib.Core.List.{List}
+use mathlib.Core.Path.{_≡_, refl, sym, ap, _∙_}
+use Prim.Native.Nat.{ℕ, _≤_, _<_}
+use native.Mathlib.Omega.{arith}
+use native.Mathlib.Decide.{ℕ-discrete, decLe, decLt}
+use lib.ListN.{getD, set}
+use lib.Seq.{getD-set-other}
+use Rattle.sums.specs.Choice.{pick}
+use Rattle.sums.proofs.Choices.{pick-yes, pick-no}
+use Rattle.rows.specs.declared.Row.{Row}
+use Rattle.rows.specs.declared.Book.{Book}
+use Rattle.rows.specs.Rows.{placeOf, modeAt, openedRow, view, withModes, withRow, withNew}
+use Rattle.rows.specs.Modes.{lookAt, looked, settled}
+use Rattle.rows.specs.Inner.{Slot}
+use Rattle.rows.proofs.Looks.{looked-at, look-twice}
+use Rattle.dayfile.specs.declared.Record.{Record}
+use Rattle.rules.specs.declared.Change.the-variants.{Put, Open}
+use Rattle.rules.specs.Refusals.{isOpening, namedRow, refusalOf}
+use Rattle.rules.specs.Effects.{amended, effectOf, movedOn, changedBy, bookAfter}
+use Rattle.rules.proofs.Passing.{passes-all}
+use Rattle.rules.proofs.Deciding.{passes-as}
+use Rattle.rules.proofs.Kept.{put-looks, open-looks}
+use Rattle.desk.specs.Steps.{stepOf}
+use Rattle.desk.proofs.Effect.{early-refusal, later-refusal, passed-as}
+
+module _ (b : Book) (r : Record) where
+  abbrev newRow : Row
+  newRow = openedRow (r .code) (r .account)
+
+  abbrev putRow : Row
+  putRow = amended (namedRow b r) r
+
+  -- the change alone leaves the modes
+  modes-kept : (t : Bool) → changedBy b (r .account) (pick t (Open newRow) (Put putRow)) .modes ≡ b .modes
+  unfolding pick
+  modes-kept true = refl
+  modes-kept false = refl
+
+  -- what is carried out ends in a look
+  pub carried-book : refusalOf b r ≡ 0
+      → stepOf b r .book ≡ settled (changedBy b (placeOf b (r .account)) (effectOf (namedRow b r) (placeOf b (r .account)) r))
+  unfolding pick
+  carried-book e = ap (λ d. d .book) (passed-as b r e) ∙ by (isOpening r)
+    where
+      by : (t : Bool) → bookAfter b (r .account) (pick t (Open newRow) (Put putRow)) ≡ settled (changedBy b (r .account) (pick t (Open newRow) (Put putRow)))
+      by true = refl
+      by false = refl
+
+  -- at the figures after the record, from the modes before it
+  pub modes-after : refusalOf b r ≡ 0 → stepOf b r .book .modes ≡ looked (view (stepOf b r .book)) (b .modes)
+  modes-after e =
+      let c = changedBy b (r .account) (effectOf (namedRow b r) (r .account) r) in
+      ap (λ x. x .modes) (carried-book e) ∙ ap (looked (view c)) (modes-kept (isOpening r)) ∙ sym (ap (λ x. looked (view x) (b .modes)) (carried-book e))
+
+  pub mode-after : refusalOf b r ≡ 0 → (i : ℕ) → i < 256 → modeAt (stepOf b r .book) i ≡ lookAt (view (stepOf b r .book)) (b .modes) i
+  mode-after e i l = ap (λ m. getD m i false) (modes-after e) ∙ looked-at (view (stepOf b r .book)) (b .modes) i l
+
+  pub modes-stay : 0 < refusalOf b r → stepOf b r .book .modes ≡ b .modes
+  modes-stay p = by (decLe (refusalOf b r) 3)
+    where
+      by : Dec (refusalOf b r ≤ 3) → stepOf b r .book .modes ≡ b .modes
+      by (yes q) = ap (λ x. x .modes) (early-refusal b r p q)
+      by (no q) = ap (λ x. x .modes) (later-refusal b r (omega arith))
+
+  -- a second look leaves the book after
+  pub looked-after : refusalOf b r ≡ 0 → settled (stepOf b r .book) ≡ stepOf b r .book
+  looked-after e =
+      let c = stepOf b r .book in
+      ap (withModes c) (ap (looked (view c)) (modes-after e) ∙ look-twice (view c) (b .modes) ∙ sym (modes-after e))
+
+  -- and where a look leaves the book, it leaves the book after a refusal too
+  pub been-looked : settled b ≡ b → settled (stepOf b r .book) ≡ stepOf b r .book
+  been-looked been = by (ℕ-discrete (refusalOf b r) 0) (decLe (refusalOf b r) 3)
+    where
+      by : Dec (refusalOf b r ≡ 0) → Dec (refusalOf b r ≤ 3) → settled (stepOf b r .book) ≡ stepOf b r .book
+      by (yes e) d = looked-after e
+      by (no e) (yes l) = rw (early-refusal b r (omega arith) l) been
+      by (no e) (no l) = rw (later-refusal b r (omega arith)) (ap movedOn been)
+
+  -- where the modes are those that a look leaves, a record moves three of them at most
+  module _ (been : settled b ≡ b) (i : ℕ) (own : i ≡ r .account → ⊥) (its : i ≡ namedRow b r .tm → ⊥) (top : i ≡ 0 → ⊥) where
+    before : getD (looked (view b) (b .modes)) i false ≡ modeAt b i
+    before = ap (λ x. modeAt x i) been
+
+    -- the look after an opening, and after any other record
+    abbrev w : Bool → List Bool
+    w true = looked (view (withNew b newRow)) (b .modes)
+    w false = looked (view (withRow b (r .account) putRow)) (b .modes)
+
+    carried : refusalOf b r ≡ 0 → (t : Bool) → isOpening r ≡ t → getD (w t) i false ≡ modeAt b i
+    carried e true o = ap (λ m. getD m i false) (open-looks b r newRow (passes-all b r e .sound) (passes-as b r newRow (passes-all b r e) e ∙ pick-yes (isOpening r) _ _ o) (b .modes)) ∙ before
+    carried e false o = three (decLt (namedRow b r .tm) 256)
+      where
+        -- the place of the account's TM, or some place where the table has no such place
+        at : (p : ℕ) → Slot (namedRow b r .tm) p → (i ≡ p → ⊥) → getD (w false) i false ≡ modeAt b i
+        at p s n =
+            let v = view (withRow b (r .account) putRow) in
+            let l = looked (view b) (b .modes) in
+            let l₁ = set l (r .account) (lookAt v (b .modes) (r .account)) in
+            let l₂ = set l₁ p (lookAt v (b .modes) p) in
+            ap (λ m. getD m i false) (put-looks b r putRow (passes-all b r e .sound) (passes-as b r putRow (passes-all b r e) e ∙ pick-no (isOpening r) _ _ o) (b .modes) p s)
+            ∙ getD-set-other l₂ 0 i (lookAt v (b .modes) 0) false top
+            ∙ getD-set-other l₁ p i (lookAt v (b .modes) p) false n
+            ∙ getD-set-other l (r .account) i (lookAt v (b .modes) (r .account)) false own
+            ∙ before
+
+        three : Dec (namedRow b r .tm < 256) → getD (w false) i false ≡ modeAt b i
+        three (yes q) = at (namedRow b r .tm) (record { inside = q; named = λ h. refl }) its
+        three (no q) = at 0 (record { inside = omega arith; named = λ h. absurd (q h) }) top
+
+    pub others-stay-in : modeAt (stepOf b r .book) i ≡ modeAt b i
+    unfolding pick
+    others-stay-in = by (ℕ-discrete (refusalOf b r) 0)
+      where
+        put : (t : Bool) → settled (changedBy b (r .account) (pick t (Open newRow) (Put putRow))) .modes ≡ w t
+        put true = refl
+        put false = refl
+
+        by : Dec (refusalOf b r ≡ 0) → modeAt (stepOf b r .book) i ≡ modeAt b i
+        by (yes e) = ap (λ x. modeAt x i) (carried-book e) ∙ ap (λ m. getD m i false) (put (isOpening r)) ∙ carried e (isOpening r) refl
+        by (no e) = ap (λ m. getD m i false) (modes-stay (omega arith))

@@ -1,0 +1,66 @@
+// Records handed over as values, and what is shown of the tables after them.
+use dayfile::Record;
+use rows::Kinds;
+use table::Table;
+
+pub const CASH: u8 = 1;
+
+pub const MARGIN: u8 = 32;
+
+pub fn say(text: &[u8]) {
+    io::write_all(1, text);
+}
+
+// A record with the table's next serial: x is its cash, or its margin.
+fn record(t: Table, code: u8, named: u8, account: u16, x: u64) -> Record {
+    let cash = if named == CASH { x } else { 0 };
+    let margin = if named == MARGIN { x } else { 0 };
+    Record {
+        serial: t.serial,
+        code,
+        named,
+        account,
+        kinds: Kinds {
+            cash,
+            deposits: 0,
+            guarantees: 0,
+            securities: 0,
+        },
+        pledged: 0,
+        margin,
+    }
+}
+
+pub fn carried(t: Table, code: u8, named: u8, account: u16, x: u64) -> Table {
+    let done = desk::carry_out(t, record(t, code, named, account, x));
+    let after = done.table;
+    after
+}
+
+// Received and allocated.
+pub fn given(t: Table, account: u16, x: u64) -> Table {
+    let received = carried(t, 4, CASH, account, x);
+    carried(received, 6, CASH, account, x)
+}
+
+pub fn margin(t: Table, account: u16, x: u64) -> Table {
+    carried(t, 10, MARGIN, account, x)
+}
+
+fn mode(t: Table, account: u16) {
+    let figures = book::standing(t, account);
+    if figures.mode {
+        say(b" on");
+    } else {
+        say(b" off");
+    }
+}
+
+// The modes of the first three accounts, as their standings show them.
+pub fn show(text: &[u8], t: Table) {
+    say(text);
+    mode(t, 0);
+    mode(t, 1);
+    mode(t, 2);
+    say(b"\n");
+}

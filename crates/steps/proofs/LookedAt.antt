@@ -1,0 +1,296 @@
+-- A record decided on the words and K2's look after it are together what the record does to the book.
+use mathlib.Core.Bool.{Bool, true, false, _&&_, _||_, and-true, and-false}
+use mathlib.Core.List.{List, []}
+use mathlib.Core.Path.{_≡_, refl, sym, ap, subst, _∙_}
+use Prim.Native.Nat.{ℕ, _+_, _*_, _≤_, _<_}
+use native.Mathlib.Omega.{arith}
+use native.Mathlib.Decide.{ℕ-discrete}
+use lib.Dec.{eqb, ltb, leb}
+use lib.ListN.{length, getD, set}
+use borrow.Author.Tests.{leb-true, ltb-true, leb-false, ltb-false, le-leb}
+use Rattle.sums.specs.Choice.{pick}
+use Rattle.sums.proofs.Choices.{clash, or-split, or-fails, and-split}
+use mathlib.Core.Logic.{_⊎_, inl, inr}
+use Rattle.rows.specs.declared.Row.{Row}
+use Rattle.rows.specs.declared.Account.{Account}
+use Rattle.rows.specs.declared.Book.{Book}
+use Rattle.rows.specs.Rows.{rowAt, places, accountOf, view, withRow, withModes}
+use Rattle.rows.specs.Under.{Under}
+use Rattle.rows.specs.Modes.{hasMode, modeAfter, lookAt, looked}
+use Rattle.rows.specs.Inner.{Slot, accountAs, inTenths}
+use Rattle.rows.proofs.Looks.{looked-size, look-twice, look-by}
+use Rattle.rows.proofs.RowPut.{row-same}
+use Rattle.table.specs.Words.{Marks, rowIn, bookFrom}
+use Rattle.table.proofs.Gathered.{row-in, rows-length}
+use Rattle.book.specs.Facts.{Sound}
+use Rattle.book.proofs.OneRow.{at-all}
+use Rattle.book.proofs.Settled.{sound-rows, all-off}
+use Rattle.book.proofs.UnderMost.{used-most}
+use Rattle.dayfile.specs.declared.Record.{Record}
+use Rattle.dayfile.specs.Records.{knownCode}
+use Rattle.rules.specs.declared.Change.{Change}
+use Rattle.rules.specs.declared.Change.the-variants.{Refuse, Put, Open}
+use Rattle.rules.specs.Refusals.{isOpening, namedRow}
+use Rattle.rules.specs.Effects.{amended, changeOf, movedOn, changedBy, bookAfter}
+use Rattle.rules.proofs.Deciding.{put-passes, made-put, refuse-some, only-openings, never-openings}
+use Rattle.rules.proofs.Codes.{Code, openTM, openClient, openCP, receive, handBack, allocate, release, pledge, unpledge, margin, retire, which}
+use Rattle.rules.proofs.Amending.{by-receive, by-hand-back, by-retire}
+use Rattle.rules.proofs.Kept.{put-keeps, put-looks, open-keeps, open-looks}
+use Rattle.rules.proofs.ModesAside.{same-change}
+use Rattle.rules.proofs.SoundChange.{change-sound}
+use Rattle.steps.specs.declared.At.{At}
+use Rattle.steps.specs.declared.Gone.{Gone}
+use Rattle.steps.specs.declared.looking.Past.{Past}
+use Rattle.steps.specs.Steps.{Ready, Decided, carriedShown, refusalShown, givenShown, modesIn, bookAt, atAfter, Going, Stepped}
+use Rattle.steps.specs.Own.{accountIn, Borne}
+use Rattle.steps.specs.Looks.{Placed, PastOf, ModestPast, lookIn, usedAfter, usedSince, lookedOn, lookedSince}
+use Rattle.steps.proofs.Placing.{placed, modest-in}
+
+-- a row put anew whose figures are the same changes nothing that needs and uses see
+same-figures : (b : Book) (k : ℕ) (x : Row) → k < places b → accountOf x ≡ accountOf (rowAt b k) → view (withRow b k x) ≡ view b
+same-figures b k x l e = λ j. record {
+  count = b .count;
+  sort = λ i. alike i j .sort;
+  tm = λ i. alike i j .tm;
+  collateral = λ i. alike i j .collateral;
+  margin = λ i. alike i j .margin;
+}
+  where
+    alike : (i : ℕ) → accountOf (rowAt (withRow b k x) i) ≡ accountOf (rowAt b i)
+    alike i = at-all (λ j y z. accountOf y ≡ accountOf z) b k x l e (λ j. refl) i
+
+-- receive, hand back and retire move no figure
+still : (row : Row) (r : Record) → isOpening r ≡ false → knownCode (r .code) ≡ true → (leb (r .code) 5 || ltb 10 (r .code)) ≡ true → accountOf (amended row r) ≡ accountOf row
+still row r o k l = by (which (r .code) k)
+  where
+    none : (n : ℕ) → 5 < n → n ≤ 10 → r .code ≡ n → accountOf (amended row r) ≡ accountOf row
+    none n p q e = absurd (by′ (or-split (leb (r .code) 5) (ltb 10 (r .code)) l))
+      where
+        by′ : (leb (r .code) 5 ≡ true) ⊎ (ltb 10 (r .code) ≡ true) → ⊥
+        by′ (inl h) = omega (arith, leb-true (r .code) 5 h)
+        by′ (inr h) = omega (arith, ltb-true 10 (r .code) h)
+
+    by : Code (r .code) → accountOf (amended row r) ≡ accountOf row
+    by (openTM e) = clash (rw e) o
+    by (openClient e) = clash (rw e) o
+    by (openCP e) = clash (rw e) o
+    by (receive e) = ap accountOf (by-receive row r e)
+    by (handBack e) = ap accountOf (by-hand-back row r e)
+    by (allocate e) = none 6 (omega arith) (omega arith) e
+    by (release e) = none 7 (omega arith) (omega arith) e
+    by (pledge e) = none 8 (omega arith) (omega arith) e
+    by (unpledge e) = none 9 (omega arith) (omega arith) e
+    by (margin e) = none 10 (omega arith) (omega arith) e
+    by (retire e) = ap accountOf (by-retire row r e)
+
+module _ (at : At) (m : Marks) (w : List ℕ) (was modes : List Bool) (under used : List ℕ) (g : Going at m w was modes under used) (r : Record) where
+  abbrev before : List Bool
+  before = modesIn (at .waiting) was modes
+
+  -- the book, and as a verdict sees it
+  abbrev b : Book
+  b = bookAt at m w was modes
+
+  abbrev b₀ : Book
+  b₀ = bookFrom (at .count) (at .serial) m w []
+
+  quiet : Sound b₀
+  quiet = all-off b (sound-rows b (g .sound))
+
+  pub decides : Ready (at .count) (at .serial) m w under
+  decides = record { size = g .size; sound = quiet; kept = g .kept }
+
+  pub many-modes : length modes ≡ 256
+  many-modes = ap length (g .looks) ∙ looked-size (view b) before
+
+  same : changeOf b r ≡ changeOf b₀ r
+  same = same-change b₀ before quiet (g .sound) r
+
+  -- what was decided
+  module _ (x : Gone) (n : Marks) (u v : List ℕ) (d : Decided (at .count) (at .serial) m w r x n u v) where
+    abbrev after : Book
+    after = bookFrom (x .count) (x .serial) n u []
+
+    pub places-after : Placed n u
+    places-after = placed (d .ready)
+
+    module _ (c : Change) (e : changeOf b₀ r ≡ c) where
+      is-change : changeOf b r ≡ c
+      is-change = same ∙ e
+
+      is-after : after ≡ changedBy b₀ (r .account) c
+      is-after = d .book ∙ ap (changedBy b₀ (r .account)) e
+
+      -- with the modes and the list of what is in excess after it
+      module _ (modes′ : List Bool) (used′ : List ℕ) (is-book : bookAt (atAfter at x) n u was modes′ ≡ bookAfter b (r .account) c)
+          (uses : Under (inTenths (view after)) used′) (looks : modes′ ≡ looked (view after) (modesIn (atAfter at x .waiting) was modes′)) where
+        steps-to : Stepped at m w was modes r x n u modes′ v used′
+        steps-to = record {
+          refusal = d .refusal ∙ ap refusalShown (sym same);
+          given = d .given ∙ ap (givenShown (at .count)) (sym same);
+          carried = d .carried ∙ ap carriedShown (sym same);
+          book = is-book ∙ ap (bookAfter b (r .account)) (sym is-change);
+          ready = record {
+            size = d .ready .size;
+            many = g .many;
+            sound = rw is-book (rw is-change at (change-sound b r (g .sound)));
+            kept = d .ready .kept;
+            uses = uses;
+            looks = looks;
+          };
+        }
+
+      -- carried out: the modes are those that a look leaves
+      went : carriedShown c ≡ 1 → bookAfter b (r .account) c ≡ withModes (changedBy b₀ (r .account) c) (looked (view (changedBy b₀ (r .account) c)) before)
+          → (modes′ : List Bool) (used′ : List ℕ) → modes′ ≡ looked (view after) before → Under (inTenths (view after)) used′
+          → Stepped at m w was modes r x n u modes′ v used′
+      unfolding pick
+      went one after-is modes′ used′ look uses =
+          let done : x .carried ≡ 1 = d .carried ∙ ap carriedShown e ∙ one in
+          let its : modesIn (atAfter at x .waiting) was modes′ ≡ modes′ =
+          ap (λ t. modesIn t was modes′) (ap (λ k. at .waiting && eqb k 0) done ∙ and-false (at .waiting)) in
+          steps-to modes′ used′
+          (ap (withModes after) (its ∙ look) ∙ ap (λ q. withModes q (looked (view q) before)) is-after ∙ sym after-is)
+          uses
+          (look ∙ sym (look-twice (view after) before) ∙ ap (looked (view after)) (sym look ∙ sym its))
+
+    -- refused: all stays
+    refused : (k : ℕ) → changeOf b₀ r ≡ Refuse k → Stepped at m w was modes r x n u modes v used
+    unfolding pick
+    refused k e =
+        steps-to (Refuse k) e modes used
+        (ap (withModes after) its ∙ ap (λ q. withModes q before) (is-after (Refuse k) e) ∙ with-modes-after (leb k 3))
+        (subst (λ q. Under (inTenths q) used) (sym same-view) (g .uses))
+        (g .looks ∙ ap (λ q. looked q before) (sym same-view) ∙ ap (looked (view after)) (sym its))
+      where
+        its : modesIn (atAfter at x .waiting) was modes ≡ before
+        its = ap (λ t. modesIn t was modes) (ap (λ q. at .waiting && eqb q 0) (d .carried ∙ ap carriedShown e) ∙ and-true (at .waiting))
+
+        with-modes-after : (t : Bool) → withModes (pick t b₀ (movedOn b₀)) before ≡ pick t b (movedOn b)
+        with-modes-after true = refl
+        with-modes-after false = refl
+
+        unmoved : (t : Bool) → view (pick t b₀ (movedOn b₀)) ≡ view b₀
+        unmoved true = refl
+        unmoved false = refl
+
+        same-view : view after ≡ view b₀
+        same-view = ap view (is-after (Refuse k) e) ∙ unmoved (leb k 3)
+
+    -- a code that moves no figure
+    pub plain-step : (leb (r .code) 5 || ltb 10 (r .code)) ≡ true → Stepped at m w was modes r x n u modes v used
+    plain-step l = by (changeOf b₀ r) refl
+      where
+        by : (c : Change) → changeOf b₀ r ≡ c → Stepped at m w was modes r x n u modes v used
+        by (Refuse k) e = refused k e
+        by (Put y) e =
+            let p = put-passes b₀ r y e .account in
+            let stays : view after ≡ view b₀ =
+            ap view (is-after (Put y) e)
+            ∙ same-figures b₀ (r .account) y (omega (arith, rows-length m w, p, quiet .most)) (ap accountOf (made-put b₀ r y e) ∙ still (namedRow b₀ r) r (never-openings b₀ r y e) (put-passes b₀ r y e .good .known) l) in
+            went (Put y) e refl refl modes used (g .looks ∙ ap (λ q. looked q before) (sym stays)) (subst (λ q. Under (inTenths q) used) (sym stays) (g .uses))
+        by (Open y) e =
+            let opens : view after ≡ view (changedBy b₀ (r .account) (Open y)) = ap view (is-after (Open y) e) in
+            went (Open y) e refl refl modes used (g .looks ∙ sym (open-looks b₀ r y quiet e before) ∙ ap (λ q. looked q before) (sym opens))
+            (subst (λ q. Under (inTenths q) used) (sym opens) (open-keeps b₀ r y quiet e true used (g .uses)))
+
+    -- refused, whatever its code
+    pub refused-step : (x .refusal ≡ 0 → ⊥) → Stepped at m w was modes r x n u modes v used
+    refused-step ne = by (changeOf b₀ r) refl
+      where
+        by : (c : Change) → changeOf b₀ r ≡ c → Stepped at m w was modes r x n u modes v used
+        by (Refuse k) e = refused k e
+        by (Put y) e = absurd (ne (d .refusal ∙ ap refusalShown e))
+        by (Open y) e = absurd (ne (d .refusal ∙ ap refusalShown e))
+
+    -- a code that may move figures, carried out: three places are looked at
+    module _ (past : Past) (o : PastOf m w (r .account) past) where
+      pub moved-step : x .refusal ≡ 0 → (leb (r .code) 5 || ltb 10 (r .code)) ≡ false
+          → Stepped at m w was modes r x n u (lookedSince n u used before modes past) v (usedSince n u used past)
+      moved-step z l = by (changeOf b₀ r) refl
+        where
+          by : (c : Change) → changeOf b₀ r ≡ c → Stepped at m w was modes r x n u (lookedSince n u used before modes past) v (usedSince n u used past)
+          by (Refuse k) e = absurd (refuse-some b₀ r k e (sym (d .refusal ∙ ap refusalShown e) ∙ z))
+          by (Open y) e =
+              let c = and-split (leb 1 (r .code)) (leb (r .code) 3) (only-openings b₀ r y e) .1 in
+              absurd (omega (arith, leb-true (r .code) 3 c, leb-false (r .code) 5 (or-fails (leb (r .code) 5) (ltb 10 (r .code)) l .0)))
+          by (Put y) e = went (Put y) e refl refl _ _ looks uses
+            where
+              given : r .account < at .count
+              given = put-passes b₀ r y e .account
+
+              low : r .account < 256
+              low = omega (arith, given, quiet .most)
+
+              its-place : past .place ≡ r .account
+              its-place = o .named low
+
+              own-is : past .own ≡ accountOf (namedRow b₀ r)
+              own-is = o .own ∙ ap (accountIn m w) its-place ∙ sym (ap accountOf (row-in m w (r .account) low))
+
+              p-given : past .own .tm < at .count
+              p-given = by-sort (ℕ-discrete (namedRow b₀ r .sort) 2)
+                where
+                  by-sort : Dec (namedRow b₀ r .sort ≡ 2) → past .own .tm < at .count
+                  by-sort (yes q) = omega (arith, ap (λ a. a .tm) own-is, quiet .shaped .tms (r .account) given q .0, given)
+                  by-sort (no q) = omega (arith, ap (λ a. a .tm) own-is, quiet .no-tm (r .account) given q, given)
+
+              p-low : past .own .tm < 256
+              p-low = omega (arith, p-given, quiet .most)
+
+              tm-is : namedRow b₀ r .tm ≡ past .own .tm
+              tm-is = sym (ap (λ a. a .tm) own-is)
+
+              its-is : past .its ≡ accountOf (rowAt b₀ (namedRow b₀ r .tm))
+              its-is = o .its ∙ sym (ap accountOf (row-in m w (past .own .tm) p-low)) ∙ ap (λ k. accountOf (rowAt b₀ k)) (sym tm-is)
+
+              slot : Slot (namedRow b₀ r .tm) (namedRow b₀ r .tm)
+              slot = record { inside = omega (arith, tm-is, p-low); named = λ q. refl }
+
+              view-is : view after ≡ view (withRow b₀ (r .account) y)
+              view-is = ap view (is-after (Put y) e)
+
+              new-is : accountIn n u (past .place) ≡ accountOf y
+              new-is =
+                  ap (accountIn n u) its-place ∙ sym (ap accountOf (row-in n u (r .account) low))
+                  ∙ ap (λ q. accountOf (rowAt q (r .account))) (is-after (Put y) e)
+                  ∙ ap accountOf (row-same b₀ (r .account) y (omega (arith, rows-length m w, low)))
+
+              list-is : usedSince n u used past ≡ usedAfter used (r .account) (accountOf (namedRow b₀ r)) (accountOf y) (accountOf (rowAt b₀ (namedRow b₀ r .tm)))
+              list-is =
+                  ap (λ i. usedAfter used i (past .own) (accountIn n u (past .place)) (past .its)) its-place
+                  ∙ ap (λ a. usedAfter used (r .account) a (accountIn n u (past .place)) (past .its)) own-is
+                  ∙ ap (λ a. usedAfter used (r .account) (accountOf (namedRow b₀ r)) a (past .its)) new-is
+                  ∙ ap (usedAfter used (r .account) (accountOf (namedRow b₀ r)) (accountOf y)) its-is
+
+              uses : Under (inTenths (view after)) (usedSince n u used past)
+              uses =
+                  subst (λ q. Under (inTenths q) (usedSince n u used past)) (sym view-is)
+                  (subst (Under (inTenths (view (withRow b₀ (r .account) y)))) (sym list-is) (put-keeps b₀ r y quiet e true used (g .uses) (namedRow b₀ r .tm) slot))
+
+              -- a look by the words is a look at the view
+              by-words : (j : ℕ) → j < at .count
+                  → lookIn n u (usedSince n u used past) j (getD before j false) ≡ lookAt (view (withRow b₀ (r .account) y)) before j
+              by-words j q =
+                  ap (λ (a : Account). (eqb j 0 || eqb (a .sort) 1) && modeAfter (10 * a .margin + getD (usedSince n u used past) j 0) (a .collateral) (getD before j false))
+                  (sym (ap accountOf (row-in n u j (omega (arith, q, quiet .most)))))
+                  ∙ look-by (view after) (d .ready .sound .shaped) (usedSince n u used past) uses before j (rw (ap (λ k. k .count) (is-after (Put y) e)) q)
+                  ∙ ap (λ v. lookAt v before j) view-is
+
+              looks : lookedSince n u used before modes past ≡ looked (view after) before
+              looks =
+                  let w′ = view (withRow b₀ (r .account) y) in
+                  let used′ = usedSince n u used past in
+                  let i = past .place in
+                  let k = past .own .tm in
+                  let own = lookIn n u used′ i (getD before i false) in
+                  let its = lookIn n u used′ k (getD before k false) in
+                  let top = lookIn n u used′ 0 (getD before 0 false) in
+                  ap (λ t. set (set (set modes i t) k its) 0 top) (by-words i (rw its-place given))
+                  ∙ ap (λ t. set (set (set modes i (lookAt w′ before i)) k t) 0 top) (by-words k p-given)
+                  ∙ ap (λ t. set (set (set modes i (lookAt w′ before i)) k (lookAt w′ before k)) 0 t) (by-words 0 (quiet .shaped .some))
+                  ∙ ap (λ l. set (set (set l i (lookAt w′ before i)) k (lookAt w′ before k)) 0 (lookAt w′ before 0)) (g .looks)
+                  ∙ ap (λ j. set (set (set (looked (view b₀) before) j (lookAt w′ before j)) k (lookAt w′ before k)) 0 (lookAt w′ before 0)) its-place
+                  ∙ ap (λ j. set (set (set (looked (view b₀) before) (r .account) (lookAt w′ before (r .account))) j (lookAt w′ before j)) 0 (lookAt w′ before 0)) (sym tm-is)
+                  ∙ sym (put-looks b₀ r y quiet e before (namedRow b₀ r .tm) slot)
+                  ∙ ap (λ q. looked q before) (sym view-is)

@@ -1,0 +1,75 @@
+-- What a look needs of the words of a sound book: amounts in range, TMs with a place, sums that fit.
+use mathlib.Core.Bool.{true}
+use mathlib.Core.List.{List, []}
+use mathlib.Core.Path.{_≡_, ap, _∙_}
+use Prim.Native.Nat.{ℕ, _+_, _*_, _≤_, _<_}
+use native.Mathlib.Omega.{arith}
+use native.Mathlib.Decide.{ℕ-discrete, decLt}
+use lib.ListN.{length, getD, set, length-set}
+use lib.Seq.{getD-set-same, getD-set-other}
+use Rattle.rows.specs.declared.Account.{Account}
+use Rattle.rows.specs.declared.Book.{Book}
+use Rattle.rows.specs.Rows.{rowAt}
+use Rattle.rows.specs.Under.{underTM, underCM}
+use Rattle.rows.specs.Inner.{accountAs}
+use Rattle.rows.proofs.NeedSums.{under-cm-most, due-most}
+use Rattle.table.specs.Words.{Marks, rowIn, bookFrom}
+use Rattle.table.proofs.Gathered.{row-in}
+use Rattle.book.specs.Facts.{Sound}
+use Rattle.book.proofs.SoundRanges.{sound-ranges}
+use Rattle.steps.specs.declared.looking.Past.{Past}
+use Rattle.steps.specs.Steps.{Ready}
+use Rattle.steps.specs.Own.{accountIn, Borne}
+use Rattle.steps.specs.Looks.{Placed, Light, Modest, PastOf, ModestPast, usedAfter}
+
+pub modest-in : {m : Marks} {w : List ℕ} {j : ℕ} → Placed m w → j < 256 → Modest (accountIn m w j)
+modest-in {m} {w} {j} h l =
+    let r = h .ranges j l in
+    record { margin = r .margin; collateral = omega (arith, r .received, r .allocated, r .pledged) }
+
+-- a place put anew
+put-most : (l : List ℕ) (i x n : ℕ) → length l ≡ 256 → i < 256 → x ≤ n → ((j : ℕ) → getD l j 0 ≤ n) → (j : ℕ) → getD (set l i x) j 0 ≤ n
+put-most l i x n s k e h j = by (ℕ-discrete j i)
+  where
+    by : Dec (j ≡ i) → getD (set l i x) j 0 ≤ n
+    by (yes q) = rw q (omega (arith, getD-set-same l i x 0 (omega arith)))
+    by (no q) = omega (arith, getD-set-other l i j x 0 q, h j)
+
+-- what is in excess after one account changed is within a word still
+pub light-after : (used : List ℕ) (i : ℕ) (old new its : Account) → old .tm < 256 → Borne used → Modest new → Modest its → Light (usedAfter used i old new its)
+light-after used i old new its l h n t =
+    let a = accountAs true old in
+    let x = accountAs true new in
+    let m = accountAs true its in
+    let d = getD used (old .tm) 0 in
+    let tm : underTM a x d ≤ 8_000_000_000_000_000_000 = omega (arith, due-most x, h .most (old .tm), n .margin) in
+    let cm : underCM a x (getD used i 0) m d (getD used 0 0) ≤ 8_000_000_000_000_000_000 =
+    omega (arith, under-cm-most a x m (getD used i 0) d (getD used 0 0), h .most i, h .most (old .tm), h .most 0, n .margin, t .margin) in
+    record {
+      size = length-set (set used (old .tm) _) 0 _ ∙ length-set used (old .tm) _ ∙ h .size;
+      most = put-most (set used (old .tm) _) 0 _ _ (length-set used (old .tm) _ ∙ h .size) (omega arith) cm
+          (put-most used (old .tm) _ _ (h .size) l tm (λ j. omega (arith, h .most j)));
+    }
+
+-- the TM word of every row of a sound book is a place
+tm-low : (b : Book) → Sound b → (j : ℕ) → rowAt b j .tm < 256
+tm-low b s j = by (decLt j (b .count)) (ℕ-discrete (rowAt b j .sort) 2)
+  where
+    by : Dec (j < b .count) → Dec (rowAt b j .sort ≡ 2) → rowAt b j .tm < 256
+    by (yes l) (yes c) = omega (arith, s .shaped .tms j l c .0, s .most)
+    by (yes l) (no c) = omega (arith, s .no-tm j l c)
+    by (no l) d = omega (arith, ap (λ r. r .tm) (s .blank j (omega arith)))
+
+pub placed : {count serial : ℕ} {m : Marks} {w under : List ℕ} → Ready count serial m w under → Placed m w
+placed {count} {serial} {m} {w} h =
+    let b = bookFrom count serial m w [] in
+    record {
+      size = h .size;
+      ranges = λ j l. rw (row-in m w j l) at (sound-ranges b (h .sound) j);
+      tms = λ j l. omega (arith, ap (λ r. r .tm) (row-in m w j l), tm-low b (h .sound) j);
+    }
+
+pub modest-past : {m : Marks} {w : List ℕ} {a : ℕ} {x : Past} → Placed m w → PastOf m w a x → ModestPast x
+modest-past {m} {w} {a} {x} h o =
+    let low : x .own .tm < 256 = rw (o .own) (h .tms (x .place) (o .inside)) in
+    record { inside = o .inside; tm = low; own = rw (o .own) (modest-in h (o .inside)); its = rw (o .its) (modest-in h low) }

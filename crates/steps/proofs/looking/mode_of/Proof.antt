@@ -1,0 +1,27 @@
+-- `steps::looking::mode_of` meets its contract.
+use borrow.Author.Needs.{needs}
+use mathlib.Core.Path.{sym, ap, _∙_}
+use lib.ListN.{getD}
+use Rattle.sums.proofs.Choices.{pick-yes, pick-no}
+use mathlib.Core.Bool.{false}
+use Rattle.steps.proofs.looking.mode_of.Statement.{statement}
+use Rattle.steps.proofs.looking.mode_of.Tie as tie
+
+element-copy-out-result : tie.Need-element-copy-out-result
+element-copy-out-result c = search needs
+
+element-copy-out-result-2 : tie.Need-element-copy-out-result-2
+element-copy-out-result-2 c = search needs
+
+returns : tie.Need-returns
+returns c =
+    let a = c .before .before .args in
+    sym (ap (λ l. getD l (a .j) false) (pick-yes (a .waiting) _ _ (c .before .if1 .taken)))
+
+returns-2 : tie.Need-returns-2
+returns-2 c =
+    let a = c .before .before .args in
+    sym (ap (λ l. getD l (a .j) false) (pick-no (a .waiting) _ _ (c .before .if1 .left)))
+
+pub mode-of-spec : {M : Type 1} → statement M
+mode-of-spec = tie.close (tie.spec element-copy-out-result element-copy-out-result-2 returns returns-2)

@@ -1,0 +1,146 @@
+// K2's look after a record that may have moved figures: at the account named, its TM and the CM.
+ghost use mathlib.Core.Bool.{false};
+ghost use mathlib.Core.Path.{_≡_};
+ghost use Prim.Native.Nat.{_<_};
+ghost use lib.ListN.{length, getD};
+ghost use Rattle.table.specs.Words.{marksFrom};
+ghost use Rattle.steps.specs.Steps.{modesIn};
+ghost use Rattle.steps.specs.Own.{accountIn, Borne};
+ghost use Rattle.steps.specs.Looks.{Placed, PastOf, Modest, ModestPast, Light, lookIn, usedAfter, usedSince, lookedOn, lookedSince};
+use crate::settling::owes;
+use crate::settling::put_owed;
+use rows::Account;
+use rows::modes::look;
+use rows::needs::account_of;
+use rows::needs::in_tenths;
+use rows::needs::slot;
+use table::places::row_at;
+
+// The account named and its TM's, before the record, and the place of the first.
+pub struct Past {
+    pub place: usize,
+    pub own: Account,
+    pub its: Account,
+}
+
+fn account_in(
+    sort: &[u8; 256],
+    live: &[bool; 256],
+    tm: &[u16; 256],
+    w: &[u64; 2560],
+    j: usize,
+) -> Account
+    requires { ⌜ Placed (marksFrom (now sort) (now live) (now tm)) (now w) × (j < 256) ⌝ }
+    ensures { λ x. ⌜ x ≡ accountIn (marksFrom (now (sort .entry)) (now (live .entry)) (now (tm .entry))) (now (w .entry)) j ⌝ }
+{
+    account_of(row_at(sort, live, tm, w, j))
+}
+
+pub(crate) fn past_of(
+    sort: &[u8; 256],
+    live: &[bool; 256],
+    tm: &[u16; 256],
+    w: &[u64; 2560],
+    a: u16,
+) -> Past
+    requires { ⌜ Placed (marksFrom (now sort) (now live) (now tm)) (now w) ⌝ }
+    ensures { λ x. ⌜ PastOf (marksFrom (now (sort .entry)) (now (live .entry)) (now (tm .entry))) (now (w .entry)) a x ⌝ }
+{
+    let place = slot(a);
+    let own = account_in(sort, live, tm, w, place);
+    let its = account_in(sort, live, tm, w, own.tm as usize);
+    Past { place, own, its }
+}
+
+// What is in excess under each account, after the account at place i changed from old to new; its is its TM's.
+fn settle_uses(used: &mut [u64; 256], i: usize, old: Account, new: Account, its: Account)
+    requires { ⌜ Borne (now used) × Modest old × Modest new × Modest its × (i < 256) × (old .tm < 256) ⌝ }
+    ensures { λ _. ⌜ now (used .exit) ≡ usedAfter (now (used .entry)) i old new its ⌝ }
+{
+    let x = owes(used, i, in_tenths(old), in_tenths(new), in_tenths(its));
+    put_owed(used, old.tm as usize, x);
+}
+
+// The mode of the account at a place, in the book.
+fn mode_of(was: &[bool; 256], modes: &[bool; 256], waiting: bool, j: usize) -> bool
+    requires { ⌜ (j < 256) × (length (now was) ≡ 256) × (length (now modes) ≡ 256) ⌝ }
+    ensures { λ x. ⌜ x ≡ getD (modesIn waiting (now (was .entry)) (now (modes .entry))) j false ⌝ }
+{
+    if waiting { was[j] } else { modes[j] }
+}
+
+// A look at the account at a place, whose mode before is given.
+fn look_at(
+    sort: &[u8; 256],
+    live: &[bool; 256],
+    tm: &[u16; 256],
+    w: &[u64; 2560],
+    used: &[u64; 256],
+    j: usize,
+    before: bool,
+) -> bool
+    requires { ⌜ Placed (marksFrom (now sort) (now live) (now tm)) (now w) × Light (now used) × (j < 256) ⌝ }
+    ensures { λ x. ⌜ x ≡ lookIn (marksFrom (now (sort .entry)) (now (live .entry)) (now (tm .entry))) (now (w .entry)) (now (used .entry)) j before ⌝ }
+{
+    let a = account_in(sort, live, tm, w, j);
+    look(j, a, used[j], before)
+}
+
+// At the account at place i, its TM's at place t and the CM's, with their modes in the book before.
+fn look_on(
+    sort: &[u8; 256],
+    live: &[bool; 256],
+    tm: &[u16; 256],
+    w: &[u64; 2560],
+    used: &[u64; 256],
+    modes: &mut [bool; 256],
+    was: &[bool; 256],
+    waiting: bool,
+    i: usize,
+    t: usize,
+)
+    requires { ⌜ Placed (marksFrom (now sort) (now live) (now tm)) (now w) × Light (now used) × (length (now was) ≡ 256) × (length (now modes) ≡ 256) × (i < 256) × (t < 256) ⌝ }
+    ensures { λ _. ⌜ now (modes .exit) ≡ lookedOn (marksFrom (now (sort .entry)) (now (live .entry)) (now (tm .entry))) (now (w .entry)) (now (used .entry)) (modesIn waiting (now (was .entry)) (now (modes .entry))) (now (modes .entry)) i t ⌝ }
+{
+    let own = look_at(sort, live, tm, w, used, i, mode_of(was, modes, waiting, i));
+    let its = look_at(sort, live, tm, w, used, t, mode_of(was, modes, waiting, t));
+    let top = look_at(sort, live, tm, w, used, 0, mode_of(was, modes, waiting, 0));
+    modes[i] = own;
+    modes[t] = its;
+    modes[0] = top;
+}
+
+// After the record: the words are those after it, the past is what stood before it.
+pub(crate) fn look_after(
+    sort: &[u8; 256],
+    live: &[bool; 256],
+    tm: &[u16; 256],
+    w: &[u64; 2560],
+    modes: &mut [bool; 256],
+    used: &mut [u64; 256],
+    was: &[bool; 256],
+    waiting: bool,
+    past: Past,
+)
+    requires { ⌜ Placed (marksFrom (now sort) (now live) (now tm)) (now w) × Borne (now used) × (length (now was) ≡ 256) × (length (now modes) ≡ 256) × ModestPast past ⌝ }
+    ensures { λ _. ⌜ now (used .exit) ≡ usedSince (marksFrom (now (sort .entry)) (now (live .entry)) (now (tm .entry))) (now (w .entry)) (now (used .entry)) past ⌝ }
+    ensures { λ _. ⌜ now (modes .exit) ≡ lookedSince (marksFrom (now (sort .entry)) (now (live .entry)) (now (tm .entry))) (now (w .entry)) (now (used .entry)) (modesIn waiting (now (was .entry)) (now (modes .entry))) (now (modes .entry)) past ⌝ }
+{
+    let i = past.place;
+    let own = past.own;
+    let its = past.its;
+    let new = account_in(sort, live, tm, w, i);
+    settle_uses(used, i, own, new, its);
+    look_on(
+        sort,
+        live,
+        tm,
+        w,
+        used,
+        modes,
+        was,
+        waiting,
+        i,
+        own.tm as usize,
+    );
+}
