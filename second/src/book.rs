@@ -1,6 +1,7 @@
-//! The book of one clearing member: its rows, what each account is deemed,
-//! its modes, and when a book is sound.
+//! The book of one clearing member: its rows, its modes, the needs kept beside
+//! the rows, and when a book is sound.
 
+mod needs;
 mod uses;
 
 use crate::mode::Mode;
@@ -12,7 +13,7 @@ pub const MOST_ACCOUNTS: usize = 256;
 /// Cash, fixed deposits, bank guarantees, government securities.
 pub const KINDS: usize = 4;
 
-#[derive(Clone, Copy, PartialEq, Eq, Default, Debug)]
+#[derive(Clone, Copy, PartialEq, Eq, PartialOrd, Ord, Default, Debug)]
 pub enum Sort {
     /// A row whose number was never given.
     #[default]
@@ -101,10 +102,10 @@ pub struct Book {
     pub serial: u16,
     /// On for a TM or the CM in risk reduction mode, off for any other row.
     pub modes: [Mode; MOST_ACCOUNTS],
-    /// For each account, what those directly under it are deemed, added up.
-    /// Kept so that a record needs no walk over all the rows.
-    called: [u64; MOST_ACCOUNTS],
-    /// Their excess, in tenths, added up and kept likewise.
+    /// "Every TM's and the CM's need beside the rows", 0 for any other row.
+    pub needs: [u64; MOST_ACCOUNTS],
+    /// For each account, the excess of those directly under it, in tenths,
+    /// added up. Kept so that a look needs no walk over all the rows.
     over: [u64; MOST_ACCOUNTS],
 }
 
@@ -125,7 +126,7 @@ impl Book {
             count: 1,
             serial: 0,
             modes: [Mode::Off; MOST_ACCOUNTS],
-            called: [0; MOST_ACCOUNTS],
+            needs: [0; MOST_ACCOUNTS],
             over: [0; MOST_ACCOUNTS],
         }
     }
@@ -135,38 +136,15 @@ impl Book {
         usize::from(account) < self.count && self.rows[usize::from(account)].live
     }
 
-    pub fn need(&self, account: usize) -> u64 {
-        self.rows[account].margin + self.called[account]
-    }
-
-    pub fn deemed(&self, account: usize) -> u64 {
-        self.need(account)
-            .saturating_sub(self.rows[account].collateral())
-    }
-
-    pub fn free(&self, account: usize) -> u64 {
-        self.rows[account]
-            .collateral()
-            .saturating_sub(self.need(account))
+    /// A trading or the clearing member: those who answer for others.
+    pub fn is_member(&self, account: usize) -> bool {
+        matches!(self.rows[account].sort, Sort::Tm | Sort::Cm)
     }
 
     /// The account that answers for what this one is deemed: a client's TM,
     /// and the CM for TMs and CPs.
     pub fn answers_for(&self, account: usize) -> usize {
         usize::from(self.rows[account].tm)
-    }
-
-    /// The CM's need if the account's margin were this one.
-    pub fn cm_need_with(&self, account: usize, margin: u64) -> u64 {
-        let mut at = account;
-        let mut need = margin + self.called[at];
-        while at != 0 {
-            let above = self.answers_for(at);
-            let deemed = need.saturating_sub(self.rows[at].collateral());
-            need = self.need(above) - self.deemed(at) + deemed;
-            at = above;
-        }
-        need
     }
 
     fn left_to_others(&self, account: usize) -> Left {
@@ -176,12 +154,20 @@ impl Book {
         }
     }
 
-    /// Changes one row and carries what it is now deemed, and its excess, up
-    /// to the CM.
+    /// Changes one row; a member's own margin is part of its need.
     pub fn change(&mut self, account: usize, change: impl FnOnce(&mut Row)) {
-        let mut at = account;
-        let mut was = self.left_to_others(at);
-        change(&mut self.rows[at]);
+        let was = self.left_to_others(account);
+        let margin = self.rows[account].margin;
+        change(&mut self.rows[account]);
+        if self.is_member(account) {
+            self.needs[account] = self.needs[account] - margin + self.rows[account].margin;
+        }
+        self.carry_up(account, was);
+    }
+
+    /// Carries what the account is now deemed, and its excess, up to the CM.
+    fn carry_up(&mut self, account: usize, left: Left) {
+        let (mut at, mut was) = (account, left);
         while at != 0 {
             let now = self.left_to_others(at);
             if now == was {
@@ -189,7 +175,7 @@ impl Book {
             }
             let above = self.answers_for(at);
             let above_was = self.left_to_others(above);
-            self.called[above] = self.called[above] - was.deemed + now.deemed;
+            self.needs[above] = self.needs[above] - was.deemed + now.deemed;
             self.over[above] = self.over[above] - was.excess + now.excess;
             (at, was) = (above, above_was);
         }
@@ -225,7 +211,8 @@ impl Book {
         all
     }
 
-    /// Document 01, "A sound book". A row that is no client has TM number 0.
+    /// Document 01, "A sound book", and "each kept need equals the need worked
+    /// out afresh" (K3). A row that is no client has TM number 0.
     pub fn is_sound(&self) -> bool {
         (1..=MOST_ACCOUNTS).contains(&self.count)
             && self.rows[0].sort == Sort::Cm
@@ -235,6 +222,7 @@ impl Book {
                 .all(|row| *row == Row::default())
             && (0..self.count).all(|account| self.row_is_sound(account))
             && self.modes_are_sound()
+            && self.needs == self.needs_afresh()
             && self.standings()[0].deemed == 0
     }
 
@@ -253,18 +241,5 @@ impl Book {
         let row = &self.rows[account];
         let tm = usize::from(row.tm);
         tm < account && self.rows[tm].sort == Sort::Tm && (!row.live || self.rows[tm].live)
-    }
-
-    /// What is kept must be what the rows say.
-    pub fn kept_agrees(&self) -> bool {
-        let (standings, uses) = (self.standings(), self.uses());
-        (0..self.count).all(|account| {
-            let used = if self.has_mode(account) {
-                self.used(account)
-            } else {
-                0
-            };
-            self.need(account) == standings[account].need && used == uses[account]
-        })
     }
 }

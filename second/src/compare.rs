@@ -9,6 +9,7 @@ use crate::difference::settle;
 use crate::looks::Looks;
 use crate::made::Made;
 use crate::make::{losses, make, MILLION_KIND, NO_LIMIT, ROUND};
+use crate::moves::Moves;
 use crate::options::Options;
 use crate::print;
 use crate::refusal::Refusal;
@@ -16,10 +17,11 @@ use crate::tally::Tally;
 use std::fs;
 use std::path::PathBuf;
 
-const VALUED: [&str; 6] = [
+const VALUED: [&str; 7] = [
     "--day",
     "--standings",
     "--closeouts",
+    "--needs",
     "--days",
     "--seed",
     "--millions",
@@ -37,6 +39,7 @@ struct Programs<'a> {
     day: Option<&'a str>,
     standings: Option<&'a str>,
     closeouts: Option<&'a str>,
+    needs: Option<&'a str>,
     folder: PathBuf,
 }
 
@@ -48,15 +51,19 @@ pub fn compare(words: &[String]) -> Result<String, String> {
         day: options.value("--day"),
         standings: options.value("--standings"),
         closeouts: options.value("--closeouts"),
+        needs: options.value("--needs"),
         folder: std::env::temp_dir().join(format!("second-compare-{}", std::process::id())),
     };
     if programs
         .day
         .or(programs.standings)
         .or(programs.closeouts)
+        .or(programs.needs)
         .is_none()
     {
-        return Err("compare: name a program with --day, --standings or --closeouts".to_string());
+        return Err(
+            "compare: name a program with --day, --standings, --closeouts or --needs".to_string(),
+        );
     }
     fs::create_dir_all(&programs.folder).map_err(|error| error.to_string())?;
     let tally = all_days(&options, &programs);
@@ -103,17 +110,17 @@ fn one_day(programs: &Programs, made: &Made, tally: &mut Tally) -> Result<(), St
         let got = ask(program, None, &made.bytes, made.pace);
         settle(&programs.folder, made, "day", &own.out, got)?;
     }
-    if let Some(program) = programs.standings {
+    if programs.standings.or(programs.needs).is_some() {
         for records in own.stops {
             let stopped = Made {
                 bytes: beginning(&made.bytes, records).to_vec(),
                 pace: Pace::Whole,
                 ..*made
             };
-            one_standings(programs, program, &stopped)?;
+            one_book(programs, &stopped)?;
             tally.stops += 1;
         }
-        one_standings(programs, program, made)?;
+        one_book(programs, made)?;
     }
     if let Some(program) = programs.closeouts {
         for seed in losses::seeds(made.kind, made.seed) {
@@ -124,10 +131,22 @@ fn one_day(programs: &Programs, made: &Made, tally: &mut Tally) -> Result<(), St
     Ok(())
 }
 
-fn one_standings(programs: &Programs, program: &str, made: &Made) -> Result<(), String> {
-    let got = ask(program, None, &made.bytes, made.pace);
-    let want = print::standings(&made.bytes);
-    settle(&programs.folder, made, "standings", &want, got)
+/// This program's own text for a day file.
+type Shown = fn(&[u8]) -> Vec<u8>;
+
+/// The programs that show the book as it is at the end.
+fn one_book(programs: &Programs, made: &Made) -> Result<(), String> {
+    let shown: [(&str, Option<&str>, Shown); 2] = [
+        ("standings", programs.standings, print::standings),
+        ("needs", programs.needs, print::needs),
+    ];
+    for (name, program, own) in shown {
+        if let Some(program) = program {
+            let got = ask(program, None, &made.bytes, made.pace);
+            settle(&programs.folder, made, name, &own(&made.bytes), got)?;
+        }
+    }
+    Ok(())
 }
 
 /// The bytes of the first so many records.
@@ -142,31 +161,43 @@ fn beginning(piece: &[u8], records: usize) -> &[u8] {
 struct Own {
     out: Vec<u8>,
     book: Book,
-    /// After how many records standings are asked for besides the end. A mode
-    /// "depends on history", and the end shows only the last of it: a day made
-    /// for modes is stopped where it meets a kind of look first.
+    /// After how many records standings and needs are asked for besides the
+    /// end. A mode "depends on history", and the end shows only the last of it;
+    /// so does a need that is brought up to date and not added up.
     stops: Vec<usize>,
 }
 
-/// This program's own answer, with the book's soundness asserted besides, and
-/// its modes held against a look at all.
+/// A day made for modes is stopped where it meets a kind of look first, one
+/// made for needs where it meets a kind of move.
+fn kinds_met(made: &Made, looks: &Looks, moves: &Moves) -> usize {
+    match made.kind {
+        "warned" => looks.met.kinds(),
+        "moved" => moves.met.kinds(),
+        _ => 0,
+    }
+}
+
+/// This program's own answer, with the book's soundness asserted besides, its
+/// modes held against a look at all, and its needs against those afresh.
 fn own_answer(made: &Made, tally: &mut Tally) -> Result<Own, String> {
     let (mut faults, mut read) = (0, 0);
-    let (mut looks, mut stops) = (Looks::fresh(), Vec::new());
+    let (mut looks, mut moves) = (Looks::fresh(), Moves::fresh());
+    let mut stops = Vec::new();
     let checked = made.kind != MILLION_KIND.0;
     let (out, book, day) = print::day_seen(&made.bytes, |answer, book| {
         tally.count(answer);
         read += 1;
-        let kinds = looks.met.kinds();
+        let kinds = kinds_met(made, &looks, &moves);
         faults += usize::from(!looks.after(answer, book));
-        if made.kind == "warned" && looks.met.kinds() > kinds {
+        faults += usize::from(!moves.after(answer, book));
+        if kinds_met(made, &looks, &moves) > kinds {
             stops.push(read);
         }
-        if checked && !(book.is_sound() && book.kept_agrees()) {
+        if checked && !(book.is_sound() && book.uses_agree()) {
             faults += 1;
         }
     });
-    if faults > 0 || !(book.is_sound() && book.kept_agrees()) {
+    if faults > 0 || !(book.is_sound() && book.uses_agree()) {
         return Err(format!(
             "own book not sound: kind {} seed {}",
             made.kind, made.seed
@@ -174,6 +205,7 @@ fn own_answer(made: &Made, tally: &mut Tally) -> Result<Own, String> {
     }
     tally.days += 1;
     tally.looks.add(&looks.met);
+    tally.moves.add(&moves.met);
     tally.refusals[Refusal::Cut as usize] += u64::from(day.closing == Closing::Cut);
     Ok(Own { out, book, stops })
 }

@@ -101,7 +101,7 @@ impl Looks {
     pub fn after(&mut self, answer: &Answer, book: &Book) -> bool {
         if answer.refusal() == 0 {
             for (account, used) in book.uses().into_iter().enumerate() {
-                if book.has_mode(account) {
+                if book.is_member(account) {
                     self.look(answer.code, account, used, book.rows[account].collateral());
                 }
             }

@@ -15,6 +15,7 @@ mod looks;
 mod made;
 mod make;
 mod mode;
+mod moves;
 mod options;
 mod print;
 mod refusal;
@@ -25,6 +26,7 @@ mod tests;
 mod text;
 
 use looks::Looks;
+use moves::Moves;
 use std::ffi::OsString;
 use std::fs::File;
 use std::io::{self, Read, Write};
@@ -33,12 +35,13 @@ use std::process::ExitCode;
 const USAGE: &str = "\
 second day [--check] < DAYFILE           a line per record, then end, cut or long
 second standings < DAYFILE               the closing line, then every account's five figures and mode
+second needs < DAYFILE                   the closing line, then every account's need
 second closeouts LOSSFILE < DAYFILE      the closing line, then what each loss is paid from
 second make KIND SEED > DAYFILE          a made-up day: busy hostile bent bounds cuts serials
                                          openings retire shared spent warned wavering
-                                         mixed million
+                                         moved moving mixed million
 second losses SEED < DAYFILE > LOSSFILE  made-up losses for the book at that day's end
-second compare --day P --standings P --closeouts P
+second compare --day P --standings P --closeouts P --needs P
                [--days N] [--seed S] [--millions K] [--trickle]
                                          other programs against this one on made-up days
 second bundle --days N --seed S > BUNDLE many small days in one file
@@ -67,6 +70,7 @@ fn main() -> ExitCode {
     let output = match command {
         "day" => day_command(&words),
         "standings" => day_file().map(|piece| print::standings(&piece)),
+        "needs" => day_file().map(|piece| print::needs(&piece)),
         "closeouts" => closeouts_command(arguments.get(1)),
         "make" => make_command(&words),
         "losses" => losses_command(&words),
@@ -119,15 +123,15 @@ fn day_command(words: &[String]) -> Output {
     }
 }
 
-/// As `day`, but looks after every record whether the book is sound and its
-/// modes are as a look at all would have them.
+/// As `day`, but looks after every record whether the book is sound, its
+/// modes are as a look at all would have them, and its needs moved as they can.
 fn checked_day(piece: &[u8]) -> Output {
     let (mut seen, mut first_fault) = (0, None);
-    let mut looks = Looks::fresh();
+    let (mut looks, mut moves) = (Looks::fresh(), Moves::fresh());
     let (out, _, _) = print::day_seen(piece, |answer, book| {
         seen += 1;
-        let agrees = looks.after(answer, book);
-        if first_fault.is_none() && !(agrees && book.is_sound() && book.kept_agrees()) {
+        let agrees = looks.after(answer, book) & moves.after(answer, book);
+        if first_fault.is_none() && !(agrees && book.is_sound() && book.uses_agree()) {
             first_fault = Some(seen);
         }
     });

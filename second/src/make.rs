@@ -7,6 +7,7 @@ mod lives;
 pub mod losses;
 mod maker;
 mod mixed;
+mod moved;
 mod steer;
 mod uses;
 mod warned;
@@ -18,7 +19,7 @@ type Kind = (&'static str, fn(&mut Maker));
 /// The kinds that a comparison goes round. `million` stands apart for its size.
 /// An odd number, so that days fed in small pieces (one in four) are of every
 /// kind.
-pub const ROUND: [Kind; 13] = [
+pub const ROUND: [Kind; 15] = [
     ("busy", steer::busy),
     ("hostile", bend::hostile),
     ("bent", bend::bent),
@@ -31,6 +32,8 @@ pub const ROUND: [Kind; 13] = [
     ("spent", deemed::spent),
     ("warned", warned::warned),
     ("wavering", warned::wavering),
+    ("moved", moved::moved),
+    ("moving", moved::moving),
     ("mixed", mixed::mixed),
 ];
 

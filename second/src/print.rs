@@ -115,6 +115,17 @@ pub fn standings(piece: &[u8]) -> Vec<u8> {
     out
 }
 
+/// The output of `needs`.
+pub fn needs(piece: &[u8]) -> Vec<u8> {
+    let (book, day) = run_fresh(piece);
+    let mut out = Vec::new();
+    push_closing(&mut out, &day);
+    for (account, need) in book.all_needs().into_iter().enumerate() {
+        push_numbers(&mut out, &[account as u64, need]);
+    }
+    out
+}
+
 /// The output of `closeouts`; no losses where their file can't be read.
 pub fn closeouts(piece: &[u8], losses: Option<&[u8]>) -> Vec<u8> {
     let Some(losses) = losses else {

@@ -1,11 +1,16 @@
 -- A fresh book is sound.
-use mathlib.Core.Path.{_≡_, refl}
+use mathlib.Core.Path.{_≡_, refl, sym, ap, _∙_}
 use mathlib.Core.Bool.{true, false}
 use Prim.Native.Nat.{ℕ, zero, suc, _≤_, _<_}
 use native.Mathlib.Omega.{arith}
+use native.Mathlib.Decide.{ℕ-discrete}
+use lib.Dec.{eqb}
+use Rattle.sums.specs.Choice.{pick}
 use Rattle.sums.specs.Sum.{sum}
 use Rattle.rows.specs.View.{needCM}
-use Rattle.rows.specs.Rows.{noRow, rowAt, freshBook}
+use Rattle.rows.specs.Rows.{noRow, rowAt, view, freshBook}
+use Rattle.rows.specs.KeptNeeds.{keptNeed}
+use Rattle.rows.proofs.KeptNeeds.{kept-none}
 use Rattle.rows.specs.Ranges.{noAmounts}
 use Rattle.rows.specs.Facts.{InRange}
 use Rattle.book.specs.Sound.{soundB}
@@ -20,7 +25,7 @@ alone P p zero l = p
 alone P p (suc i) l = absurd (omega arith)
 
 pub fresh-sound : Sound freshBook
-unfolding sum needCM freshBook
+unfolding sum needCM freshBook pick
 fresh-sound = record {
   table = refl;
   most = omega arith;
@@ -38,11 +43,17 @@ fresh-sound = record {
   ranges = alone (λ i. InRange (rowAt freshBook i)) (omega arith);
   covered = omega arith;
   modes = λ i l e. clash e (getD-same 256 i false);
+  kept = λ i l. getD-same {A = ℕ} 256 i 0 ∙ sym (none i (ℕ-discrete i 0));
 }
   where
     blank : (i : ℕ) → 1 ≤ i → rowAt freshBook i ≡ noRow
     blank zero h = absurd (omega arith)
     blank (suc i) h = getD-same 255 i noRow
+
+    -- nothing is needed
+    none : (i : ℕ) → Dec (i ≡ 0) → keptNeed (view freshBook) i ≡ 0
+    none i (yes e) = rw e refl
+    none i (no n) = kept-none (view freshBook) i n (ap (λ r. eqb (r .sort) 1) (blank i (omega arith)))
 
 pub fresh-test : soundB freshBook ≡ true
 fresh-test = sound← freshBook fresh-sound

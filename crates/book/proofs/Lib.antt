@@ -6,6 +6,7 @@ pub mod UnderPut
 pub mod UnderOpen
 pub mod UnderMost
 pub mod LookAfter
+pub mod NeedsAfter
 pub mod LiveClients
 pub mod OneRow
 pub mod Opens
@@ -17,3 +18,4 @@ pub mod SoundAfter
 pub mod SoundInPlace
 pub mod SoundTest
 pub mod StandingRefusals
+pub mod NeedsTold

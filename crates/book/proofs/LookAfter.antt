@@ -20,7 +20,7 @@ use Rattle.book.proofs.Opens.{Opened, opened-in, needTM-same, needTM-ne
 -- row k changes, and p is the place of the TM that it names
 module _ (v w : View) (k : ℕ) (o : RowChanged v w k) (s : Shaped v) (most : v .count ≤ 256) (p : ℕ) (sl : Slot (v .tm k) p) where
   -- row k is no client of an account that is not at p
-  apart : (i : ℕ) → (i ≡ p → ⊥) → isClientOf v i k ≡ false
+  pub apart : (i : ℕ) → (i ≡ p → ⊥) → isClientOf v i k ≡ false
   apart i n = by (isClientOf v i k) refl
     where
       by : (x : Bool) → isClientOf v i k ≡ x → isClientOf v i k ≡ false

@@ -15,7 +15,7 @@ use Rattle.rows.specs.Facts.{Covered, KindsWithin, InRange}
 use Rattle.rows.specs.Ranges.{ceilings, noAmounts}
 use Rattle.rows.specs.Rows.{ceiling, rowAt, addedUp, collateral, view, openedRow, plusKinds, lessKinds, withReceived, withAllocated, withPledged, withMargin, withLive, places, withSerial, withRow, withNew}
 use Rattle.book.specs.Facts.{SoundRows, Sound}
-use Rattle.book.proofs.Settled.{sound-rows, rows-alone, with-modes}
+use Rattle.book.proofs.Settled.{sound-rows, rows-alone, with-rest}
 use Rattle.rows.proofs.RowPut.{row-other, row-places, new-places, new, below, above}
 use Rattle.book.proofs.Keeps.{kept-covered}
 use Rattle.book.proofs.Opens.{Opened, opened-covered, opened-shaped}
@@ -23,10 +23,10 @@ use Rattle.book.proofs.OneRow.{at-all, same-sort, same-tm, row-kept, ro
 
 -- soundness doesn't look at the serial
 pub serial-rows : (b : Book) (n : ℕ) → SoundRows b → SoundRows (withSerial b n)
-serial-rows b n s = rows-alone b n (b .modes) s
+serial-rows b n s = rows-alone b n (b .modes) (b .needs) s
 
 pub serial-sound : (b : Book) (n : ℕ) → Sound b → Sound (withSerial b n)
-serial-sound b n s = with-modes (withSerial b n) (serial-rows b n (sound-rows b s)) (s .modes)
+serial-sound b n s = with-rest (withSerial b n) (serial-rows b n (sound-rows b s)) (s .modes) (s .kept)
 
 -- an account's row is in the table
 pub in-table : (b : Book) → Sound b → (i : ℕ) → i < b .count → i < places b

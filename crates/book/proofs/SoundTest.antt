@@ -1,20 +1,24 @@
 -- The test of refusal 1 holds exactly of a sound book.
 use mathlib.Core.Path.{_≡_, refl, sym, _∙_, ap}
 use mathlib.Core.Bool.{true, false, not, _&&_, _||_}
+use mathlib.Core.List.{List}
 use mathlib.Core.Logic.{_⊎_, inl, inr, ⊎-elim}
 use Prim.Native.Nat.{ℕ, _≤_, _<_}
 use native.Mathlib.Omega.{arith}
 use native.Mathlib.Decide.{ℕ-discrete, decLt}
 use lib.Dec.{eqb, ltb}
+use lib.ListN.{getD}
 use borrow.Author.Tests.{eqb-true, eq-eqb, ne-eqb, leb-true, le-leb, ltb-true, lt-ltb, le-ltb, not-false}
 use Rattle.sums.specs.Choice.{pick}
 use Rattle.sums.proofs.Sums.{all-at, all-from}
 use Rattle.sums.proofs.Choices.{pick-yes, pick-no, and-left, and-right, and-join, or-split, or-else, or-from, or-left, or-right}
 use Rattle.rows.specs.declared.Row.{Row}
 use Rattle.rows.specs.declared.Book.{Book}
-use Rattle.rows.specs.Rows.{noRow, rowAt, places}
+use Rattle.rows.specs.View.{View}
+use Rattle.rows.specs.Rows.{noRow, rowAt, places, view}
 use Rattle.rows.specs.Ranges.{noAmounts, inRange}
-use Rattle.rows.specs.Facts.{InRange}
+use Rattle.rows.specs.Facts.{Shaped, InRange, NeedsKept}
+use Rattle.rows.specs.KeptNeeds.{keptNeed, allKept}
 use Rattle.book.specs.Sound.{isBlank, isTop, goodClient, goodSort, goodRetired, goodRow, rowSound, modeSound, formedB, coveredB, soundB}
 use Rattle.book.specs.Facts.{Sound}
 use Rattle.rows.proofs.RowPut.{row-far}
@@ -117,25 +121,78 @@ module _ (b : Book) (i : ℕ) where
           ∙ and-join (and-join (sorted l (ℕ-discrete i 0)) (or-from (r .live) (noAmounts r) (s .retired i l))) (range← r (s .ranges i l))
       by (no l) = pick-no (ltb i (b .count)) _ (isBlank r) (le-ltb i (b .count) (omega arith)) ∙ blank← r (s .blank i (omega arith))
 
+-- past the tests of the number and of every row
+module _ (b : Book) (some : 0 < b .count) (most : b .count ≤ 256) (table : places b ≡ 256) (row : (i : ℕ) → i < 256 → rowSound b i ≡ true) where
+  top : (rowAt b 0 .sort ≡ 0) × (rowAt b 0 .live ≡ true) × (rowAt b 0 .tm ≡ 0)
+  top = let h = row-top b 0 (row 0 (omega arith)) some refl in search (and-left, and-right, eqb-true)
+
+  beyond : (i : ℕ) → b .count ≤ i → Dec (i < 256) → rowAt b i ≡ noRow
+  beyond i h (yes l) = row-beyond b i (row i l) h
+  beyond i h (no l) = row-far b i (omega (arith, table))
+
+  pub blank-beyond : (i : ℕ) → b .count ≤ i → rowAt b i ≡ noRow
+  blank-beyond i l = beyond i l (decLt i 256)
+
+  good : (i : ℕ) → i < b .count → (i ≡ 0 → ⊥) → GoodSort i (rowAt b i) (rowAt b (rowAt b i .tm))
+  good i l z = row-sort b i (row i (omega (arith, most))) l z
+
+  sorts : {i : ℕ} {r t : Row} → GoodSort i r t → (r .sort ≡ 1) ⊎ ((r .sort ≡ 2) ⊎ (r .sort ≡ 3))
+  sorts (tm c z) = inl c
+  sorts (cp c z) = inr (inr c)
+  sorts (client h) = inr (inl (h .sort))
+
+  only-client : {i : ℕ} {r t : Row} → r .sort ≡ 2 → GoodSort i r t → GoodClient i r t
+  only-client c (tm d z) = absurd (omega arith)
+  only-client c (cp d z) = absurd (omega arith)
+  only-client c (client h) = h
+
+  not-top : (i : ℕ) → rowAt b i .sort ≡ 2 → i ≡ 0 → ⊥
+  not-top i c z = omega (arith, top .0, ap (λ j. rowAt b j .sort) z)
+
+  as-client : (i : ℕ) → i < b .count → rowAt b i .sort ≡ 2 → GoodClient i (rowAt b i) (rowAt b (rowAt b i .tm))
+  as-client i l c = only-client c (good i l (not-top i c))
+
+  pub shaped-rows : Shaped (view b)
+  shaped-rows = record {
+    some = some;
+    top = top .0;
+    sorts = λ i p l. sorts (good i l (λ z. omega arith));
+    tms = λ i l c. (as-client i l c .lower, as-client i l c .its-tm);
+  }
+
+  plain : {i : ℕ} {r t : Row} → (r .sort ≡ 2 → ⊥) → GoodSort i r t → r .tm ≡ 0
+  plain ne (tm c z) = z
+  plain ne (cp c z) = z
+  plain ne (client h) = absurd (ne (h .sort))
+
+  no-tm-rows : (i : ℕ) → i < b .count → (rowAt b i .sort ≡ 2 → ⊥) → Dec (i ≡ 0) → rowAt b i .tm ≡ 0
+  no-tm-rows i l ne (yes z) = rw z (top .2)
+  no-tm-rows i l ne (no z) = plain ne (good i l z)
+
+-- the test of kept needs is the fact
+pub kept→ : (v : View) (needs : List ℕ) → allKept v needs ≡ true → NeedsKept v needs
+unfolding allKept
+kept→ v needs e i l = eqb-true _ _ (all-at 256 (λ j. eqb (getD needs j 0) (keptNeed v j)) e i l)
+
+kept← : (v : View) (needs : List ℕ) → NeedsKept v needs → allKept v needs ≡ true
+unfolding allKept
+kept← v needs h = all-from 256 (λ j. eqb (getD needs j 0) (keptNeed v j)) (λ i l. eq-eqb _ _ (h i l))
+
 pub sound→ : (b : Book) → soundB b ≡ true → Sound b
 unfolding soundB formedB coveredB
 sound→ b e = record {
   table = table;
   most = most;
-  top-live = top .1;
-  blank = λ i l. beyond i l (decLt i 256);
-  shaped = record {
-    some = some;
-    top = top .0;
-    sorts = λ i p l. sorts (good i l (λ z. omega arith));
-    tms = λ i l c. (as-client i l c .lower, as-client i l c .its-tm);
-  };
-  no-tm = λ i l ne. no-tm i l ne (ℕ-discrete i 0);
-  tm-live = λ i l c. as-client i l c .tm-live;
+  top-live = top b some most table row .1;
+  blank = blank-beyond b some most table row;
+  shaped = shaped-rows b some most table row;
+  no-tm = λ i l ne. no-tm-rows b some most table row i l ne (ℕ-discrete i 0);
+  tm-live = λ i l c. as-client b some most table row i l c .tm-live;
   retired = λ i l. row-retired b i (row i (omega (arith, most))) l;
   ranges = λ i l. row-ranges b i (row i (omega (arith, most))) l;
   covered = search (and-left, and-right, leb-true);
   modes = λ i l. mode→ b i (mode i l);
+  kept = kept→ (view b) (b .needs) (search (and-left, and-right));
 }
   where
     mode : (i : ℕ) → i < 256 → modeSound b i ≡ true
@@ -153,43 +210,9 @@ sound→ b e = record {
     row : (i : ℕ) → i < 256 → rowSound b i ≡ true
     row = all-at 256 (rowSound b) (search (and-left, and-right))
 
-    top : (rowAt b 0 .sort ≡ 0) × (rowAt b 0 .live ≡ true) × (rowAt b 0 .tm ≡ 0)
-    top = let h = row-top b 0 (row 0 (omega arith)) some refl in search (and-left, and-right, eqb-true)
-
-    beyond : (i : ℕ) → b .count ≤ i → Dec (i < 256) → rowAt b i ≡ noRow
-    beyond i h (yes l) = row-beyond b i (row i l) h
-    beyond i h (no l) = row-far b i (omega (arith, table))
-
-    good : (i : ℕ) → i < b .count → (i ≡ 0 → ⊥) → GoodSort i (rowAt b i) (rowAt b (rowAt b i .tm))
-    good i l z = row-sort b i (row i (omega (arith, most))) l z
-
-    sorts : {i : ℕ} {r t : Row} → GoodSort i r t → (r .sort ≡ 1) ⊎ ((r .sort ≡ 2) ⊎ (r .sort ≡ 3))
-    sorts (tm c z) = inl c
-    sorts (cp c z) = inr (inr c)
-    sorts (client h) = inr (inl (h .sort))
-
-    only-client : {i : ℕ} {r t : Row} → r .sort ≡ 2 → GoodSort i r t → GoodClient i r t
-    only-client c (tm d z) = absurd (omega arith)
-    only-client c (cp d z) = absurd (omega arith)
-    only-client c (client h) = h
-
-    not-top : (i : ℕ) → rowAt b i .sort ≡ 2 → i ≡ 0 → ⊥
-    not-top i c z = omega (arith, top .0, ap (λ j. rowAt b j .sort) z)
-
-    as-client : (i : ℕ) → i < b .count → rowAt b i .sort ≡ 2 → GoodClient i (rowAt b i) (rowAt b (rowAt b i .tm))
-    as-client i l c = only-client c (good i l (not-top i c))
-
-    plain : {i : ℕ} {r t : Row} → (r .sort ≡ 2 → ⊥) → GoodSort i r t → r .tm ≡ 0
-    plain ne (tm c z) = z
-    plain ne (cp c z) = z
-    plain ne (client h) = absurd (ne (h .sort))
-
-    no-tm : (i : ℕ) → i < b .count → (rowAt b i .sort ≡ 2 → ⊥) → Dec (i ≡ 0) → rowAt b i .tm ≡ 0
-    no-tm i l ne (yes z) = rw z (top .2)
-    no-tm i l ne (no z) = plain ne (good i l z)
-
 pub sound← : (b : Book) → Sound b → soundB b ≡ true
 unfolding soundB formedB coveredB
 sound← b s =
-    and-join (and-join (and-join (and-join (and-join (le-leb _ _ (s .shaped .some)) (le-leb _ _ (s .most)))
-    (all-from 256 (rowSound b) (λ i l. row← b i s))) (eq-eqb _ _ (s .table))) (all-from 256 (modeSound b) (λ i l. mode← b i (s .modes i l)))) (le-leb _ _ (s .covered))
+    and-join (and-join (and-join (and-join (and-join (and-join (le-leb _ _ (s .shaped .some)) (le-leb _ _ (s .most)))
+    (all-from 256 (rowSound b) (λ i l. row← b i s))) (eq-eqb _ _ (s .table))) (all-from 256 (modeSound b) (λ i l. mode← b i (s .modes i l))))
+    (kept← (view b) (b .needs) (s .kept))) (le-leb _ _ (s .covered))

@@ -7,7 +7,7 @@ use Prim.Native.Nat.{ℕ, _≤_, _<_}
 use Rattle.rows.specs.declared.Book.{Book}
 use Rattle.rows.specs.Rows.{noRow, rowAt, modeAt, places, view}
 use Rattle.rows.specs.Ranges.{noAmounts}
-use Rattle.rows.specs.Facts.{Shaped, NoTM, Covered, InRange}
+use Rattle.rows.specs.Facts.{Shaped, NoTM, Covered, InRange, NeedsKept}
 
 -- all that document 01's list says
 pub record SoundRows (b : Book) : Type 0 where
@@ -36,7 +36,7 @@ pub record SoundRows (b : Book) : Type 0 where
 abbrev pub MayBeOn : Book → ℕ → Type 0
 MayBeOn b i = (i ≡ 0) ⊎ ((rowAt b i .sort ≡ 1) × (rowAt b i .live ≡ true))
 
--- the same, field by field, and what document 02 says of modes
+-- the same, field by field, and what document 02 says of modes and of kept needs
 pub record Sound (b : Book) : Type 0 where
   pub table : places b ≡ 256
   pub most : b .count ≤ 256
@@ -50,3 +50,5 @@ pub record Sound (b : Book) : Type 0 where
   pub covered : Covered (view b)
   -- document 02, K2: "In a sound book only a live TM or the CM can be in the mode."
   pub modes : (i : ℕ) → i < 256 → modeAt b i ≡ true → MayBeOn b i
+  -- document 02, K3: "each kept need equals the need worked out afresh"
+  pub kept : NeedsKept (view b) (b .needs)

@@ -1,5 +1,6 @@
 pub mod Sound
 pub mod Asked
+pub mod NeedsListed
 pub mod Evening
 pub mod Facts
 pub mod Inner

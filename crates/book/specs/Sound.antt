@@ -1,4 +1,4 @@
--- Document 01, 'A sound book', with document 02, K2: as the test that refusal 1 is about (as facts: Facts.antt).
+-- Document 01, 'A sound book', with document 02, K2 and K3: as the test that refusal 1 is about (as facts: Facts.antt).
 use mathlib.Core.Bool.{Bool, not, _&&_, _||_}
 use Prim.Native.Nat.{ℕ}
 use lib.Dec.{eqb, ltb, leb}
@@ -9,6 +9,7 @@ use Rattle.rows.specs.declared.Book.{Book}
 use Rattle.rows.specs.View.{needCM}
 use Rattle.rows.specs.Rows.{rowAt, modeAt, places, collateral, view}
 use Rattle.rows.specs.Ranges.{noAmounts, inRange}
+use Rattle.rows.specs.KeptNeeds.{allKept}
 
 -- "rows beyond the number are all zero"
 abbrev pub isBlank : Row → Bool
@@ -55,6 +56,10 @@ formedB b = leb 1 (b .count) && leb (b .count) 256 && all 256 (rowSound b) && eq
 unfoldable pub coveredB : Book → Bool
 coveredB b = leb (needCM (view b)) (collateral (rowAt b 0))
 
--- 'A sound book': well formed, and covered
+-- document 02, K3: "A sound book now includes that each kept need equals the need worked out afresh"
+abbrev pub keptB : Book → Bool
+keptB b = allKept (view b) (b .needs)
+
+-- 'A sound book': well formed, its needs kept, and covered
 unfoldable pub soundB : Book → Bool
-soundB b = formedB b && coveredB b
+soundB b = formedB b && keptB b && coveredB b

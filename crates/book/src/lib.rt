@@ -1,9 +1,10 @@
-// The collateral book of one clearing member, by amount: a fresh one, its soundness, an account's standing, the evening sums.
+// The collateral book of one clearing member, by amount: a fresh one, its soundness, an account's standing, all needs, the evening sums.
 ghost use mathlib.Core.Path.{_≡_};
 ghost use Rattle.rows.specs.Rows.{freshBook};
 ghost use Rattle.table.specs.Words.{turned, turnedBack};
 ghost use Rattle.book.specs.Sound.{soundB};
 ghost use Rattle.book.specs.Asked.{standingOf};
+ghost use Rattle.book.specs.NeedsListed.{needsRefusal, needsRoom};
 ghost use Rattle.book.specs.Evening.{eveningOf};
 
 mod blocking;
@@ -56,6 +57,7 @@ pub fn fresh() -> Table
         live,
         tm: [0u16; 256],
         modes: [false; 256],
+        needs: [0u64; 256],
         amounts: [0u64; 2560],
     }
 }
@@ -64,14 +66,30 @@ pub fn is_sound(t: Table) -> bool
     ensures { λ r. ⌜ r ≡ soundB (turnedBack t) ⌝ }
 {
     let count = t.count;
-    table_sound(&t.sort, &t.live, &t.tm, &t.amounts, &t.modes, count)
+    table_sound(
+        &t.sort,
+        &t.live,
+        &t.tm,
+        &t.amounts,
+        &t.modes,
+        &t.needs,
+        count,
+    )
 }
 
 pub fn standing(t: Table, account: u16) -> Figures
     ensures { λ r. ⌜ r ≡ standingOf (turnedBack t) account ⌝ }
 {
     let count = t.count;
-    if !table_sound(&t.sort, &t.live, &t.tm, &t.amounts, &t.modes, count) {
+    if !table_sound(
+        &t.sort,
+        &t.live,
+        &t.tm,
+        &t.amounts,
+        &t.modes,
+        &t.needs,
+        count,
+    ) {
         return blocking::refused(1);
     }
     if account >= count {
@@ -82,7 +100,32 @@ pub fn standing(t: Table, account: u16) -> Figures
         return blocking::refused(7);
     }
     let mode = t.modes[i];
-    blocking::figures(&t.sort, &t.tm, &t.amounts, count, i, mode)
+    let kept = t.needs[i];
+    blocking::figures(&t.sort, &t.tm, &t.amounts, count, i, kept, mode)
+}
+
+// The needs of all accounts, one for each place of the room: the refusal, or 0 (K3).
+pub fn needs(t: Table, room: &mut [u64]) -> u8
+    ensures { λ r. ⌜ r ≡ needsRefusal (turnedBack t) (now (room .entry)) ⌝ }
+    ensures { λ _. ⌜ now (room .exit) ≡ needsRoom (turnedBack t) (now (room .entry)) ⌝ }
+{
+    let count = t.count;
+    if !table_sound(
+        &t.sort,
+        &t.live,
+        &t.tm,
+        &t.amounts,
+        &t.modes,
+        &t.needs,
+        count,
+    ) {
+        return 1;
+    }
+    if room.len() != count as usize {
+        return 15;
+    }
+    blocking::put_needs(&t.sort, &t.tm, &t.amounts, &t.needs, count, room);
+    0
 }
 
 // The evening sums: an amount of all accounts, out of its own run of words.
@@ -90,7 +133,15 @@ pub fn amount_sum(t: Table, amount: Amount) -> Summed
     ensures { λ r. ⌜ r ≡ eveningOf (turnedBack t) amount ⌝ }
 {
     let count = t.count;
-    if !table_sound(&t.sort, &t.live, &t.tm, &t.amounts, &t.modes, count) {
+    if !table_sound(
+        &t.sort,
+        &t.live,
+        &t.tm,
+        &t.amounts,
+        &t.modes,
+        &t.needs,
+        count,
+    ) {
         return Summed {
             refusal: 1,
             total: 0,

@@ -1,4 +1,4 @@
-// The test of a sound book's rows and modes, a sentence of 'A sound book' each, on the words in their places.
+// The test of a sound book's rows, modes and kept needs, a sentence of 'A sound book' each, on the words in their places.
 ghost use mathlib.Core.Path.{_≡_};
 ghost use mathlib.Core.Bool.{false};
 ghost use mathlib.Core.List.{[]};
@@ -16,7 +16,7 @@ use rows::needs::slot;
 use rows::ranges::kinds_capped;
 use rows::ranges::kinds_within;
 use table::needs::account_at;
-use table::needs::need_cm;
+use table::needs::needs_kept;
 use table::places::kinds_at;
 use table::places::word_at;
 
@@ -96,7 +96,7 @@ fn good_row<'a>(
     i: usize,
 ) -> bool
     requires { ⌜ i < 256 ⌝ }
-    ensures { λ x. ⌜ x ≡ rowSound (bookFrom n 0 (marksFrom (now (sort .entry)) (now (live .entry)) (now (tm .entry))) (now (w .entry)) []) i ⌝ }
+    ensures { λ x. ⌜ x ≡ rowSound (bookFrom n 0 (marksFrom (now (sort .entry)) (now (live .entry)) (now (tm .entry))) (now (w .entry)) [] []) i ⌝ }
 {
     let own = mark_at(sort, live, tm, i);
     let its = mark_at(sort, live, tm, slot(own.tm));
@@ -114,7 +114,7 @@ fn rows_sound<'a>(
     w: &'a [u64; 2560],
     count: u16,
 ) -> bool
-    ensures { λ x. ⌜ x ≡ all 256 (rowSound (bookFrom count 0 (marksFrom (now (sort .entry)) (now (live .entry)) (now (tm .entry))) (now (w .entry)) [])) ⌝ }
+    ensures { λ x. ⌜ x ≡ all 256 (rowSound (bookFrom count 0 (marksFrom (now (sort .entry)) (now (live .entry)) (now (tm .entry))) (now (w .entry)) [] [])) ⌝ }
 {
     let n = count as usize;
     let mut ok = true;
@@ -139,16 +139,18 @@ fn modes_sound<'a>(sort: &'a [u8; 256], live: &'a [bool; 256], modes: &'a [bool;
     ok
 }
 
-// The test of a table's arrays where they are. Ranges are tested before anything is added, so that no sum can pass a word.
+// The test of a table's arrays where they are. Ranges are tested before anything is added, so that no sum can pass a word. The kept
+// needs are right before the CM's is held against its collateral.
 pub fn table_sound<'a>(
     sort: &'a [u8; 256],
     live: &'a [bool; 256],
     tm: &'a [u16; 256],
     w: &'a [u64; 2560],
     modes: &'a [bool; 256],
+    needs: &'a [u64; 256],
     count: u16,
 ) -> bool
-    ensures { λ x. ⌜ x ≡ soundB (bookFrom count 0 (marksFrom (now (sort .entry)) (now (live .entry)) (now (tm .entry))) (now (w .entry)) (now (modes .entry))) ⌝ }
+    ensures { λ x. ⌜ x ≡ soundB (bookFrom count 0 (marksFrom (now (sort .entry)) (now (live .entry)) (now (tm .entry))) (now (w .entry)) (now (modes .entry)) (now (needs .entry))) ⌝ }
 {
     if count < 1 {
         return false;
@@ -162,7 +164,9 @@ pub fn table_sound<'a>(
     if !modes_sound(sort, live, modes) {
         return false;
     }
-    let need = need_cm(sort, tm, w, count);
+    if !needs_kept(sort, tm, w, count, needs) {
+        return false;
+    }
     let cm = account_at(sort, tm, w, 0);
-    need <= cm.collateral
+    needs[0] <= cm.collateral
 }

@@ -78,12 +78,49 @@ pub fn in_mode(book: Book, i: u8) -> Book {
     b
 }
 
-// Annexure 4: CM 1000, TM-1 500, its clients A 300 and B 300, in rupees; A's margin is a and B's is b.
-pub fn annexure(a: u64, b: u64) -> Book {
+// The book with this need kept at place i.
+pub fn keeping(book: Book, i: u8, need: u64) -> Book {
+    let mut b = book;
+    let at = i as usize;
+    b.needs[at] = need;
+    b
+}
+
+// Annexure 4: CM 1000, TM-1 500, its clients A 300 and B 300, in rupees; A's margin is a and B's is b. The needs kept are TM-1's, tm, and
+// the CM's, all: each is worked out by hand, and nothing here adds one up.
+pub fn annexure(a: u64, b: u64, tm: u64, all: u64) -> Book {
     let cm = with_last(fresh(), 0, account(0, 0, 100_000, 0));
-    let tm = with_last(cm, 1, account(1, 0, 50_000, 0));
-    let first = with_last(tm, 2, account(2, 1, 30_000, a));
-    with_last(first, 3, account(2, 1, 30_000, b))
+    let member = with_last(cm, 1, account(1, 0, 50_000, 0));
+    let first = with_last(member, 2, account(2, 1, 30_000, a));
+    let last = with_last(first, 3, account(2, 1, 30_000, b));
+    keeping(keeping(last, 1, tm), 0, all)
+}
+
+// P1: B's margin 100.
+pub fn p1() -> Book {
+    annexure(0, 10_000, 0, 0)
+}
+
+// P4: A's margin 600, B's 900; TM-1 needs 300 and 600, the CM 400.
+pub fn p4() -> Book {
+    annexure(60_000, 90_000, 90_000, 40_000)
+}
+
+// B's margin 1500.01: the CM needs a paisa more than its collateral. Nothing else is wrong with it.
+pub fn uncovered() -> Book {
+    annexure(60_000, 150_001, 150_001, 100_001)
+}
+
+// CM 100 with margin 10, a TM 50 with 20, a retired client of it, one 10 with 25, a CP 20 with 30, a retired TM. The client is deemed 15
+// and the CP 10: the TM needs 35, which its 50 meets, and the CM 20.
+pub fn mixed() -> Book {
+    let cm = with_last(fresh(), 0, account(0, 0, 100, 10));
+    let tm = with_last(cm, 1, account(1, 0, 50, 20));
+    let gone = with_last(tm, 2, retired(2, 1));
+    let client = with_last(gone, 3, account(2, 1, 10, 25));
+    let cp = with_last(client, 4, account(3, 0, 20, 30));
+    let last = with_last(cp, 5, retired(1, 0));
+    keeping(keeping(last, 1, 35), 0, 20)
 }
 
 // 255 TMs under the CM.

@@ -41,9 +41,10 @@ fn each(sort: u8, n: u8) -> Row {
     words::with_margin(words::with_pledged(a, 50), 6)
 }
 
+// The CM and a CP whose collateral, 60, meets its margin: the CM needs its own margin, 6.
 fn ten() {
     let cm = books::with_last(books::fresh(), 0, each(0, 1));
-    let b = books::with_last(cm, 1, each(3, 10));
+    let b = books::keeping(books::with_last(cm, 1, each(3, 10)), 0, 6);
     sum(b"received cash", b, Amount::ReceivedCash);
     sum(b"received deposits", b, Amount::ReceivedDeposits);
     sum(b"received guarantees", b, Amount::ReceivedGuarantees);
@@ -57,14 +58,14 @@ fn ten() {
 }
 
 pub fn all() {
-    let b = books::annexure(60_000, 90_000);
+    let b = books::p4();
     sum(b"P4, allocated cash", b, Amount::AllocatedCash);
     sum(b"P4, margin", b, Amount::Margin);
     sum(b"P4, pledged", b, Amount::Pledged);
     ten();
     sum(
         b"of a book that is not sound, margin",
-        books::annexure(60_000, 150_001),
+        books::uncovered(),
         Amount::Margin,
     );
 }

@@ -15,12 +15,12 @@ fn sound(name: &[u8], b: Book) {
 
 // Annexure 4's book with B's margin 100, and row 4 beyond its accounts.
 fn beyond(name: &[u8], r: Row) {
-    sound(name, books::with(books::annexure(0, 10_000), 4, r));
+    sound(name, books::with(books::p1(), 4, r));
 }
 
 // The same book with account 4.
 fn fifth(name: &[u8], r: Row) {
-    sound(name, books::with_last(books::annexure(0, 10_000), 4, r));
+    sound(name, books::with_last(books::p1(), 4, r));
 }
 
 fn count(name: &[u8], n: u16) {
@@ -145,7 +145,9 @@ fn retirements() {
         books::with_kinds(r, 2, 1, 1),
     );
     fifth(b"retired with pledged 1", words::with_pledged(r, 1));
-    fifth(b"retired with margin 1", words::with_margin(r, 1));
+    // a CP's margin that nothing meets: the need kept for the CM has it
+    let b = books::with_last(books::p1(), 4, words::with_margin(r, 1));
+    sound(b"retired with margin 1", books::keeping(b, 0, 1));
 }
 
 fn kind(name: &[u8], kind: u8, received: u64, allocated: u64) {
@@ -194,23 +196,20 @@ fn pledges() {
 fn cover() {
     sound(
         b"need equal to collateral",
-        books::annexure(60_000, 150_000),
+        books::annexure(60_000, 150_000, 150_000, 100_000),
     );
-    sound(
-        b"need one paisa past collateral",
-        books::annexure(60_000, 150_001),
-    );
+    sound(b"need one paisa past collateral", books::uncovered());
 }
 
 // Annexure 4's book with B's margin 100 and account 4, which is in the mode.
 fn fifth_in_mode(name: &[u8], r: Row) {
-    let b = books::with_last(books::annexure(0, 10_000), 4, r);
+    let b = books::with_last(books::p1(), 4, r);
     sound(name, books::in_mode(b, 4));
 }
 
 // "In a sound book only a live TM or the CM can be in the mode."
 fn modes() {
-    let b = books::annexure(0, 10_000);
+    let b = books::p1();
     sound(b"the CM in the mode", books::in_mode(b, 0));
     sound(b"a live TM in the mode", books::in_mode(b, 1));
     sound(

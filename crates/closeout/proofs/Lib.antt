@@ -8,6 +8,7 @@ pub mod TwoRounds
 pub mod Cells
 pub mod Steps
 pub mod Rooms
+pub mod KeptUnders
 pub mod Turns
 pub mod Pass
 pub mod Answers

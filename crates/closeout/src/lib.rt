@@ -2,8 +2,6 @@
 ghost use mathlib.Core.Path.{_≡_};
 ghost use Prim.Native.Nat.{_≤_};
 ghost use lib.ListN.{length};
-ghost use Rattle.rows.specs.Rows.{view};
-ghost use Rattle.rows.specs.Under.{Under};
 ghost use Rattle.book.specs.Facts.{Sound};
 ghost use Rattle.table.specs.Words.{turnedBack};
 ghost use Rattle.closeout.specs.Closing.{goodLoss, goodLosses, noTotal, closedOf, roomOf};
@@ -50,9 +48,9 @@ fn refused(n: u8) -> Closed
     }
 }
 
-// At a sound book, with what is deemed under each account.
-fn close_out_at(b: Book, under: [u64; 256], losses: &[u64], room: &mut [u64]) -> Closed
-    requires { ⌜ Sound b × Under (view b) under ⌝ }
+// At a sound book.
+fn close_out_at(b: Book, losses: &[u64], room: &mut [u64]) -> Closed
+    requires { ⌜ Sound b ⌝ }
     ensures { λ x. ⌜ x ≡ closedOf b (now (losses .entry)) (now (room .entry)) ⌝ }
     ensures { λ _. ⌜ now (room .exit) ≡ roomOf b (now (losses .entry)) (now (room .entry)) ⌝ }
 {
@@ -68,7 +66,7 @@ fn close_out_at(b: Book, under: [u64; 256], losses: &[u64], room: &mut [u64]) ->
     }
     Closed {
         refusal: 0,
-        total: pays::fill(b, under, losses, room),
+        total: pays::fill(b, losses, room),
     }
 }
 
@@ -80,6 +78,5 @@ pub fn close_out(t: Table, losses: &[u64], room: &mut [u64]) -> Closed
     if !is_sound(t) {
         return refused(1);
     }
-    let under = table::needs::unders(&t.sort, &t.tm, &t.amounts, t.count, false);
-    close_out_at(table::turn_back(t), under, losses, room)
+    close_out_at(table::turn_back(t), losses, room)
 }

@@ -4,7 +4,6 @@ ghost use Prim.Native.Nat.{_+_, _≤_, min};
 ghost use lib.ListN.{length};
 ghost use Rattle.rows.specs.Rows.{accountOf, view};
 ghost use Rattle.rows.specs.Facts.{InRange};
-ghost use Rattle.rows.specs.Under.{Under};
 ghost use Rattle.closeout.specs.Columns.{four, rowsTo, total};
 ghost use Rattle.closeout.specs.Closing.{lossAt};
 ghost use Rattle.closeout.specs.Inner.{paidBy, roundsBy, afterOwn, fourOf, putAt, Checked};
@@ -115,14 +114,16 @@ fn put(room: &mut [u64], at: usize, p: Both)
 
 // The rows, and the total left uncovered. left[t] is what account t's collateral has left in round one after its own part and the
 // clients passed, free[t] what its free collateral has left in round two: a TM's row comes before its clients'. cm and cm_free are
-// the same of the CM's, after its own parts and the accounts passed.
-pub(crate) fn fill(b: Book, under: [u64; 256], losses: &[u64], room: &mut [u64]) -> u64
-    requires { ⌜ Checked b (now losses) (now room) × Under (view b) under ⌝ }
+// the same of the CM's, after its own parts and the accounts passed. What is deemed under an account is its kept need less its margin
+// (K3): nothing is added up for it.
+pub(crate) fn fill(b: Book, losses: &[u64], room: &mut [u64]) -> u64
+    requires { ⌜ Checked b (now losses) (now room) ⌝ }
     ensures { λ x. ⌜ (now (room .exit) ≡ rowsTo (four (view b) (lossAt (now (losses .entry)))) (b .count)) × (x ≡ total (view b) (lossAt (now (losses .entry)))) ⌝ }
 {
     let mut left = zeros();
     let mut free = zeros();
-    let start = after_own(b.rows[0], losses[0], under[0]);
+    let top = b.rows[0];
+    let start = after_own(top, losses[0], less(b.needs[0], top.margin));
     let mut cm = start.left;
     let mut cm_free = start.free;
     let mut uncovered: u64 = 0;
@@ -130,8 +131,9 @@ pub(crate) fn fill(b: Book, under: [u64; 256], losses: &[u64], room: &mut [u64])
     let mut i: usize = 0;
     while i < n {
         let r = b.rows[i];
+        let under = less(b.needs[i], r.margin);
         let t = r.tm as usize;
-        let p = rounds(r, losses[i], under[i], left[t], cm, free[t], cm_free);
+        let p = rounds(r, losses[i], under, left[t], cm, free[t], cm_free);
         put(room, 4 * i, p);
         let first = p.first;
         let second = p.second;

@@ -1,4 +1,5 @@
-// The books of the cases, in paise; all collateral is allocated cash.
+// The books of the cases, in paise; all collateral is allocated cash. The needs kept beside the rows are worked out by hand; where no
+// margin is named they are 0.
 use rows::Book;
 use rows::Kinds;
 use rows::Row;
@@ -34,25 +35,35 @@ fn retired(sort: u8, tm: u16) -> Row {
     r
 }
 
-// The book of 004 Annexure 4: CM 1000, TM-1 500, A 300 and B 300, in rupees.
-fn annexure(margin_a: u64, margin_b: u64) -> Book {
+// The book of 004 Annexure 4: CM 1000, TM-1 500, A 300 and B 300, in rupees; TM-1 needs need_tm, and the CM need_cm.
+fn annexure(margin_a: u64, margin_b: u64, need_tm: u64, need_cm: u64) -> Book {
     let mut b = fresh();
     b.rows[0] = row(0, 0, 100_000, 0);
     b.rows[1] = row(1, 0, 50_000, 0);
     b.rows[2] = row(2, 1, 30_000, margin_a);
     b.rows[3] = row(2, 1, 30_000, margin_b);
     b.count = 4;
+    b.needs[0] = need_cm;
+    b.needs[1] = need_tm;
     b
 }
 
-// Document 01's P4: A's margin 600, B's 900.
+// Document 01's P4: A's margin 600, B's 900; TM-1 needs 300 and 600, the CM 400.
 pub(crate) fn p4() -> Book {
-    annexure(60_000, 90_000)
+    annexure(60_000, 90_000, 90_000, 40_000)
+}
+
+// P4 with this need kept at place i.
+pub(crate) fn p4_keeping(i: u8, need: u64) -> Book {
+    let mut b = p4();
+    let at = i as usize;
+    b.needs[at] = need;
+    b
 }
 
 // A's margin 600, none of B's: 300 of TM-1's collateral are blocked.
 pub(crate) fn margin_of_a() -> Book {
-    annexure(60_000, 0)
+    annexure(60_000, 0, 30_000, 0)
 }
 
 // Every account with a margin: CM 100 with margin 10, a TM 50 with 20, its clients 10 and 30 with 25 and 30, a CP 20 with 30, a TM with
@@ -66,6 +77,9 @@ pub(crate) fn margins() -> Book {
     b.rows[4] = row(3, 0, 20, 30);
     b.rows[5] = row(1, 0, 0, 5);
     b.count = 6;
+    b.needs[0] = 25;
+    b.needs[1] = 35;
+    b.needs[5] = 5;
     b
 }
 
@@ -135,5 +149,6 @@ pub(crate) fn full() -> Book {
         serial: 0,
         rows: table,
         modes: [false; 256],
+        needs: [0u64; 256],
     }
 }

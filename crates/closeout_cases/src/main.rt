@@ -113,6 +113,26 @@ fn sound_first() {
     show::case(b"sound again", books::sound_again(), &[0, 0, 3], &mut room);
 }
 
+// P4 with one kept need put as this, and P7's losses.
+fn kept(name: &[u8], i: u8, need: u64) {
+    let mut room = [7u64; 16];
+    let b = books::p4_keeping(i, need);
+    show::case(name, b, &[0, 0, 60_000, 90_000], &mut room);
+}
+
+// K3: a wrong kept need is refusal 1.
+fn kept_needs() {
+    kept(b"TM-1's need kept as it is", 1, 90_000);
+    kept(b"TM-1's need kept a paisa more", 1, 90_001);
+    kept(b"TM-1's need kept a paisa less", 1, 89_999);
+    kept(b"the CM's need kept as it is", 0, 40_000);
+    kept(b"the CM's need kept a paisa more", 0, 40_001);
+    kept(b"the CM's need kept a paisa less", 0, 39_999);
+    kept(b"A's need kept at its place", 2, 60_000);
+    kept(b"a need of 1 kept at place 4 of 4", 4, 1);
+    kept(b"a need of 1 kept at place 255 of 4", 255, 1);
+}
+
 fn full() {
     let losses = [3u64; 256];
     let mut room = [7u64; 1024];
@@ -134,5 +154,6 @@ fn main() {
     rooms_given();
     ceilings();
     sound_first();
+    kept_needs();
     full();
 }

@@ -1,4 +1,4 @@
--- K2: the modes after a record. They are looked at after one that is carried out, and stay at a refusal.
+-- The modes (K2) and the kept needs (K3) after a record: looked at and worked out afresh after one that is carried out, as they were at a refusal.
 use mathlib.Core.Bool.{Bool, true, false}
 use mathlib.Core.List.{List}
 use mathlib.Core.Path.{_≡_, refl, sym, ap, _∙_}
@@ -11,17 +11,20 @@ use Rattle.sums.specs.Choice.{pick}
 use Rattle.sums.proofs.Choices.{pick-yes, pick-no}
 use Rattle.rows.specs.declared.Row.{Row}
 use Rattle.rows.specs.declared.Book.{Book}
-use Rattle.rows.specs.Rows.{placeOf, modeAt, openedRow, view, withModes, withRow, withNew}
-use Rattle.rows.specs.Modes.{lookAt, looked, settled}
+use Rattle.rows.specs.Rows.{placeOf, modeAt, needAt, openedRow, view, withModes, withNeeds, withRow, withNew}
+use Rattle.rows.specs.Modes.{lookAt, looked}
+use Rattle.rows.specs.KeptNeeds.{keptNeed, needsAfresh, settled}
 use Rattle.rows.specs.Inner.{Slot}
 use Rattle.rows.proofs.Looks.{looked-at, look-twice}
+use Rattle.rows.proofs.KeptNeeds.{afresh-at}
+use Rattle.book.specs.Facts.{Sound}
 use Rattle.dayfile.specs.declared.Record.{Record}
 use Rattle.rules.specs.declared.Change.the-variants.{Put, Open}
 use Rattle.rules.specs.Refusals.{isOpening, namedRow, refusalOf}
 use Rattle.rules.specs.Effects.{amended, effectOf, movedOn, changedBy, bookAfter}
 use Rattle.rules.proofs.Passing.{passes-all}
 use Rattle.rules.proofs.Deciding.{passes-as}
-use Rattle.rules.proofs.Kept.{put-looks, open-looks}
+use Rattle.rules.proofs.Kept.{put-looks, put-aside, open-looks, open-needs}
 use Rattle.desk.specs.Steps.{stepOf}
 use Rattle.desk.proofs.Effect.{early-refusal, later-refusal, passed-as}
 
@@ -38,7 +41,7 @@ module _ (b : Book) (r : Record) where
   modes-kept true = refl
   modes-kept false = refl
 
-  -- what is carried out ends in a look
+  -- what is carried out ends in a look, with needs worked out afresh
   pub carried-book : refusalOf b r ≡ 0
       → stepOf b r .book ≡ settled (changedBy b (placeOf b (r .account)) (effectOf (namedRow b r) (placeOf b (r .account)) r))
   unfolding pick
@@ -64,11 +67,23 @@ module _ (b : Book) (r : Record) where
       by (yes q) = ap (λ x. x .modes) (early-refusal b r p q)
       by (no q) = ap (λ x. x .modes) (later-refusal b r (omega arith))
 
-  -- a second look leaves the book after
+  -- K3, "worked out afresh"
+  pub needs-after : refusalOf b r ≡ 0 → stepOf b r .book .needs ≡ needsAfresh (view (stepOf b r .book))
+  needs-after e = ap (λ x. x .needs) (carried-book e) ∙ sym (ap (λ x. needsAfresh (view x)) (carried-book e))
+
+  pub needs-stay : 0 < refusalOf b r → stepOf b r .book .needs ≡ b .needs
+  needs-stay p = by (decLe (refusalOf b r) 3)
+    where
+      by : Dec (refusalOf b r ≤ 3) → stepOf b r .book .needs ≡ b .needs
+      by (yes q) = ap (λ x. x .needs) (early-refusal b r p q)
+      by (no q) = ap (λ x. x .needs) (later-refusal b r (omega arith))
+
+  -- a second look, and needs worked out once more, leave the book after
   pub looked-after : refusalOf b r ≡ 0 → settled (stepOf b r .book) ≡ stepOf b r .book
   looked-after e =
       let c = stepOf b r .book in
-      ap (withModes c) (ap (looked (view c)) (modes-after e) ∙ look-twice (view c) (b .modes) ∙ sym (modes-after e))
+      ap (λ l. withNeeds (withModes c l) (needsAfresh (view c))) (ap (looked (view c)) (modes-after e) ∙ look-twice (view c) (b .modes) ∙ sym (modes-after e))
+      ∙ ap (withNeeds c) (sym (needs-after e))
 
   -- and where a look leaves the book, it leaves the book after a refusal too
   pub been-looked : settled b ≡ b → settled (stepOf b r .book) ≡ stepOf b r .book
@@ -80,9 +95,9 @@ module _ (b : Book) (r : Record) where
       by (no e) (no l) = rw (later-refusal b r (omega arith)) (ap movedOn been)
 
   -- where the modes are those that a look leaves, a record moves three of them at most
-  module _ (been : settled b ≡ b) (i : ℕ) (own : i ≡ r .account → ⊥) (its : i ≡ namedRow b r .tm → ⊥) (top : i ≡ 0 → ⊥) where
+  module _ (been : looked (view b) (b .modes) ≡ b .modes) (i : ℕ) (own : i ≡ r .account → ⊥) (its : i ≡ namedRow b r .tm → ⊥) (top : i ≡ 0 → ⊥) where
     before : getD (looked (view b) (b .modes)) i false ≡ modeAt b i
-    before = ap (λ x. modeAt x i) been
+    before = ap (λ l. getD l i false) been
 
     -- the look after an opening, and after any other record
     abbrev w : Bool → List Bool
@@ -121,3 +136,37 @@ module _ (b : Book) (r : Record) where
         by : Dec (refusalOf b r ≡ 0) → modeAt (stepOf b r .book) i ≡ modeAt b i
         by (yes e) = ap (λ x. modeAt x i) (carried-book e) ∙ ap (λ m. getD m i false) (put (isOpening r)) ∙ carried e (isOpening r) refl
         by (no e) = ap (λ m. getD m i false) (modes-stay (omega arith))
+
+  -- K3: of a sound book's kept needs a record moves three at most
+  module _ (sound : Sound b) (i : ℕ) (l : i < 256) (own : i ≡ r .account → ⊥) (its : i ≡ namedRow b r .tm → ⊥) (top : i ≡ 0 → ⊥) where
+    abbrev needs′ : Bool → List ℕ
+    needs′ true = needsAfresh (view (withNew b newRow))
+    needs′ false = needsAfresh (view (withRow b (r .account) putRow))
+
+    kept-now : keptNeed (view b) i ≡ needAt b i
+    kept-now = sym (sound .kept i l)
+
+    moved : refusalOf b r ≡ 0 → (t : Bool) → isOpening r ≡ t → getD (needs′ t) i 0 ≡ needAt b i
+    moved e true o =
+        ap (λ m. getD m i 0) (open-needs b r newRow sound (passes-as b r newRow (passes-all b r e) e ∙ pick-yes (isOpening r) _ _ o))
+        ∙ afresh-at (view b) i l ∙ kept-now
+    moved e false o = afresh-at (view (withRow b (r .account) putRow)) i l ∙ aside (decLt (namedRow b r .tm) 256) ∙ kept-now
+      where
+        at : (p : ℕ) → Slot (namedRow b r .tm) p → (i ≡ p → ⊥) → keptNeed (view (withRow b (r .account) putRow)) i ≡ keptNeed (view b) i
+        at p s n = put-aside b r putRow sound (passes-as b r putRow (passes-all b r e) e ∙ pick-no (isOpening r) _ _ o) p s i own n top
+
+        aside : Dec (namedRow b r .tm < 256) → keptNeed (view (withRow b (r .account) putRow)) i ≡ keptNeed (view b) i
+        aside (yes q) = at (namedRow b r .tm) (record { inside = q; named = λ h. refl }) its
+        aside (no q) = at 0 (record { inside = omega arith; named = λ h. absurd (q h) }) top
+
+    pub other-needs-stay : needAt (stepOf b r .book) i ≡ needAt b i
+    unfolding pick
+    other-needs-stay = by (ℕ-discrete (refusalOf b r) 0)
+      where
+        put : (t : Bool) → settled (changedBy b (r .account) (pick t (Open newRow) (Put putRow))) .needs ≡ needs′ t
+        put true = refl
+        put false = refl
+
+        by : Dec (refusalOf b r ≡ 0) → needAt (stepOf b r .book) i ≡ needAt b i
+        by (yes e) = ap (λ x. needAt x i) (carried-book e) ∙ ap (λ m. getD m i 0) (put (isOpening r)) ∙ moved e (isOpening r) refl
+        by (no e) = ap (λ m. getD m i 0) (needs-stay (omega arith))

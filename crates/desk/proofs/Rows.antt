@@ -8,7 +8,7 @@ use Rattle.sums.proofs.Choices.{pick-yes, pick-no}
 use Rattle.rows.specs.declared.Row.{Row}
 use Rattle.rows.specs.declared.Book.{Book}
 use Rattle.rows.specs.Rows.{rowAt, openedRow, withRow, withNew}
-use Rattle.rows.specs.Modes.{settled}
+use Rattle.rows.specs.KeptNeeds.{settled}
 use Rattle.rows.proofs.RowPut.{row-same, new, below}
 use Rattle.dayfile.specs.declared.Record.{Record}
 use Rattle.rules.specs.Refusals.{isOpening, namedRow, refusalOf}

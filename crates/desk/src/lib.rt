@@ -87,11 +87,12 @@ fn step_at(t: Table, r: Record) -> Carried
     let mut live = t.live;
     let mut tm = t.tm;
     let mut amounts = t.amounts;
+    let mut needs = t.needs;
     let was = t.modes;
     table::sizes(sort, live, tm, amounts);
     table::modes::size(was);
+    table::needs::size(needs);
     let count = t.count;
-    let mut under = unders(&sort, &tm, &amounts, count, false);
     let mut used = unders(&sort, &tm, &amounts, count, true);
     let mut modes = look_all(&sort, &tm, &amounts, count, &used, &was);
     let at = At {
@@ -105,7 +106,7 @@ fn step_at(t: Table, r: Record) -> Carried
         &mut tm,
         &mut amounts,
         &mut modes,
-        &mut under,
+        &mut needs,
         &mut used,
         &was,
         at,
@@ -127,6 +128,7 @@ fn step_at(t: Table, r: Record) -> Carried
         tm,
         amounts,
         modes: steps::modes_of(was, modes, after.waiting),
+        needs,
     };
     Carried { answer, table }
 }

@@ -61,7 +61,7 @@ fn carry(
     tm: &mut [u16; 256],
     w: &mut [u64; 2560],
     modes: &mut [bool; 256],
-    under: &mut [u64; 256],
+    needs: &mut [u64; 256],
     used: &mut [u64; 256],
     was: &[bool; 256],
     first: At,
@@ -69,9 +69,9 @@ fn carry(
     most: u64,
     telling: bool,
 ) -> Went
-    requires { ⌜ Going first (marksFrom (now sort) (now live) (now tm)) (now w) (now was) (now modes) (now under) (now used) ⌝ }
-    ensures { λ x. ⌜ ranIn x (marksFrom (now (sort .exit)) (now (live .exit)) (now (tm .exit))) (now (w .exit)) (now (was .entry)) (now (modes .exit)) ≡ runOf (now (piece .entry)) most (bookAt first (marksFrom (now (sort .entry)) (now (live .entry)) (now (tm .entry))) (now (w .entry)) (now (was .entry)) (now (modes .entry))) 0 0 0 ⌝ }
-    ensures { λ x. ⌜ Going (x .at) (marksFrom (now (sort .exit)) (now (live .exit)) (now (tm .exit))) (now (w .exit)) (now (was .entry)) (now (modes .exit)) (now (under .exit)) (now (used .exit)) ⌝ }
+    requires { ⌜ Going first (marksFrom (now sort) (now live) (now tm)) (now w) (now was) (now modes) (now needs) (now used) ⌝ }
+    ensures { λ x. ⌜ ranIn x (marksFrom (now (sort .exit)) (now (live .exit)) (now (tm .exit))) (now (w .exit)) (now (was .entry)) (now (modes .exit)) (now (needs .exit)) ≡ runOf (now (piece .entry)) most (bookAt first (marksFrom (now (sort .entry)) (now (live .entry)) (now (tm .entry))) (now (w .entry)) (now (was .entry)) (now (modes .entry)) (now (needs .entry))) 0 0 0 ⌝ }
+    ensures { λ x. ⌜ Going (x .at) (marksFrom (now (sort .exit)) (now (live .exit)) (now (tm .exit))) (now (w .exit)) (now (was .entry)) (now (modes .exit)) (now (needs .exit)) (now (used .exit)) ⌝ }
 {
     if telling {
         return tell(
@@ -80,7 +80,7 @@ fn carry(
             tm,
             w,
             modes,
-            under,
+            needs,
             used,
             was,
             first,
@@ -95,7 +95,7 @@ fn carry(
         tm,
         w,
         modes,
-        under,
+        needs,
         used,
         was,
         first,
@@ -115,10 +115,11 @@ pub fn day_of(piece: &[u8], telling: bool) -> Day
     let mut live = t.live;
     let mut tm = t.tm;
     let mut amounts = t.amounts;
+    let mut needs = t.needs;
     let was = t.modes;
     table::sizes(sort, live, tm, amounts);
     table::modes::size(was);
-    let mut under = unders(&sort, &tm, &amounts, t.count, false);
+    table::needs::size(needs);
     let mut used = unders(&sort, &tm, &amounts, t.count, true);
     let mut modes = look_all(&sort, &tm, &amounts, t.count, &used, &was);
     let went = carry(
@@ -127,7 +128,7 @@ pub fn day_of(piece: &[u8], telling: bool) -> Day
         &mut tm,
         &mut amounts,
         &mut modes,
-        &mut under,
+        &mut needs,
         &mut used,
         &was,
         starting(t.count, t.serial),
@@ -145,6 +146,7 @@ pub fn day_of(piece: &[u8], telling: bool) -> Day
         tm,
         amounts,
         modes: modes_of(was, modes, at.waiting),
+        needs,
     };
     Day {
         table,
@@ -165,10 +167,11 @@ pub fn whole_day(telling: bool) -> Day
     let mut live = t.live;
     let mut tm = t.tm;
     let mut amounts = t.amounts;
+    let mut needs = t.needs;
     let was = t.modes;
     table::sizes(sort, live, tm, amounts);
     table::modes::size(was);
-    let mut under = unders(&sort, &tm, &amounts, t.count, false);
+    table::needs::size(needs);
     let mut used = unders(&sort, &tm, &amounts, t.count, true);
     let mut modes = look_all(&sort, &tm, &amounts, t.count, &used, &was);
     let mut at = starting(t.count, t.serial);
@@ -183,7 +186,7 @@ pub fn whole_day(telling: bool) -> Day
             &mut tm,
             &mut amounts,
             &mut modes,
-            &mut under,
+            &mut needs,
             &mut used,
             &was,
             at,
@@ -209,6 +212,7 @@ pub fn whole_day(telling: bool) -> Day
         tm,
         amounts,
         modes: modes_of(was, modes, at.waiting),
+        needs,
     };
     Day {
         table,

@@ -37,16 +37,16 @@ pub(crate) fn tell(
     tm: &mut [u16; 256],
     w: &mut [u64; 2560],
     modes: &mut [bool; 256],
-    under: &mut [u64; 256],
+    needs: &mut [u64; 256],
     used: &mut [u64; 256],
     was: &[bool; 256],
     first: At,
     piece: &[u8],
     most: u64,
 ) -> Went
-    requires { ⌜ Going first (marksFrom (now sort) (now live) (now tm)) (now w) (now was) (now modes) (now under) (now used) ⌝ }
-    ensures { λ x. ⌜ ranIn x (marksFrom (now (sort .exit)) (now (live .exit)) (now (tm .exit))) (now (w .exit)) (now (was .entry)) (now (modes .exit)) ≡ runOf (now (piece .entry)) most (bookAt first (marksFrom (now (sort .entry)) (now (live .entry)) (now (tm .entry))) (now (w .entry)) (now (was .entry)) (now (modes .entry))) 0 0 0 ⌝ }
-    ensures { λ x. ⌜ Going (x .at) (marksFrom (now (sort .exit)) (now (live .exit)) (now (tm .exit))) (now (w .exit)) (now (was .entry)) (now (modes .exit)) (now (under .exit)) (now (used .exit)) ⌝ }
+    requires { ⌜ Going first (marksFrom (now sort) (now live) (now tm)) (now w) (now was) (now modes) (now needs) (now used) ⌝ }
+    ensures { λ x. ⌜ ranIn x (marksFrom (now (sort .exit)) (now (live .exit)) (now (tm .exit))) (now (w .exit)) (now (was .entry)) (now (modes .exit)) (now (needs .exit)) ≡ runOf (now (piece .entry)) most (bookAt first (marksFrom (now (sort .entry)) (now (live .entry)) (now (tm .entry))) (now (w .entry)) (now (was .entry)) (now (modes .entry)) (now (needs .entry))) 0 0 0 ⌝ }
+    ensures { λ x. ⌜ Going (x .at) (marksFrom (now (sort .exit)) (now (live .exit)) (now (tm .exit))) (now (w .exit)) (now (was .entry)) (now (modes .exit)) (now (needs .exit)) (now (used .exit)) ⌝ }
 {
     let mut text = [0u8; 2048];
     let mut told = [0u16; 320];
@@ -62,7 +62,7 @@ pub(crate) fn tell(
             tm,
             w,
             modes,
-            under,
+            needs,
             used,
             was,
             at,

@@ -16,6 +16,7 @@ fn misfit() -> Table {
     let amounts = t.amounts;
     let mut modes = t.modes;
     modes[1] = true;
+    let needs = t.needs;
     Table {
         count: t.count,
         serial: t.serial,
@@ -24,6 +25,7 @@ fn misfit() -> Table {
         tm,
         amounts,
         modes,
+        needs,
     }
 }
 

@@ -1,4 +1,4 @@
--- P1 to P11 and Annexure 5, by one claim over the list.
+-- P1 to P11, Annexure 5 and K3's list, by one claim over the list.
 use mathlib.Core.List.{List}
 use mathlib.Core.Path.{_≡_, refl, sym, ap, _∙_}
 use Prim.Native.Nat.{ℕ}
@@ -10,6 +10,8 @@ use Rattle.sums.specs.Table.{first}
 use Rattle.rows.specs.View.{needTM, needCM, need}
 use Rattle.rows.specs.Rows.{freshBook, hasLiveClient}
 use Rattle.rows.specs.Modes.{useTM, useCM, useOf, modeAfter, looked}
+use Rattle.rows.specs.KeptNeeds.{needsAfresh}
+use Rattle.book.specs.NeedsListed.{allNeeds}
 use Rattle.book.proofs.FreshSound.{fresh-sound, fresh-test}
 use Rattle.dayfile.specs.declared.Record.{Record}
 use Rattle.dayfile.specs.declared.Found.{Found}
@@ -71,9 +73,9 @@ same-cases i =
     (λ rs losses room. room-same rs losses room i)
 
 quickly : casesQuickly ≡ expected
-unfolding casesQuickly cases expected quickAll changeBy amended refusalBy first pick sum all needTM needCM need hasLiveClient freshBook faultOf foundAt foundFrom recordOf number got past ones onesIn rowsTo four paid₁ part₂ ownColumn tmColumn cmColumn uncovered fromTM askedOfCM fromCM unpaid looked listTo useOf useTM useCM modeAfter
+unfolding casesQuickly cases expected quickAll changeBy amended refusalBy first pick sum all needTM needCM need hasLiveClient freshBook faultOf foundAt foundFrom recordOf number got past ones onesIn rowsTo four paid₁ part₂ ownColumn tmColumn cmColumn uncovered fromTM askedOfCM fromCM unpaid looked listTo useOf useTM useCM modeAfter allNeeds needsAfresh
 quickly = refl
 
--- document 01's figures and Annexure 5's, by the rules
+-- document 01's figures, Annexure 5's and K3's list, by the rules
 pub figures : casesByTheRules ≡ expected
 figures = same-cases ∙ quickly

@@ -13,6 +13,7 @@ use Rattle.rows.specs.declared.Book.{Book}
 use Rattle.rows.specs.Rows.{rowAt, modeAt, view}
 use Rattle.book.specs.Sound.{soundB}
 use Rattle.book.specs.Asked.{standingRefusals, standingRefusal, noFigures, figuresOf, standingOf}
+use Rattle.book.specs.NeedsListed.{needsRefusals, needsRefusal, allNeeds, needsRoom}
 use Rattle.book.proofs.StandingRefusals.{standing-number}
 use Rattle.dayfile.specs.declared.Record.{Record}
 use Rattle.dayfile.specs.declared.Found.the-variants.{End as NoBytes, Cut as TooFew, Whole}
@@ -130,6 +131,11 @@ pub refused-standing-is-zero : (b : Book) (account n : ℕ) → standingRefusal 
 unfolding standingOf
 refused-standing-is-zero b account n e = ap (λ k. unlessRefused k (figuresOf (view b) (modeAt b account) account) noFigures) e
 
+-- The list of needs leaves its room untouched where it refuses.
+pub refused-needs-leave-room : (b : Book) (room : List ℕ) (n : ℕ) → needsRefusal b room ≡ suc n → needsRoom b room ≡ room
+unfolding needsRoom
+refused-needs-leave-room b room n e = ap (λ k. unlessRefused k (allNeeds b) (λ m. room)) e
+
 module _ (b : Book) (losses room : List ℕ) where
   -- A close-out names the first of 1, 15 and 16 that applies, or 0.
   pub close-out-names-the-number : closedOf b losses room .refusal ≡ closeOutRefusal b losses room
@@ -160,6 +166,11 @@ in-order table k p = (first-given table k p, given-first)
 pub standing-in-its-order : (b : Book) (account k : ℕ) → 0 < k → InOrder (standingRefusal b account) k (standingRefusals b account)
 unfolding standingRefusal
 standing-in-its-order b account = in-order (standingRefusals b account)
+
+-- The list of needs' 1 and 15.
+pub needs-in-their-order : (b : Book) (room : List ℕ) (k : ℕ) → 0 < k → InOrder (needsRefusal b room) k (needsRefusals b room)
+unfolding needsRefusal
+needs-in-their-order b room = in-order (needsRefusals b room)
 
 -- The reader's 4, 5 and 6.
 pub reader-in-its-order : (r : Record) (k : ℕ) → 0 < k → InOrder (faultOf r) k (faults r)

@@ -15,7 +15,7 @@ use Rattle.rows.specs.declared.Row.{Row}
 use Rattle.rows.specs.declared.Book.{Book}
 use Rattle.rows.specs.View.{View, isTM, isCP, isClientOf, ofClients, members, ownDeemed, deemedTM, needTM, needCM, need, blocked, deemed}
 use Rattle.rows.specs.Rows.{placeOf, rowAt, openedRow, withLive, withReceived, withAllocated, withPledged, withMargin, plusKinds, lessKinds, view}
-use Rattle.rows.specs.Modes.{settled}
+use Rattle.rows.specs.KeptNeeds.{settled}
 use Rattle.book.specs.Sound.{soundB}
 use Rattle.rows.proofs.BySort.{need-client, need-CP, need-TM, need-CM, deemed-client, deemed-TM, deemed-CP, client-sort}
 use Rattle.book.proofs.SoundTest.{sound→}
@@ -106,15 +106,16 @@ module _ (b : Book) (r : Record) where
   pub carried-out-exactly-when : (refusalOf b r ≡ 0 → NoneHolds (refusals b r)) × (NoneHolds (refusals b r) → refusalOf b r ≡ 0)
   carried-out-exactly-when = (carried-exactly b r, exactly-carried b r)
 
-  -- What a record that is carried out does: the row named is put anew or one is opened, the serial moves on, and every mode is looked at.
+  -- What a record that is carried out does: the row named is put anew or one is opened, the serial moves on, every mode is looked at, and needs are brought
+  -- up to date.
   pub carried-out-does : refusalOf b r ≡ 0 → stepOf b r ≡ doneBy b r (effectOf (namedRow b r) (placeOf b (r .account)) r)
   carried-out-does = passed-as b r
 
-  -- It changes one row, the serial and modes, no more (and an opening the number of accounts): the book after it is `changedBy`, which says the
-  -- row and the serial, with its modes looked at (`settled`).
-  pub one-row-the-serial-and-modes : refusalOf b r ≡ 0
+  -- It changes one row, the serial, modes and kept needs, no more (and an opening the number of accounts): the book after it is `changedBy`, which says
+  -- the row and the serial, with its modes looked at and its needs worked out afresh (`settled`).
+  pub one-row-the-serial-modes-and-needs : refusalOf b r ≡ 0
       → stepOf b r .book ≡ settled (changedBy b (placeOf b (r .account)) (effectOf (namedRow b r) (placeOf b (r .account)) r))
-  one-row-the-serial-and-modes = carried-book b r
+  one-row-the-serial-modes-and-needs = carried-book b r
 
 -- Code by code, what a record that is carried out does. `row` is the row of the account named before it, `after i` is account i's
 -- row then; the row named is the same but for what is said to be put anew.

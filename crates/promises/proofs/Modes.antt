@@ -15,9 +15,10 @@ use Rattle.sums.specs.Sum.{sum}
 use Rattle.sums.proofs.Choices.{clash, and-left}
 use Rattle.sums.proofs.Lists.{getD-same}
 use Rattle.rows.specs.declared.Book.{Book}
-use Rattle.rows.specs.View.{View, need, deemed}
-use Rattle.rows.specs.Rows.{rowAt, modeAt, view, freshBook, withModes, isLive}
-use Rattle.rows.specs.Modes.{ownExcess, useTM, excessTM, useCM, useOf, modeAfter, lookAt, looked, settled}
+use Rattle.rows.specs.View.{View, needTM, needCM, need, deemed}
+use Rattle.rows.specs.Rows.{rowAt, modeAt, view, freshBook, withModes, withNeeds, isLive}
+use Rattle.rows.specs.Modes.{ownExcess, useTM, excessTM, useCM, useOf, modeAfter, lookAt, looked}
+use Rattle.rows.specs.KeptNeeds.{needsAfresh, settled}
 use Rattle.rows.specs.Inner.{inTenths}
 use Rattle.rows.proofs.BySort.{need-TM, need-CM, deemed-client, deemed-TM, deemed-CP}
 use Rattle.rows.proofs.Tenths.{own-excess, TM's-use, TM's-excess, CM's-use}
@@ -60,9 +61,9 @@ module _ (v : View) where
   pub use-of-the-CM : v .sort 0 ≡ 0 → useCM v ≡ need (inTenths v) 0
   use-of-the-CM e = sym (need-CM (inTenths v) 0 e ∙ CM's-use v)
 
--- A second look at the same figures changes nothing.
+-- A second look at the same figures changes nothing (nor do needs worked out once more, which `settled` does too: K3).
 pub a-second-look : (b : Book) → settled (settled b) ≡ settled b
-a-second-look b = ap (withModes b) (look-twice (view b) (b .modes))
+a-second-look b = ap (λ l. withNeeds (withModes b l) (needsAfresh (view b))) (look-twice (view b) (b .modes))
 
 -- "off at first": in a fresh book no account is in the mode, ..
 pub off-at-first : (i : ℕ) → modeAt freshBook i ≡ false
@@ -71,7 +72,7 @@ off-at-first i = getD-same 256 i false
 
 -- .. as a look at it would leave it.
 pub fresh-book-is-looked-at : settled freshBook ≡ freshBook
-unfolding freshBook looked listTo useOf useCM useTM sum pick modeAfter
+unfolding freshBook looked listTo useOf useCM useTM needsAfresh needCM needTM sum pick modeAfter
 fresh-book-is-looked-at = refl
 
 module _ (b : Book) (r : Record) where
@@ -92,9 +93,9 @@ module _ (b : Book) (r : Record) where
   pub every-record-leaves-it-looked-at : settled b ≡ b → settled (stepOf b r .book) ≡ stepOf b r .book
   every-record-leaves-it-looked-at = been-looked b r
 
-  -- "a record may change modes besides its row": in a book that has been looked at those of the account named, its TM (0, the CM, for any
+  -- "a record may change modes besides its row": where the modes are those that a look leaves, those of the account named, its TM (0, the CM, for any
   -- account but a client) and the CM, and no other.
-  pub no-other-mode-changes : settled b ≡ b → (i : ℕ) → (i ≡ r .account → ⊥) → (i ≡ namedRow b r .tm → ⊥) → (i ≡ 0 → ⊥)
+  pub no-other-mode-changes : looked (view b) (b .modes) ≡ b .modes → (i : ℕ) → (i ≡ r .account → ⊥) → (i ≡ namedRow b r .tm → ⊥) → (i ≡ 0 → ⊥)
       → modeAt (stepOf b r .book) i ≡ modeAt b i
   no-other-mode-changes = others-stay-in b r
 

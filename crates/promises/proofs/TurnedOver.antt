@@ -12,6 +12,7 @@ use Rattle.table.specs.Facts.{Sized}
 use Rattle.table.proofs.Turning.{over-and-back, back-and-over}
 use Rattle.book.specs.Sound.{soundB}
 use Rattle.book.specs.Asked.{standingOf}
+use Rattle.book.specs.NeedsListed.{needsRefusal, needsRoom}
 use Rattle.book.specs.Evening.{eveningOf}
 use Rattle.book.specs.declared.Amount.{Amount}
 use Rattle.dayfile.specs.declared.Record.{Record}
@@ -43,6 +44,10 @@ module _ (b : Book) (h : places b ≡ 256) where
 
   pub evening-sum-as : (amount : Amount) → eveningOf (turnedBack (turned b)) amount ≡ eveningOf b amount
   evening-sum-as amount = answers-as (λ c. eveningOf c amount)
+
+  pub needs-as : (room : List ℕ)
+      → (needsRefusal (turnedBack (turned b)) room ≡ needsRefusal b room) × (needsRoom (turnedBack (turned b)) room ≡ needsRoom b room)
+  needs-as room = (answers-as (λ c. needsRefusal c room), answers-as (λ c. needsRoom c room))
 
   -- "and leaves the old one's book, turned over"
   pub carry-out-leaves : (r : Record)

@@ -1,12 +1,13 @@
--- Document 01, 'Figures to hold against it': P1 to P11, P8 as K1 of document 02 has it; and K2's case, the table of 004 Annexure 5. In paise,
+-- Document 01, 'Figures to hold against it': P1 to P11, P8 as K1 of document 02 has it; K2's case, the table of 004 Annexure 5; and K3's list of needs at P4. In paise,
 -- by records carried out from a fresh book.
 use mathlib.Core.List.{List, [], _∷_, _++_}
 use Prim.Native.Nat.{ℕ, _+_, _*_}
 use lib.ListN.{replicate, take, drop}
 use Rattle.rows.specs.declared.Book.{Book}
 use Rattle.rows.specs.View.{blocked, deemed}
-use Rattle.rows.specs.Rows.{noKinds, modeAt, view, freshBook}
+use Rattle.rows.specs.Rows.{noKinds, modeAt, needAt, view, freshBook}
 use Rattle.rows.specs.Modes.{ownExcess, excessTM, useOf}
+use Rattle.book.specs.NeedsListed.{allNeeds}
 use Rattle.dayfile.specs.declared.Record.{Record}
 use Rattle.dayfile.specs.Reading.{sizeOf}
 use Rattle.desk.specs.Answers.{refusalIn}
@@ -139,6 +140,10 @@ module _
         ∷ (take 8 (drop 8 (filled rs losses (replicate 16 0)))
         ++ (closed rs losses (replicate 16 0) .total ∷ sum (after rs .count) (beyond (view (after rs)) (lossAt losses)) ∷ []))
 
+    -- K3's list of needs, and what is kept of them at the four accounts' places
+    abbrev needsAfter : List Record → List ℕ
+    needsAfter rs = allNeeds (after rs) ++ each (needAt (after rs))
+
     -- K2's figures in tenths of a paisa: the excess of Annexure 5's five clients, and of its two TMs
     abbrev excessAfter : List Record → List ℕ
     excessAfter rs =
@@ -182,6 +187,7 @@ module _
         ∷ usedAfter atA5 0  -- Annexure 5
         ∷ usedAfter atA5Less 1  -- K2
         ∷ usedAfter atA5Never 1  -- K2
+        ∷ needsAfter atP4  -- K3
         ∷ []
 
 -- the way of the rules
@@ -214,4 +220,5 @@ expected =
     ∷ (830000 ∷ 1200000 ∷ 0 ∷ [])  -- Annexure 5: CM 830 of 1200, 69.1%, off
     ∷ (430000 ∷ 500000 ∷ 1 ∷ [])  -- K2: then TM1 430 of 500, 86%, still on
     ∷ (430000 ∷ 500000 ∷ 0 ∷ [])  -- K2: TM1 430 of 500 from the first, 86%, off
+    ∷ (40000 ∷ 90000 ∷ 60000 ∷ 90000 ∷ 40000 ∷ 90000 ∷ 0 ∷ 0 ∷ [])  -- K3: 400, 900, 600, 900; kept are the CM's and the TM's
     ∷ []

@@ -9,7 +9,6 @@ use lib.ListN.{length}
 use Rattle.sums.specs.Choice.{pick}
 use Rattle.sums.proofs.Choices.{pick-yes}
 use Rattle.rows.specs.declared.Book.{Book}
-use Rattle.rows.specs.Rows.{places}
 use Rattle.book.specs.Sound.{soundB}
 use Rattle.book.specs.Facts.{Sound}
 use Rattle.book.proofs.SoundTest.{sound→, sound←}
@@ -86,15 +85,6 @@ pub ran-keeps : (b : Book) (s : List ℕ) (most : ℕ) → Sound b → Sound (ra
 unfolding ranOf
 ran-keeps b s most h =
     rw (pick-yes (soundB b) (runOf s most b 0 0 0) (endedWith Unsound b 0 0 0) (sound← b h)) (run-sound s most b 0 0 0 h)
-
--- a table's book has 256 places, and so has the book after any records
-pub ran-places : (b : Book) (s : List ℕ) (most : ℕ) → places b ≡ 256 → places (ranOf b s most .book) ≡ 256
-unfolding ranOf pick
-ran-places b s most h = by (soundB b) refl
-  where
-    by : (t : Bool) → soundB b ≡ t → places (pick t (runOf s most b 0 0 0) (endedWith Unsound b 0 0 0) .book) ≡ 256
-    by true e = run-sound s most b 0 0 0 (sound→ b e) .table
-    by false e = h
 
 -- "records read, and those of them with refusal 0": the public call's two counts
 pub ran-counts : (b : Book) (s : List ℕ) (most : ℕ) → soundB b ≡ true

@@ -30,5 +30,5 @@ tellOf s zero b place k room = room
 tellOf s (suc most) b place k room = telling (tellOf s most) (foundAt s place) b k room
 
 -- what the loop came to, with the words that it left
-abbrev pub ranIn : Went → Marks → List ℕ → List Bool → List Bool → Ran
-ranIn x m w was modes = record { book = bookAt (x .at) m w was modes; place = x .place; closing = x .closing; read = x .read; done = x .done }
+abbrev pub ranIn : Went → Marks → List ℕ → List Bool → List Bool → List ℕ → Ran
+ranIn x m w was modes needs = record { book = bookAt (x .at) m w was modes needs; place = x .place; closing = x .closing; read = x .read; done = x .done }

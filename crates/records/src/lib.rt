@@ -63,7 +63,7 @@ pub fn go(
     tm: &mut [u16; 256],
     w: &mut [u64; 2560],
     modes: &mut [bool; 256],
-    under: &mut [u64; 256],
+    needs: &mut [u64; 256],
     used: &mut [u64; 256],
     was: &[bool; 256],
     first: At,
@@ -72,9 +72,9 @@ pub fn go(
     room: &mut [u16],
     tell: bool,
 ) -> Went
-    requires { ⌜ Going first (marksFrom (now sort) (now live) (now tm)) (now w) (now was) (now modes) (now under) (now used) × (tell ≡ true → 5 * most ≤ length (now room)) ⌝ }
-    ensures { λ x. ⌜ ranIn x (marksFrom (now (sort .exit)) (now (live .exit)) (now (tm .exit))) (now (w .exit)) (now (was .entry)) (now (modes .exit)) ≡ runOf (now (piece .entry)) most (bookAt first (marksFrom (now (sort .entry)) (now (live .entry)) (now (tm .entry))) (now (w .entry)) (now (was .entry)) (now (modes .entry))) 0 0 0 ⌝ }
-    ensures { λ x. ⌜ Going (x .at) (marksFrom (now (sort .exit)) (now (live .exit)) (now (tm .exit))) (now (w .exit)) (now (was .entry)) (now (modes .exit)) (now (under .exit)) (now (used .exit)) × (now (room .exit) ≡ pick tell (tellOf (now (piece .entry)) most (bookAt first (marksFrom (now (sort .entry)) (now (live .entry)) (now (tm .entry))) (now (w .entry)) (now (was .entry)) (now (modes .entry))) 0 0 (now (room .entry))) (now (room .entry))) ⌝ }
+    requires { ⌜ Going first (marksFrom (now sort) (now live) (now tm)) (now w) (now was) (now modes) (now needs) (now used) × (tell ≡ true → 5 * most ≤ length (now room)) ⌝ }
+    ensures { λ x. ⌜ ranIn x (marksFrom (now (sort .exit)) (now (live .exit)) (now (tm .exit))) (now (w .exit)) (now (was .entry)) (now (modes .exit)) (now (needs .exit)) ≡ runOf (now (piece .entry)) most (bookAt first (marksFrom (now (sort .entry)) (now (live .entry)) (now (tm .entry))) (now (w .entry)) (now (was .entry)) (now (modes .entry)) (now (needs .entry))) 0 0 0 ⌝ }
+    ensures { λ x. ⌜ Going (x .at) (marksFrom (now (sort .exit)) (now (live .exit)) (now (tm .exit))) (now (w .exit)) (now (was .entry)) (now (modes .exit)) (now (needs .exit)) (now (used .exit)) × (now (room .exit) ≡ pick tell (tellOf (now (piece .entry)) most (bookAt first (marksFrom (now (sort .entry)) (now (live .entry)) (now (tm .entry))) (now (w .entry)) (now (was .entry)) (now (modes .entry)) (now (needs .entry))) 0 0 (now (room .entry))) (now (room .entry))) ⌝ }
 {
     let mut at = first;
     let mut place: usize = 0;
@@ -96,7 +96,7 @@ pub fn go(
                 if most <= read {
                     break Closing::Long;
                 }
-                let gone = step(sort, live, tm, w, modes, under, used, was, at, r);
+                let gone = step(sort, live, tm, w, modes, needs, used, was, at, r);
                 if tell {
                     put_five(room, read, r, gone);
                 }

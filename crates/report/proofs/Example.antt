@@ -1,4 +1,4 @@
--- Lines byte by byte: `2 client live 1 3 6 3 3 0 off`, `1 tm live 0 3 6 3 3 0 on`, `total 7` and `refused 1`.
+-- Lines byte by byte: `2 client live 1 3 6 3 3 0 off`, `1 tm live 0 3 6 3 3 0 on`, `3 9`, `total 7` and `refused 1`.
 use mathlib.Core.Bool.{true, false}
 use mathlib.Core.List.{[], _∷_}
 use mathlib.Core.Path.{_≡_}
@@ -6,7 +6,7 @@ use native.Mathlib.Omega.{arith}
 use Rattle.rows.specs.Rows.{openedRow}
 use Rattle.lines.specs.Lines.{spaced}
 use Rattle.lines.proofs.Digits.{decimal-one}
-use Rattle.report.specs.Reports.{andSpaces, standingLine, totalWord, refusedWord, wordLine}
+use Rattle.report.specs.Reports.{andSpaces, standingLine, needLine, totalWord, refusedWord, wordLine}
 
 pub client-line : standingLine 2 (openedRow 2 1) (record { refusal = 0; collateral = 3; need = 6; blocked = 3; deemed = 3; free = 0; mode = false })
     ≡ 50 ∷ 32 ∷ 99 ∷ 108 ∷ 105 ∷ 101 ∷ 110 ∷ 116 ∷ 32 ∷ 108 ∷ 105 ∷ 118 ∷ 101 ∷ 32 ∷ 49 ∷ 32 ∷ 51 ∷ 32 ∷ 54 ∷ 32 ∷ 51 ∷ 32 ∷ 51 ∷ 32 ∷ 48 ∷ 32 ∷ 111 ∷ 102 ∷ 102 ∷ 10 ∷ []
@@ -25,6 +25,10 @@ pub warned-line : standingLine 1 (openedRow 1 0) (record { refusal = 0; collater
 unfolding standingLine andSpaces
 warned-line =
     rw (decimal-one 1 (omega arith), decimal-one 0 (omega arith), decimal-one 3 (omega arith), decimal-one 6 (omega arith))
+
+pub need-line : needLine 3 9 ≡ 51 ∷ 32 ∷ 57 ∷ 10 ∷ []
+unfolding spaced
+need-line = rw (decimal-one 3 (omega arith), decimal-one 9 (omega arith))
 
 pub total-line : wordLine totalWord 7 ≡ 116 ∷ 111 ∷ 116 ∷ 97 ∷ 108 ∷ 32 ∷ 55 ∷ 10 ∷ []
 unfolding wordLine spaced

@@ -1,4 +1,5 @@
 pub mod Puts
 pub mod Digits
 pub mod Listed
+pub mod NeedLines
 pub mod Example

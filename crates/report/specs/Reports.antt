@@ -1,13 +1,16 @@
--- What the programs `standings` and `closeouts` print behind the closing line, byte by byte. Document 01 has neither program; their
--- lines are laid down in docs/DECISIONS.md, 29.
+-- What the programs `standings`, `needs` and `closeouts` print behind the closing line, byte by byte. Document 01 has none of them;
+-- their lines are laid down in docs/DECISIONS.md, 29.
 use mathlib.Core.Bool.{Bool, true, false}
 use mathlib.Core.List.{List, [], _∷_, _++_}
 use Prim.Native.Nat.{ℕ, zero, suc, _+_, _*_, _/_, min}
 use lib.ListN.{length, getD}
+use Rattle.sums.specs.Choice.{pick}
 use Rattle.rows.specs.declared.Row.{Row}
 use Rattle.rows.specs.declared.Book.{Book}
-use Rattle.rows.specs.Rows.{rowAt}
+use Rattle.rows.specs.View.{need}
+use Rattle.rows.specs.Rows.{rowAt, view}
 use Rattle.book.specs.declared.Figures.{Figures}
+use Rattle.book.specs.Sound.{soundB}
 use Rattle.book.specs.Asked.{standingOf}
 use Rattle.lines.specs.Lines.{space, newline, followed, spaced}
 
@@ -64,6 +67,19 @@ standingLines b (suc n) = standingLines b n ++ standingLine n (rowAt b n) (stand
 -- `standings`: the closing line, then a line per account
 unfoldable pub standingsText : Book → List ℕ
 standingsText b = standingLines b (accounts (b .count))
+
+-- a line per account: number, need
+abbrev pub needLine : ℕ → ℕ → List ℕ
+needLine i n = spaced (i ∷ n ∷ [])
+
+-- the lines of the accounts below n, in rising number; needs has each one's need
+unfoldable pub needLines : (ℕ → ℕ) → ℕ → List ℕ
+needLines needs zero = []
+needLines needs (suc n) = needLines needs n ++ needLine n (needs n)
+
+-- document 02, K3: "all needs in one list"; `needs`: the closing line, then a line per account. A book that is not sound has no line
+unfoldable pub needsText : Book → List ℕ
+needsText b = pick (soundB b) (needLines (need (view b)) (b .count)) []
 
 -- a line per account: number, loss, the four amounts, which stand from number 4 i on
 unfoldable pub lossLine : List ℕ → List ℕ → ℕ → List ℕ

@@ -5,12 +5,13 @@ ghost use lib.ListN.{length};
 ghost use Rattle.lines.specs.Lines.{closingLineOf};
 ghost use Rattle.sums.specs.Room.{over};
 ghost use Rattle.table.specs.Words.{turnedBack};
-ghost use Rattle.report.specs.Reports.{accounts as Reports·accounts, standingsText, closeOutText};
+ghost use Rattle.report.specs.Reports.{accounts as Reports·accounts, standingsText, needsText, closeOutText};
 use libc::STDOUT_FILENO;
 use records::Closing;
 use table::Table;
 
 mod loss;
+mod need;
 mod put;
 mod standing;
 
@@ -34,6 +35,15 @@ pub fn standings_text(t: Table, room: &mut [u8; 65536]) -> usize
 {
     let n = accounts(t.count as usize);
     standing::put_standings(room, t, n)
+}
+
+// The lines of all accounts' needs: how long they are, and the lines in the room.
+pub fn needs_text(t: Table, room: &mut [u8; 65536]) -> usize
+    ensures { λ n. ⌜ n ≡ length (needsText (turnedBack t)) ⌝ }
+    ensures { λ _. ⌜ now (room .exit) ≡ over (needsText (turnedBack t)) (now (room .entry)) ⌝ }
+{
+    let n = accounts(t.count as usize);
+    need::put_needs(room, t, n)
 }
 
 // The lines of a close-out: how long they are, and the lines in the room.
@@ -66,6 +76,16 @@ pub fn standings(t: Table) -> usize
 {
     let mut room = [0u8; 65536];
     let n = standings_text(t, &mut room);
+    io::write_all(STDOUT_FILENO, &room[..n]);
+    n
+}
+
+// Prints the lines of all accounts' needs, and gives their length.
+pub fn needs(t: Table) -> usize
+    ensures { λ n. ⌜ n ≡ length (needsText (turnedBack t)) ⌝ }
+{
+    let mut room = [0u8; 65536];
+    let n = needs_text(t, &mut room);
     io::write_all(STDOUT_FILENO, &room[..n]);
     n
 }

@@ -48,7 +48,7 @@ pub(crate) fn put_each(room: &mut [u8], at: usize, list: &[u64], n: usize) -> us
 }
 
 // Puts numbers with spaces between and the line's end behind, and gives the place after it.
-fn put_spaced(room: &mut [u8], at: usize, list: &[u64]) -> usize
+pub(crate) fn put_spaced(room: &mut [u8], at: usize, list: &[u64]) -> usize
     requires { ⌜ (1 ≤ length (now list)) × (at + 21 * length (now list) ≤ length (now room)) ⌝ }
     ensures { λ after. ⌜ Puts (now (room .entry)) at (spaced (now (list .entry))) (now (room .exit)) after ⌝ }
     ensures { λ after. ⌜ after ≤ at + 21 * length (now (list .entry)) ⌝ }

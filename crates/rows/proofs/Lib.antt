@@ -4,6 +4,7 @@ pub mod Unders
 pub mod Bounds
 pub mod Tenths
 pub mod Looks
+pub mod KeptNeeds
 pub mod Annexure5
 pub mod RowPut
 mod SetterWalk

@@ -1,13 +1,16 @@
 -- Sentences of 'A sound book' as facts, for internal functions and for proofs: no promise of a public call cites it.
 use mathlib.Core.Path.{_≡_}
 use mathlib.Core.Bool.{false}
+use mathlib.Core.List.{List}
 use mathlib.Core.Logic.{_⊎_}
 use Prim.Native.Nat.{ℕ, _≤_, _<_}
+use lib.ListN.{getD}
 use Rattle.rows.specs.declared.Kinds.{Kinds}
 use Rattle.rows.specs.declared.Row.{Row}
 use Rattle.rows.specs.View.{View, isTM, needCM}
 use Rattle.rows.specs.Rows.{ceiling}
 use Rattle.rows.specs.Ranges.{ceilings}
+use Rattle.rows.specs.KeptNeeds.{keptNeed}
 
 -- "account 0 is the CM"; "Every other account is a TM, a CP, or a client whose TM is a lower-numbered TM row."
 pub record Shaped (v : View) : Type 0 where
@@ -27,6 +30,10 @@ NoneBeyond v = (i : ℕ) → v .count ≤ i → isTM v i ≡ false
 -- "The CM's need, defined below, is at most the CM's collateral."
 abbrev pub Covered : View → Type 0
 Covered v = needCM v ≤ v .collateral 0
+
+-- document 02, K3: "each kept need equals the need worked out afresh"
+abbrev pub NeedsKept : View → List ℕ → Type 0
+NeedsKept v needs = (i : ℕ) → i < 256 → getD needs i 0 ≡ keptNeed v i
 
 -- "Received (each kind), pledged and margin are at most the ceiling. Allocated is at most received in each kind."
 abbrev pub KindsWithin : Kinds → Kinds → Type 0

@@ -2,14 +2,17 @@
 use mathlib.Core.Path.{_≡_}
 use mathlib.Core.Bool.{Bool, true, false}
 use mathlib.Core.List.{List}
-use Prim.Native.Nat.{ℕ, _*_, _≤_, _<_}
+use Prim.Native.Nat.{ℕ, _+_, _*_, _≤_, _<_}
+use lib.Dec.{eqb, leb}
 use lib.ListN.{length, getD}
 use Rattle.sums.specs.Sum.{sum, only}
+use Rattle.sums.specs.Choice.{pick}
 use Rattle.rows.specs.declared.Account.{Account}
 use Rattle.rows.specs.declared.Book.{Book}
 use Rattle.rows.specs.View.{View, isClientOf, ownDeemed, deemedTM, members}
 use Rattle.rows.specs.Rows.{places, rowAt}
 use Rattle.rows.specs.Facts.{InRange}
+use Rattle.rows.specs.Under.{accountAt, needToKeep}
 
 -- what the sums need of a book so that none of them passes a word: part of `Sound`
 pub record Ranged (b : Book) : Type 0 where
@@ -34,6 +37,10 @@ membersBelow v n = sum n (members v (deemedTM v) (ownDeemed v))
 pub record ClientSums (v : View) (owed : List ℕ) : Type 0 where
   pub size : length owed ≡ 256
   pub each : (t : ℕ) → t < 256 → getD owed t 0 ≡ clientsBelow v t (v .count)
+
+-- the need to keep at place i, where so much is deemed under the account
+abbrev pub keptWith : View → ℕ → ℕ → ℕ
+keptWith v i under = pick (leb (v .count) i) 0 (pick (eqb i 0) (v .margin 0 + under) (needToKeep (accountAt v i) under))
 
 -- so many of an amount in tenths, and the amount itself otherwise
 abbrev pub times : Bool → ℕ → ℕ → ℕ

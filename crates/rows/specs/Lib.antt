@@ -4,4 +4,5 @@ pub mod Ranges
 pub mod Facts
 pub mod Under
 pub mod Modes
+pub mod KeptNeeds
 pub mod Inner

@@ -1,4 +1,4 @@
--- Document 02, K2: risk reduction mode, over a view of a book and in the book. "Figures as 004 Annexure 5, in tenths"
+-- Document 02, K2: risk reduction mode, over a view of a book. "Figures as 004 Annexure 5, in tenths"
 use mathlib.Core.Bool.{Bool, true, false, not, _&&_, _||_}
 use mathlib.Core.List.{List}
 use Prim.Native.Nat.{ℕ, _+_, _-_, _*_}
@@ -7,9 +7,7 @@ use lib.ListN.{getD}
 use Rattle.sums.specs.Sum.{sum}
 use Rattle.sums.specs.Choice.{pick}
 use Rattle.sums.specs.Listed.{listTo}
-use Rattle.rows.specs.declared.Book.{Book}
 use Rattle.rows.specs.View.{View, isTM, ofClients, members}
-use Rattle.rows.specs.Rows.{view, withModes}
 
 -- "a client's or CP's excess is ten margins less nine collaterals, or 0."
 abbrev pub ownExcess : View → ℕ → ℕ
@@ -55,7 +53,3 @@ lookAt v modes i = hasMode v i && modeAfter (useOf v i) (v .collateral i) (getD 
 -- all modes after every TM and the CM are looked at
 unfoldable pub looked : View → List Bool → List Bool
 looked v modes = listTo (lookAt v modes) 256
-
--- "It is looked at after every record carried out.": the book after the look
-abbrev pub settled : Book → Book
-settled b = withModes b (looked (view b) (b .modes))

@@ -1,4 +1,4 @@
--- Document 01, 'Amounts and sizes': a book's rows, its view, and a fresh book. With document 02, K2: its modes.
+-- Document 01, 'Amounts and sizes': a book's rows, its view, and a fresh book. With document 02, K2: its modes; K3: its kept needs.
 use mathlib.Core.Bool.{Bool, true, false, _&&_}
 use mathlib.Core.List.{List, _∷_}
 use Prim.Native.Nat.{ℕ, _+_, _-_}
@@ -53,6 +53,10 @@ rowAt b i = getD (b .rows) i noRow
 abbrev pub modeAt : Book → ℕ → Bool
 modeAt b i = getD (b .modes) i false
 
+-- K3, "Keep every TM's and the CM's need beside the rows": the need kept at place i
+abbrev pub needAt : Book → ℕ → ℕ
+needAt b i = getD (b .needs) i 0
+
 -- how many places the table has: 256, by its type
 abbrev pub places : Book → ℕ
 places b = length (b .rows)
@@ -84,9 +88,9 @@ view b = record {
 }
 
 -- "number 0 is the CM and is there from the start, live. In a fresh book it is the only account and all amounts are 0.";
--- "the next serial, 0 at first"; a mode is "off at first"
+-- "the next serial, 0 at first"; a mode is "off at first"; where all amounts are 0 so are the needs
 unfoldable pub freshBook : Book
-freshBook = record { count = 1; serial = 0; rows = openedRow 0 0 ∷ replicate 255 noRow; modes = replicate 256 false }
+freshBook = record { count = 1; serial = 0; rows = openedRow 0 0 ∷ replicate 255 noRow; modes = replicate 256 false; needs = replicate 256 0 }
 
 -- A row with one of its words put anew.
 abbrev pub withLive : Row → Bool → Row
@@ -106,19 +110,23 @@ withMargin r x = record { sort = r .sort; live = r .live; tm = r .tm; received =
 
 -- the book with row i put anew
 abbrev pub withRow : Book → ℕ → Row → Book
-withRow b i r = record { count = b .count; serial = b .serial; rows = set (b .rows) i r; modes = b .modes }
+withRow b i r = record { count = b .count; serial = b .serial; rows = set (b .rows) i r; modes = b .modes; needs = b .needs }
 
 -- the book with another next serial
 abbrev pub withSerial : Book → ℕ → Book
-withSerial b n = record { count = b .count; serial = n; rows = b .rows; modes = b .modes }
+withSerial b n = record { count = b .count; serial = n; rows = b .rows; modes = b .modes; needs = b .needs }
 
 -- the book with other modes
 abbrev pub withModes : Book → List Bool → Book
-withModes b modes = record { count = b .count; serial = b .serial; rows = b .rows; modes = modes }
+withModes b modes = record { count = b .count; serial = b .serial; rows = b .rows; modes = modes; needs = b .needs }
+
+-- the book with other kept needs
+abbrev pub withNeeds : Book → List ℕ → Book
+withNeeds b needs = record { count = b .count; serial = b .serial; rows = b .rows; modes = b .modes; needs = needs }
 
 -- the book with one account more
 abbrev pub withNew : Book → Row → Book
-withNew b r = record { count = b .count + 1; serial = b .serial; rows = set (b .rows) (b .count) r; modes = b .modes }
+withNew b r = record { count = b .count + 1; serial = b .serial; rows = set (b .rows) (b .count) r; modes = b .modes; needs = b .needs }
 
 -- the account's number was given, and it is live
 abbrev pub isLive : Book → ℕ → Bool

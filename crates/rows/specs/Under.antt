@@ -1,11 +1,13 @@
--- What is deemed directly under each account, over any view: under the CM what each TM and each CP is, under a TM what each client of it is.
+-- What is deemed directly under each account, and the needs that are kept by it (K3), over any view: under the CM what each TM and each CP is, under a TM what each client of it is.
 use mathlib.Core.Path.{_≡_}
 use mathlib.Core.Bool.{_&&_}
 use mathlib.Core.List.{List}
 use Prim.Native.Nat.{ℕ, _+_, _-_, _≤_, _<_}
-use lib.Dec.{eqb, ltb}
+use lib.Dec.{eqb, ltb, leb}
 use lib.ListN.{length, getD}
 use Rattle.sums.specs.Sum.{only}
+use Rattle.sums.specs.Choice.{pick}
+use Rattle.sums.specs.Listed.{listTo}
 use Rattle.rows.specs.declared.Account.{Account}
 use Rattle.rows.specs.View.{View, deemedOf, need}
 
@@ -15,6 +17,10 @@ pub record Under (v : View) (under : List ℕ) : Type 0 where
   pub each : (i : ℕ) → i < v .count → need v i ≡ v .margin i + getD under i 0
   pub beyond : (i : ℕ) → v .count ≤ i → getD under i 0 ≡ 0
 
+-- the list by kept needs (K3): a need less the margin; for a client or CP none is kept, and 0 is left
+abbrev pub undersBy : (ℕ → ℕ) → List ℕ → List ℕ
+undersBy margin needs = listTo (λ i. getD needs i 0 - margin i) 256
+
 -- the account at place i
 abbrev pub accountAt : View → ℕ → Account
 accountAt v i = record { sort = v .sort i; tm = v .tm i; margin = v .margin i; collateral = v .collateral i }
@@ -22,6 +28,14 @@ accountAt v i = record { sort = v .sort i; tm = v .tm i; margin = v .margin i; c
 -- the account with another margin
 abbrev pub atMargin : Account → ℕ → Account
 atMargin a margin = record { sort = a .sort; tm = a .tm; margin = margin; collateral = a .collateral }
+
+-- the need that is kept at a TM's place (K3), where so much is under it; 0 for any other account, the CM too, whose need is put by its place
+abbrev pub needToKeep : Account → ℕ → ℕ
+needToKeep a under = only (eqb (a .sort) 1) (a .margin + under)
+
+-- an account's need by the one kept at its place: a client's and a CP's is its margin
+abbrev pub needBy : Account → ℕ → ℕ
+needBy a kept = pick (leb (a .sort) 1) kept (a .margin)
 
 -- what an account adds under the one that it names as its TM
 abbrev pub clientDue : Account → ℕ

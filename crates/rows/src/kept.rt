@@ -1,13 +1,14 @@
-// What is deemed under an account, brought up to date from the one row that changes, without the table. The bounds let accounts in
+// What is deemed under an account, brought up to date from the one row that changes, without the table, and the needs kept by it (K3). The bounds let accounts in
 // tenths through too, with what is in excess under them (K2).
 ghost use mathlib.Core.Path.{_≡_};
 ghost use Prim.Native.Nat.{_+_, _-_, _≤_};
 ghost use Rattle.rows.specs.View.{freeOf};
-ghost use Rattle.rows.specs.Under.{underTM, underCM};
+ghost use Rattle.rows.specs.Under.{underTM, underCM, needToKeep, needBy};
 use super::Account;
 use super::needs::blocked_of;
 use super::needs::client_due;
 use super::needs::member_due;
+use super::needs::only_if;
 
 // a less b, or 0
 pub fn less(a: u64, b: u64) -> u64
@@ -22,6 +23,21 @@ pub fn free_with(a: Account, under: u64) -> u64
     ensures { λ x. ⌜ x ≡ freeOf (a .margin + under) (a .collateral) ⌝ }
 {
     a.collateral - blocked_of(a.margin + under, a.collateral)
+}
+
+// The need that is kept at a TM's place (K3), where so much is deemed under it; 0 for any other account. The CM's is put by its place.
+pub fn need_to_keep(a: Account, under: u64) -> u64
+    requires { ⌜ (a .margin ≤ 100_000_000_000_000) × (under ≤ 10_000_000_000_000_000_000) ⌝ }
+    ensures { λ x. ⌜ x ≡ needToKeep a under ⌝ }
+{
+    only_if(a.sort == 1, a.margin + under)
+}
+
+// An account's need, by the one kept at its place.
+pub fn need_by(a: Account, kept: u64) -> u64
+    ensures { λ x. ⌜ x ≡ needBy a kept ⌝ }
+{
+    if a.sort <= 1 { kept } else { a.margin }
 }
 
 // What is deemed under the account that this one names as its TM, after its row is put anew.

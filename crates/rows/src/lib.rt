@@ -34,12 +34,13 @@ pub struct Account {
     pub collateral: u64,
 }
 
-// `modes` says of each place whether its account is in risk reduction mode (K2).
+// `modes` says of each place whether its account is in risk reduction mode (K2); `needs` has the CM's and each TM's need at its place (K3).
 pub struct Book {
     pub count: u16,
     pub serial: u16,
     pub rows: [Row; 256],
     pub modes: [bool; 256],
+    pub needs: [u64; 256],
 }
 
 // The largest amount, in paise.

@@ -1,24 +1,30 @@
 -- What is seen without the table is right where the list of what is deemed under each account is kept, and a change keeps it, in tenths too.
+-- After it K2's look and K3's kept needs move at most three places, and what is put at them is told by the list.
 use mathlib.Core.Bool.{Bool, true, false, not, _&&_}
 use mathlib.Core.List.{List}
 use mathlib.Core.Path.{_≡_, refl, sym, ap, subst, _∙_}
 use Prim.Native.Nat.{ℕ, _+_, _≤_, _<_}
 use native.Mathlib.Omega.{arith}
+use native.Mathlib.Decide.{ℕ-discrete}
 use lib.Dec.{ltb, eqb}
-use lib.ListN.{getD, set}
+use lib.ListN.{length, getD, set, length-set}
+use lib.Seq.{getD-set-same, getD-set-other}
 use borrow.Author.Tests.{eq-eqb, ne-eqb}
 use Rattle.sums.specs.Sum.{only}
 use Rattle.sums.specs.Choice.{pick}
 use Rattle.rows.specs.declared.Row.{Row}
 use Rattle.rows.specs.declared.Account.{Account}
 use Rattle.rows.specs.declared.Book.{Book}
-use Rattle.rows.specs.View.{freeOf, blockedOf, needCM}
+use Rattle.rows.specs.View.{View, freeOf, blockedOf, needCM}
 use Rattle.rows.specs.Rows.{ceiling, rowAt, places, collateral, accountOf, view, withMargin, withRow, withNew, hasLiveClient}
-use Rattle.rows.specs.Under.{Under, accountAt, atMargin, underTM, underCM}
+use Rattle.rows.specs.Under.{Under, accountAt, atMargin, underTM, underCM, needToKeep}
 use Rattle.rows.specs.Modes.{lookAt, looked}
+use Rattle.rows.specs.Facts.{Shaped, NeedsKept}
+use Rattle.rows.specs.KeptNeeds.{keptNeed, needsAfresh}
 use Rattle.rows.specs.Inner.{Slot, accountAs, viewAs}
 use Rattle.rows.proofs.BySort.{Sort, cm, tm, client, cp, sort-of}
 use Rattle.rows.proofs.Tenths.{shaped-in}
+use Rattle.rows.proofs.KeptNeeds.{kept-top, kept-by}
 use Rattle.rows.proofs.RowPut.{row-same, row-other, below, new}
 use Rattle.book.specs.Facts.{SoundRows, Sound}
 use Rattle.book.proofs.OneRow.{at-all, row-opened}
@@ -28,6 +34,7 @@ use Rattle.book.proofs.SoundAfter.{in-table}
 use Rattle.book.proofs.UnderPut.{cm-after, under-put}
 use Rattle.book.proofs.UnderOpen.{under-open}
 use Rattle.book.proofs.LookAfter.{look-put, look-open}
+use Rattle.book.proofs.NeedsAfter.{kept-aside, needs-put, needs-open}
 use Rattle.book.proofs.Settled.{sound-rows, none-beyond}
 use Rattle.dayfile.specs.declared.Record.{Record}
 use Rattle.rules.specs.declared.Change.the-variants.{Put, Open}
@@ -158,6 +165,66 @@ module _ (b : Book) (r : Record) (x : Row) (s : Sound b) (e : changeOf b r ≡ P
       ≡ set (set (set (looked (view b) modes) (r .account) (lookAt w modes (r .account))) p (lookAt w modes p)) 0 (lookAt w modes 0))
   put-looks modes p sl = look-put (view b) (view (withRow b (r .account) x)) (r .account) moved (s .shaped) (s .most) p sl modes
 
+  -- K3: no other account's need moves
+  pub put-aside : (p : ℕ) → Slot (namedRow b r .tm) p → (i : ℕ) → (i ≡ r .account → ⊥) → (i ≡ p → ⊥) → (i ≡ 0 → ⊥)
+      → keptNeed (view (withRow b (r .account) x)) i ≡ keptNeed (view b) i
+  put-aside p sl = kept-aside (view b) (view (withRow b (r .account) x)) (r .account) moved (s .shaped) (s .most) p sl
+
+  -- the kept needs after it, from what was deemed under the account, its TM and the CM before it
+  module _ (needs : List ℕ) (long : length needs ≡ 256) (kept : NeedsKept (view b) needs) (owed : List ℕ) (h : Under (view b) owed) (p : ℕ) (sl : Slot (namedRow b r .tm) p) where
+    abbrev w : View
+    w = view (withRow b (r .account) x)
+
+    abbrev tm′ : ℕ
+    tm′ = underTM (accountOf (namedRow b r)) (accountOf x) (getD owed p 0)
+
+    abbrev cm′ : ℕ
+    cm′ = underCM (accountOf (namedRow b r)) (accountOf x) (getD owed (r .account) 0) (accountOf (rowAt b p)) (getD owed p 0) (getD owed 0 0)
+
+    abbrev owed′ : List ℕ
+    owed′ = set (set owed p tm′) 0 cm′
+
+    then : Under w owed′
+    then = put-keeps false owed h p sl
+
+    shaped′ : Shaped w
+    shaped′ = (rw e at (change-rows b r s)) .shaped
+
+    long-TM : length (set owed p tm′) ≡ 256
+    long-TM = length-set owed p tm′ ∙ h .size
+
+    -- where its TM is another account than the CM, the account is a client
+    client-of-p : (p ≡ 0 → ⊥) → (p < r .account) × (p < b .count)
+    client-of-p n = by (ℕ-discrete (namedRow b r .sort) 2)
+      where
+        by : Dec (namedRow b r .sort ≡ 2) → (p < r .account) × (p < b .count)
+        by (yes c) =
+            let t = s .shaped .tms (r .account) inside c .0 in
+            let q : p ≡ namedRow b r .tm = sl .named (omega (arith, t, inside, s .most)) in
+            (omega (arith, t, q), omega (arith, t, q, inside))
+        by (no c) = let z = s .no-tm (r .account) inside c in absurd (n (sl .named (omega (arith, z)) ∙ z))
+
+    own-is : (r .account ≡ p → ⊥) → (r .account ≡ 0 → ⊥) → needToKeep (accountOf x) (getD owed (r .account) 0) ≡ keptNeed w (r .account)
+    own-is q n =
+        sym (kept-by w shaped′ owed′ then (r .account) n inside
+        ∙ ap (λ a. needToKeep a (getD owed′ (r .account) 0)) (ap accountOf (row-same b (r .account) x there))
+        ∙ ap (needToKeep (accountOf x)) (getD-set-other (set owed p tm′) 0 (r .account) cm′ 0 n ∙ getD-set-other owed p (r .account) tm′ 0 q))
+
+    its-is : (p ≡ 0 → ⊥) → needToKeep (accountOf (rowAt b p)) tm′ ≡ keptNeed w p
+    its-is n =
+        let c = client-of-p n in
+        sym (kept-by w shaped′ owed′ then p n (c .1)
+        ∙ ap (λ a. needToKeep a (getD owed′ p 0)) (ap accountOf (row-other b (r .account) p x (λ q. omega (arith, c .0))))
+        ∙ ap (needToKeep (accountOf (rowAt b p))) (getD-set-other (set owed p tm′) 0 p cm′ 0 n ∙ getD-set-same owed p tm′ 0 (omega (arith, h .size, sl .inside))))
+
+    top-is : rowAt (withRow b (r .account) x) 0 .margin + cm′ ≡ keptNeed w 0
+    top-is =
+        sym (kept-top w shaped′ owed′ then ∙ ap (λ n. rowAt (withRow b (r .account) x) 0 .margin + n) (getD-set-same (set owed p tm′) 0 cm′ 0 (omega (arith, long-TM))))
+
+    pub put-needs : set (set (set needs (r .account) (needToKeep (accountOf x) (getD owed (r .account) 0))) p (needToKeep (accountOf (rowAt b p)) tm′)) 0
+        (rowAt (withRow b (r .account) x) 0 .margin + cm′) ≡ needsAfresh w
+    put-needs = needs-put (view b) w (r .account) moved (s .shaped) (s .most) p sl needs long kept _ _ _ own-is its-is top-is
+
 -- an account opened
 module _ (b : Book) (r : Record) (x : Row) (s : Sound b) (e : changeOf b r ≡ Open x) where
   after : SoundRows (changedBy b (r .account) (Open x))
@@ -184,3 +251,8 @@ module _ (b : Book) (r : Record) (x : Row) (s : Sound b) (e : changeOf b r ≡ O
   pub open-looks : (modes : List Bool) → looked (view (withNew b x)) modes ≡ looked (view b) modes
   open-looks modes =
       look-open (view b) (view (withNew b x)) opened (s .shaped) (none-beyond b (sound-rows b s)) (none-beyond (changedBy b (r .account) (Open x)) after) modes
+
+  -- K3: the needs worked out after it are those before it
+  pub open-needs : needsAfresh (view (withNew b x)) ≡ needsAfresh (view b)
+  open-needs =
+      needs-open (view b) (view (withNew b x)) opened (s .shaped) (none-beyond b (sound-rows b s)) (none-beyond (changedBy b (r .account) (Open x)) after)

@@ -181,7 +181,7 @@ change-rows b r s = moved-rows b r (changeOf b r) (sound-rows b s) (by (refusalO
     by zero e = passing-sound b r (passes-all b r e)
     by (suc n) e = sound-rows b s
 
--- after a refusal the modes are as they were, and after a record carried out they were looked at
+-- after a refusal modes and kept needs are as they were, and after a record carried out they were looked at and worked out afresh
 looked-sound : (b : Book) (place : ℕ) (c : Change) → Sound b → SoundRows (changedBy b place c) → Sound (bookAfter b place c)
 unfolding pick
 looked-sound b place (Refuse n) s t = by (leb n 3)

@@ -1,4 +1,4 @@
--- Document 01: what a record does to the book; with document 02, K2: and to its modes.
+-- Document 01: what a record does to the book; with document 02, K2 and K3: and to its modes and kept needs.
 use mathlib.Core.Bool.{false}
 use Prim.Native.Nat.{ℕ, _+_, _-_, _%_}
 use lib.Dec.{leb, eqb}
@@ -6,7 +6,7 @@ use Rattle.sums.specs.Choice.{pick, unlessRefused}
 use Rattle.rows.specs.declared.Row.{Row}
 use Rattle.rows.specs.declared.Book.{Book}
 use Rattle.rows.specs.Rows.{openedRow, withLive, withReceived, withAllocated, withPledged, withMargin, placeOf, withSerial, withRow, withNew, plusKinds, lessKinds}
-use Rattle.rows.specs.Modes.{settled}
+use Rattle.rows.specs.KeptNeeds.{settled}
 use Rattle.dayfile.specs.declared.Record.{Record}
 use Rattle.rules.specs.declared.Change.{Change}
 use Rattle.rules.specs.declared.Change.the-variants.{Refuse, Put, Open}
@@ -43,14 +43,14 @@ abbrev pub movedOn : Book → Book
 movedOn b = withSerial b (nextSerial (b .serial))
 
 -- "Refusals 1, 2 and 3 change nothing. Refusals 4 to 14 change the serial only"; "An instruction that passes changes one row
--- and the serial, no more, except that an opening also adds one to the number of accounts". Modes come after: bookAfter.
+-- and the serial, no more, except that an opening also adds one to the number of accounts". Modes and kept needs come after: bookAfter.
 abbrev pub changedBy : Book → ℕ → Change → Book
 changedBy b place (Refuse n) = pick (leb n 3) b (movedOn b)
 changedBy b place (Put row) = movedOn (withRow b place row)
 changedBy b place (Open row) = movedOn (withNew b row)
 
--- Document 02, K2: "It is looked at after every record carried out."; "a record may change modes besides its row". A refusal
--- looks at nobody.
+-- Document 02, K2: "It is looked at after every record carried out."; "a record may change modes besides its row". K3: "a record may
+-- also change kept needs". A refusal looks at nobody and leaves them.
 abbrev pub bookAfter : Book → ℕ → Change → Book
 bookAfter b place (Refuse n) = changedBy b place (Refuse n)
 bookAfter b place (Put row) = settled (changedBy b place (Put row))

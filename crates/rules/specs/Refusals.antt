@@ -67,8 +67,8 @@ losesCover over r = eqb (r .code) 10 && over
 abbrev pub notRetirable : Row → Bool → Record → Bool
 notRetirable row tied r = eqb (r .code) 11 && (not (noAmounts row) || tied)
 
--- the table for a record; 4, 5, 6 are its faults. 2 is about bytes (`nextOf` of the crate desk), 15 and 16 are the writer's
--- and the close-out's.
+-- the table for a record; 4, 5, 6 are its faults. 2 is about bytes (`nextOf` of the crate desk), 15 is the writer's, the list of
+-- needs' and the close-out's, 16 the close-out's.
 abbrev pub refusals : Book → Record → List Line
 refusals b r =
     (1 when not (soundB b))

@@ -36,11 +36,12 @@ fn run(t: Table, piece: &[u8], most: u64, room: &mut [u16], tell: bool) -> Ended
     let mut live = t.live;
     let mut tm = t.tm;
     let mut amounts = t.amounts;
+    let mut needs = t.needs;
     let was = t.modes;
     table::sizes(sort, live, tm, amounts);
     table::modes::size(was);
+    table::needs::size(needs);
     let count = t.count;
-    let mut under = unders(&sort, &tm, &amounts, count, false);
     let mut used = unders(&sort, &tm, &amounts, count, true);
     let mut modes = look_all(&sort, &tm, &amounts, count, &used, &was);
     let first = At {
@@ -54,7 +55,7 @@ fn run(t: Table, piece: &[u8], most: u64, room: &mut [u16], tell: bool) -> Ended
         &mut tm,
         &mut amounts,
         &mut modes,
-        &mut under,
+        &mut needs,
         &mut used,
         &was,
         first,
@@ -73,6 +74,7 @@ fn run(t: Table, piece: &[u8], most: u64, room: &mut [u16], tell: bool) -> Ended
         tm,
         amounts,
         modes: steps::modes_of(was, modes, at.waiting),
+        needs,
     };
     Ended {
         table,

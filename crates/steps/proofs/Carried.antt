@@ -7,7 +7,7 @@ use Prim.Native.Nat.{ℕ, zero, suc, _+_, _≤_, _<_}
 use native.Mathlib.Omega.{arith}
 use native.Mathlib.Decide.{ℕ-discrete, decLt}
 use lib.Dec.{eqb, ltb, leb}
-use lib.ListN.{getD, set}
+use lib.ListN.{getD}
 use borrow.Author.Tests.{ltb-true, le-ltb, leb-true, le-leb, lt-leb, not-false, eq-eqb, ne-eqb}
 use Rattle.sums.specs.Choice.{pick, unlessRefused}
 use Rattle.sums.specs.Sum.{any}
@@ -16,12 +16,12 @@ use Rattle.sums.proofs.Choices.{refused-by, and-split, and-join, clash, pick-ye
 use Rattle.sums.proofs.Tables.{first-some, first-none, first-fails, first-clear}
 use Rattle.rows.specs.declared.Row.{Row}
 use Rattle.rows.specs.declared.Book.{Book}
-use Rattle.rows.specs.Rows.{rowAt, accountOf, openedRow, withModes, hasLiveClient, isLiveClientOf}
+use Rattle.rows.specs.Rows.{rowAt, accountOf, view, openedRow, hasLiveClient, isLiveClientOf}
 use Rattle.rows.specs.Inner.{Slot}
-use Rattle.rows.specs.Under.{underTM, underCM}
-use Rattle.book.specs.Facts.{Sound}
+use Rattle.rows.specs.Under.{Under}
+use Rattle.book.specs.Facts.{SoundRows}
 use Rattle.book.proofs.LiveClients.{no-TM-none-live}
-use Rattle.book.proofs.Settled.{all-off}
+use Rattle.book.proofs.Settled.{sound-under}
 use Rattle.book.proofs.SoundRanges.{sound-ranges}
 use Rattle.book.proofs.UnderMost.{under-most}
 use Rattle.dayfile.specs.declared.Record.{Record}
@@ -31,18 +31,18 @@ use Rattle.rules.specs.declared.Seen.{Seen}
 use Rattle.rules.specs.declared.Change.{Change}
 use Rattle.rules.specs.declared.Change.the-variants.{Refuse, Put, Open}
 use Rattle.rules.specs.Refusals.{isOpening, namedRow, refusalOf}
-use Rattle.rules.specs.Effects.{amended, effectOf, changeOf, movedOn, changedBy, nextSerial}
+use Rattle.rules.specs.Effects.{amended, effectOf, changeOf, changedBy, nextSerial}
 use Rattle.rules.specs.Inner.{SeenOf, refusalBy, seenWith}
 use Rattle.rules.proofs.Faults.{amounts-in}
 use Rattle.rules.proofs.WhatIsSeen.{toSee, refusal-seen}
 use Rattle.rules.proofs.SoundChange.{change-rows}
-use Rattle.rules.proofs.Kept.{sees-kept, put-keeps, open-keeps}
-use Rattle.table.specs.Words.{Marks, rowIn, bookFrom}
+use Rattle.rules.proofs.Kept.{sees-kept}
+use Rattle.table.specs.Words.{Marks, wordAt, rowIn, bookFrom}
 use Rattle.table.proofs.Gathered.{row-in}
 use Rattle.table.specs.Inner.{Anew}
 use Rattle.steps.specs.Steps.{Ready, Decided, stayed, wentOn, goneWith}
-use Rattle.steps.specs.Own.{before8, earlyNumber, aliveIn, from8, clientIn, tiedIn, seenIn, Held, Answered, Opens, Amending}
-use Rattle.steps.proofs.Lines.{open-own}
+use Rattle.codes.specs.Own.{before8, earlyNumber, aliveIn, from8, clientIn, tiedIn, undersIn, seenIn, Held, Answered, Opens, Amending}
+use Rattle.codes.proofs.Lines.{open-own}
 
 -- ---- which codes open
 which-opening : (n : ℕ) → (leb 1 n && leb n 3) ≡ true → (n ≡ 1) ⊎ ((n ≡ 2) ⊎ (n ≡ 3))
@@ -60,11 +60,11 @@ not-opening n e f = by (decLt 3 n)
     by (yes l) = omega arith
     by (no l) = clash (and-join (and-split (leb 1 n) (leb n 11) e .0) (le-leb n 3 (omega arith))) f
 
-serial-picked : (count serial : ℕ) (m : Marks) (w : List ℕ) (t : Bool)
-    → bookFrom count (pick t serial (nextSerial serial)) m w [] ≡ pick t (bookFrom count serial m w []) (bookFrom count (nextSerial serial) m w [])
+serial-picked : (count serial : ℕ) (m : Marks) (w needs : List ℕ) (t : Bool)
+    → bookFrom count (pick t serial (nextSerial serial)) m w [] needs ≡ pick t (bookFrom count serial m w [] needs) (bookFrom count (nextSerial serial) m w [] needs)
 unfolding pick
-serial-picked count serial m w true = refl
-serial-picked count serial m w false = refl
+serial-picked count serial m w needs true = refl
+serial-picked count serial m w needs false = refl
 
 pub opening-not : (r : Record) → 3 < r .code → isOpening r ≡ false
 opening-not r l = rw (lt-leb (r .code) 3 l) (and-none (leb 1 (r .code)))
@@ -73,20 +73,16 @@ opening-not r l = rw (lt-leb (r .code) 3 l) (and-none (leb 1 (r .code)))
     and-none true = refl
     and-none false = refl
 
--- a change before the look leaves the modes
-unmoded : (b : Book) (place : ℕ) (c : Change) → withModes (changedBy b place c) (b .modes) ≡ changedBy b place c
-unfolding pick
-unmoded b place (Refuse n) = by (leb n 3)
-  where
-    by : (t : Bool) → withModes (pick t b (movedOn b)) (b .modes) ≡ pick t b (movedOn b)
-    by true = refl
-    by false = refl
-unmoded b place (Put x) = refl
-unmoded b place (Open x) = refl
-
-module _ (count serial : ℕ) (m : Marks) (w under : List ℕ) (h : Ready count serial m w under) (r : Record) where
+module _ (count serial : ℕ) (m : Marks) (w needs : List ℕ) (h : Ready count serial m w needs) (r : Record) where
   abbrev b : Book
-  b = bookFrom count serial m w []
+  b = bookFrom count serial m w [] needs
+
+  -- what is deemed under each account, by the kept needs
+  abbrev under : List ℕ
+  under = undersIn w needs
+
+  kept : Under (view b) under
+  kept = sound-under b (h .sound) (wordAt w 9) (λ i l. sym (ap (λ x. x .margin) (row-in m w i l)))
 
   abbrev i : ℕ
   i = r .account
@@ -157,8 +153,7 @@ module _ (count serial : ℕ) (m : Marks) (w under : List ℕ) (h : Ready count 
         inside = low;
         tm = tm-low;
         ranges = λ j l. rw (row-in m w j l) at (sound-ranges b (h .sound) j);
-        unders = h .kept .size;
-        most = under-most b (h .sound) under (h .kept);
+        most = under-most b (h .sound) under kept;
       }
 
       -- clients are looked for in three columns
@@ -187,7 +182,7 @@ module _ (count serial : ℕ) (m : Marks) (w under : List ℕ) (h : Ready count 
       sees-by : (row its top : Row) → namedRow b r ≡ row → rowAt b p ≡ its → rowAt b 0 ≡ top
           → SeenOf b r (seenWith (accountOf row) (getD under (r .account) 0) (accountOf its) (getD under p 0) (accountOf top) (getD under 0 0) (tiedIn m count (r .account)) r)
       sees-by row its top er ei et =
-          rw (← er, ← ei, ← et) (sees-kept b (h .sound) under (h .kept) r p slot-is (tiedIn m count (r .account)) (λ e. tied-is))
+          rw (← er, ← ei, ← et) (sees-kept b (h .sound) under kept r p slot-is (tiedIn m count (r .account)) (λ e. tied-is))
 
       -- the table past 7, by the words
       pub decided : refusalOf b r ≡ first (from8 (rowIn m w (r .account)) count (seenIn count m w under r) r)
@@ -212,100 +207,63 @@ module _ (count serial : ℕ) (m : Marks) (w under : List ℕ) (h : Ready count 
   unfolding changeOf
   change-is k e = ap (λ q. unlessRefused q (effectOf (namedRow b r) (r .account) r) Refuse) e
 
-  -- no mode is on before the look
-  after : (c : Change) → changeOf b r ≡ c → Sound (changedBy b (r .account) c)
-  after c e = rw (← (unmoded b (r .account) c)) (all-off (changedBy b (r .account) c) (rw e at (change-rows b r (h .sound))))
+  -- the rows stay sound
+  after : (c : Change) → changeOf b r ≡ c → SoundRows (changedBy b (r .account) c)
+  after c e = rw e at (change-rows b r (h .sound))
 
-  pub refused-at : (k : ℕ) (o : Bool) → refusalOf b r ≡ k → (k ≡ 0 → ⊥) → Decided count serial m w r (goneWith k o count serial) m w under
+  pub refused-at : (k : ℕ) (o : Bool) → refusalOf b r ≡ k → (k ≡ 0 → ⊥) → Decided count serial m w needs r (goneWith k o count serial) m w
   refused-at k o er ne = rw (pick-no (eqb k 0) (wentOn o count serial) (stayed k count serial) (ne-eqb k 0 ne)) (record {
     refusal = rw e;
     given = rw e;
     carried = rw e;
     book = rw e same;
-    ready = record { size = h .size; sound = rw same (after (Refuse k) e); kept = h .kept };
+    size = h .size;
+    rows = rw same (after (Refuse k) e);
   })
     where
       e : changeOf b r ≡ Refuse k
       e = change-is k er ∙ sym (refused-by k _ Refuse ne)
 
-      same : bookFrom count (pick (leb k 3) serial (nextSerial serial)) m w [] ≡ changedBy b (r .account) (Refuse k)
-      same = serial-picked count serial m w (leb k 3)
+      same : bookFrom count (pick (leb k 3) serial (nextSerial serial)) m w [] needs ≡ changedBy b (r .account) (Refuse k)
+      same = serial-picked count serial m w needs (leb k 3)
 
-  -- a row put anew, whose new account is settled with
-  put-at : (x : Row) (n : Marks) (u v : List ℕ) (p : ℕ) → changeOf b r ≡ Put x → Slot (namedRow b r .tm) p → Anew m w (r .account) x n u
-      → v ≡ set (set under p (underTM (accountOf (namedRow b r)) (accountOf x) (getD under p 0))) 0
-      (underCM (accountOf (namedRow b r)) (accountOf x) (getD under (r .account) 0) (accountOf (rowAt b p)) (getD under p 0) (getD under 0 0))
-      → Decided count serial m w r (wentOn false count serial) n u v
+  put-at : (x : Row) (n : Marks) (u : List ℕ) → changeOf b r ≡ Put x → Anew m w (r .account) x n u → Decided count serial m w needs r (wentOn false count serial) n u
   unfolding pick
-  put-at x n u v p e sl a ev =
-      let same = ap {B = Book} (λ q. record { count = count; serial = nextSerial serial; rows = q; modes = [] }) (a .rows) in
-      record {
-        refusal = rw e;
-        given = rw e;
-        carried = rw e;
-        book = rw e same;
-        ready = record {
-          size = a .size;
-          sound = rw same (after (Put x) e);
-          kept = rw (a .rows, ev) (put-keeps b r x (h .sound) e false under (h .kept) p sl);
-        };
-      }
+  put-at x n u e a =
+      let same = ap {B = Book} (λ q. record { count = count; serial = nextSerial serial; rows = q; modes = []; needs = needs }) (a .rows) in
+      record { refusal = rw e; given = rw e; carried = rw e; book = rw e same; size = a .size; rows = rw same (after (Put x) e) }
 
-  open-at : (x : Row) (n : Marks) (u : List ℕ) → changeOf b r ≡ Open x → Anew m w count x n u → Decided count serial m w r (wentOn true count serial) n u under
+  open-at : (x : Row) (n : Marks) (u : List ℕ) → changeOf b r ≡ Open x → Anew m w count x n u → Decided count serial m w needs r (wentOn true count serial) n u
   unfolding pick
   open-at x n u e a =
-      let same = ap {B = Book} (λ q. record { count = count + 1; serial = nextSerial serial; rows = q; modes = [] }) (a .rows) in
-      record {
-        refusal = rw e;
-        given = rw e;
-        carried = rw e;
-        book = rw e same;
-        ready = record {
-          size = a .size;
-          sound = rw same (after (Open x) e);
-          kept = rw (a .rows) (open-keeps b r x (h .sound) e false under (h .kept));
-        };
-      }
+      let same = ap {B = Book} (λ q. record { count = count + 1; serial = nextSerial serial; rows = q; modes = []; needs = needs }) (a .rows) in
+      record { refusal = rw e; given = rw e; carried = rw e; book = rw e same; size = a .size; rows = rw same (after (Open x) e) }
 
   -- ---- what the functions answer
   module _ (k : ℕ) (ek : k ≡ earlyNumber alive serial r) (z : k ≡ 0) where
-    -- the row put anew by its words, in place of the book's
-    puts-by : (row its : Row) → namedRow b r ≡ row → rowAt b (row .tm) ≡ its → row .tm < 256 → (n : Marks) (u v : List ℕ) → changeOf b r ≡ Put (amended row r)
-        → Anew m w (r .account) (amended row r) n u
-        → v ≡ set (set under (row .tm) (underTM (accountOf row) (accountOf (amended row r)) (getD under (row .tm) 0))) 0
-        (underCM (accountOf row) (accountOf (amended row r)) (getD under (r .account) 0) (accountOf its) (getD under (row .tm) 0) (getD under 0 0))
-        → Decided count serial m w r (wentOn false count serial) n u v
-    puts-by row its er ei l n u v e a ev =
-        put-at (amended row r) n u v (row .tm) e (record { inside = l; named = λ o. sym (ap (λ x. x .tm) er) }) a
-        (ev ∙ rw (er, ei))
-
-    pub amends-at : isOpening r ≡ false → (q : ℕ) (n : Marks) (u v : List ℕ)
-        → Answered count m w under r q n u v
-        → Decided count serial m w r (goneWith q (isOpening r) count serial) n u v
-    amends-at o q n u v a = by (ℕ-discrete q 0)
+    pub amends-at : isOpening r ≡ false → (q : ℕ) (n : Marks) (u : List ℕ) → Answered count m w under r q n u
+        → Decided count serial m w needs r (goneWith q (isOpening r) count serial) n u
+    amends-at o q n u a = by (ℕ-discrete q 0)
       where
         number : refusalOf b r ≡ q
-        number = decided k ek z ∙ sym (a .answers .number)
+        number = decided k ek z ∙ sym (a .number)
 
-        by : Dec (q ≡ 0) → Decided count serial m w r (goneWith q (isOpening r) count serial) n u v
+        by : Dec (q ≡ 0) → Decided count serial m w needs r (goneWith q (isOpening r) count serial) n u
         by (yes e) =
             let put : changeOf b r ≡ Put (amended (rowIn m w (r .account)) r) =
             change-is 0 (number ∙ e) ∙ pick-no (isOpening r) _ _ o ∙ ap (λ x. Put (amended x r)) (row-is k ek z) in
             rw (pick-yes (eqb q 0) (wentOn (isOpening r) count serial) (stayed q count serial) (eq-eqb q 0 e), o)
-            (puts-by (rowIn m w (r .account)) (rowIn m w (getD (m .tm) (r .account) 0)) (row-is k ek z) (row-in m w _ (tm-low k ek z)) (tm-low k ek z) n u v put
-            (a .answers .puts e) (a .owed ∙ pick-yes (eqb q 0) _ _ (eq-eqb q 0 e)))
-        by (no e) =
-            let s = a .answers .stays e in
-            rw (s .0, s .1, a .owed ∙ pick-no (eqb q 0) _ _ (ne-eqb q 0 e)) (refused-at q (isOpening r) number e)
+            (put-at _ n u put (a .puts e))
+        by (no e) = let s = a .stays e in rw (s .0, s .1) (refused-at q (isOpening r) number e)
 
     pub opens-at : isOpening r ≡ true → (q : ℕ) (n : Marks) (u : List ℕ) → Opens m w count (r .code) (r .account) q n u
-        → Decided count serial m w r (goneWith q (isOpening r) count serial) n u under
+        → Decided count serial m w needs r (goneWith q (isOpening r) count serial) n u
     opens-at o q n u a = by (ℕ-discrete q 0)
       where
         number : refusalOf b r ≡ q
         number = decided k ek z ∙ open-own (rowIn m w (r .account)) count (seenIn count m w under r) r (which-opening (r .code) o) ∙ sym (a .number)
 
-        by : Dec (q ≡ 0) → Decided count serial m w r (goneWith q (isOpening r) count serial) n u under
+        by : Dec (q ≡ 0) → Decided count serial m w needs r (goneWith q (isOpening r) count serial) n u
         by (yes e) =
             let made : changeOf b r ≡ Open (openedRow (r .code) (r .account)) = change-is 0 (number ∙ e) ∙ pick-yes (isOpening r) _ _ o in
             rw (pick-yes (eqb q 0) (wentOn (isOpening r) count serial) (stayed q count serial) (eq-eqb q 0 e), o)
@@ -313,9 +271,9 @@ module _ (count serial : ℕ) (m : Marks) (w under : List ℕ) (h : Ready count 
         by (no e) = let s = a .stays e in rw (s .0, s .1) (refused-at q (isOpening r) number e)
 
 -- an opening that is carried out has room
-pub room : (count serial : ℕ) (m : Marks) (w : List ℕ) (r : Record) (k : ℕ) (n : Marks) (u v : List ℕ) → Decided count serial m w r (goneWith k (isOpening r) count serial) n u v
+pub room : (count serial : ℕ) (m : Marks) (w needs : List ℕ) (r : Record) (k : ℕ) (n : Marks) (u : List ℕ) → Decided count serial m w needs r (goneWith k (isOpening r) count serial) n u
     → k ≡ 0 → isOpening r ≡ true → count < 256
 unfolding pick
-room count serial m w r k n u v h e o =
-    let g : Decided count serial m w r (wentOn true count serial) n u v = rw (e, o) at h in
-    omega (arith, g .ready .sound .most)
+room count serial m w needs r k n u h e o =
+    let g : Decided count serial m w needs r (wentOn true count serial) n u = rw (e, o) at h in
+    omega (arith, g .rows .most)

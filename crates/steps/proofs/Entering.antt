@@ -1,4 +1,4 @@
--- Entering the arrays of a sound book: what adding up and looking ask of them, and that with the sums and the look beside them a step can be made.
+-- Entering the arrays of a sound book: what adding up uses and looking ask of them, and that with these beside them a step can be made.
 use mathlib.Core.Bool.{Bool, true}
 use mathlib.Core.List.{List, []}
 use mathlib.Core.Path.{_≡_, sym, ap, subst, _∙_}
@@ -20,27 +20,27 @@ use Rattle.book.proofs.Settled.{sound-rows, none-beyond}
 use Rattle.steps.specs.declared.At.{At}
 use Rattle.steps.specs.Steps.{Going}
 
-module _ (count serial : ℕ) (m : Marks) (w : List ℕ) (modes : List Bool) (h : Sound (bookFrom count serial m w modes)) where
+module _ (count serial : ℕ) (m : Marks) (w : List ℕ) (modes : List Bool) (needs : List ℕ) (h : Sound (bookFrom count serial m w modes needs)) where
   abbrev seen : View
   seen = view (seenBook count (m .sort) (m .tm) w)
 
-  is-seen : seen ≡ view (bookFrom count serial m w modes)
-  is-seen = seen-view count serial m w modes
+  is-seen : seen ≡ view (bookFrom count serial m w modes needs)
+  is-seen = seen-view count serial m w modes needs
 
   pub adds-up : Ranged (seenBook count (m .sort) (m .tm) w) × Shaped seen
-  adds-up = (seen-ranged count serial m w modes (sound-ranged _ h), rw is-seen (h .shaped))
+  adds-up = (seen-ranged count serial m w modes needs (sound-ranged _ h), rw is-seen (h .shaped))
 
   pub looks-up : (used : List ℕ) → Under (inTenths seen) used → NoneBeyond seen × Under (inTenths seen) used
-  looks-up used u = (subst NoneBeyond (sym is-seen) (none-beyond (bookFrom count serial m w modes) (sound-rows _ h)), u)
+  looks-up used u = (subst NoneBeyond (sym is-seen) (none-beyond (bookFrom count serial m w modes needs) (sound-rows _ h)), u)
 
-  pub enters : Sized m w → length modes ≡ 256 → (under used : List ℕ) (after : List Bool) → Under seen under → Under (inTenths seen) used → after ≡ looked seen modes
-      → Going (record { count = count; serial = serial; waiting = true }) m w modes after under used
+  pub enters : Sized m w → length modes ≡ 256 → length needs ≡ 256 → (used : List ℕ) (after : List Bool) → Under (inTenths seen) used → after ≡ looked seen modes
+      → Going (record { count = count; serial = serial; waiting = true }) m w modes after needs used
   unfolding pick
-  enters s l under used after u e k = record {
+  enters s l n used after e k = record {
     size = s;
     many = l;
+    wide = n;
     sound = h;
-    kept = subst (λ v. Under v under) is-seen u;
     uses = subst (λ v. Under (inTenths v) used) is-seen e;
     looks = k ∙ ap (λ v. looked v modes) is-seen;
   }

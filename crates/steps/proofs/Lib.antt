@@ -1,6 +1,3 @@
-pub mod Lines
-pub mod Made
-pub mod ByCode
 pub mod Carried
 pub mod Entering
 pub mod Placing

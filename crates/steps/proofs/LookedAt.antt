@@ -1,4 +1,4 @@
--- A record decided on the words and K2's look after it are together what the record does to the book.
+-- A record decided on the words, K3's kept needs and K2's look after it are together what the record does to the book.
 use mathlib.Core.Bool.{Bool, true, false, _&&_, _||_, and-true, and-false}
 use mathlib.Core.List.{List, []}
 use mathlib.Core.Path.{_≡_, refl, sym, ap, subst, _∙_}
@@ -14,18 +14,20 @@ use mathlib.Core.Logic.{_⊎_, inl, inr}
 use Rattle.rows.specs.declared.Row.{Row}
 use Rattle.rows.specs.declared.Account.{Account}
 use Rattle.rows.specs.declared.Book.{Book}
-use Rattle.rows.specs.Rows.{rowAt, places, accountOf, view, withRow, withModes}
-use Rattle.rows.specs.Under.{Under}
+use Rattle.rows.specs.Rows.{rowAt, places, accountOf, view, withRow, withModes, withNeeds}
+use Rattle.rows.specs.Under.{Under, needToKeep}
 use Rattle.rows.specs.Modes.{hasMode, modeAfter, lookAt, looked}
+use Rattle.rows.specs.KeptNeeds.{needsAfresh}
 use Rattle.rows.specs.Inner.{Slot, accountAs, inTenths}
 use Rattle.rows.proofs.Looks.{looked-size, look-twice, look-by}
+use Rattle.rows.proofs.KeptNeeds.{afresh-size, afresh-is}
 use Rattle.rows.proofs.RowPut.{row-same}
-use Rattle.table.specs.Words.{Marks, rowIn, bookFrom}
+use Rattle.table.specs.Words.{Marks, wordAt, rowIn, bookFrom}
 use Rattle.table.proofs.Gathered.{row-in, rows-length}
 use Rattle.book.specs.Facts.{Sound}
 use Rattle.book.proofs.OneRow.{at-all}
-use Rattle.book.proofs.Settled.{sound-rows, all-off}
-use Rattle.book.proofs.UnderMost.{used-most}
+use Rattle.book.proofs.Settled.{sound-rows, all-off, sound-under}
+use Rattle.book.proofs.UnderMost.{under-most}
 use Rattle.dayfile.specs.declared.Record.{Record}
 use Rattle.dayfile.specs.Records.{knownCode}
 use Rattle.rules.specs.declared.Change.{Change}
@@ -35,16 +37,18 @@ use Rattle.rules.specs.Effects.{amended, changeOf, movedOn, changedBy, bookAfte
 use Rattle.rules.proofs.Deciding.{put-passes, made-put, refuse-some, only-openings, never-openings}
 use Rattle.rules.proofs.Codes.{Code, openTM, openClient, openCP, receive, handBack, allocate, release, pledge, unpledge, margin, retire, which}
 use Rattle.rules.proofs.Amending.{by-receive, by-hand-back, by-retire}
-use Rattle.rules.proofs.Kept.{put-keeps, put-looks, open-keeps, open-looks}
+use Rattle.rules.proofs.Kept.{put-keeps, put-looks, put-needs, open-keeps, open-looks, open-needs}
 use Rattle.rules.proofs.ModesAside.{same-change}
 use Rattle.rules.proofs.SoundChange.{change-sound}
 use Rattle.steps.specs.declared.At.{At}
 use Rattle.steps.specs.declared.Gone.{Gone}
 use Rattle.steps.specs.declared.looking.Past.{Past}
+use Rattle.codes.specs.declared.settling.Owed.{Owed}
 use Rattle.steps.specs.Steps.{Ready, Decided, carriedShown, refusalShown, givenShown, modesIn, bookAt, atAfter, Going, Stepped}
-use Rattle.steps.specs.Own.{accountIn, Borne}
-use Rattle.steps.specs.Looks.{Placed, PastOf, ModestPast, lookIn, usedAfter, usedSince, lookedOn, lookedSince}
-use Rattle.steps.proofs.Placing.{placed, modest-in}
+use Rattle.codes.specs.Own.{accountIn, underIn, undersIn, owedBy}
+use Rattle.steps.specs.Looks.{Placed, PastOf, lookIn, usedAfter, usedSince, lookedSince, owedSince, neededSince}
+use Rattle.steps.proofs.Placing.{placed}
+use Rattle.codes.proofs.Made.{under-is}
 
 -- a row put anew whose figures are the same changes nothing that needs and uses see
 same-figures : (b : Book) (k : ℕ) (x : Row) → k < places b → accountOf x ≡ accountOf (rowAt b k) → view (withRow b k x) ≡ view b
@@ -83,22 +87,44 @@ still row r o k l = by (which (r .code) k)
     by (margin e) = none 10 (omega arith) (omega arith) e
     by (retire e) = ap accountOf (by-retire row r e)
 
-module _ (at : At) (m : Marks) (w : List ℕ) (was modes : List Bool) (under used : List ℕ) (g : Going at m w was modes under used) (r : Record) where
+module _ (at : At) (m : Marks) (w : List ℕ) (was modes : List Bool) (needs used : List ℕ) (g : Going at m w was modes needs used) (r : Record) where
   abbrev before : List Bool
   before = modesIn (at .waiting) was modes
 
   -- the book, and as a verdict sees it
   abbrev b : Book
-  b = bookAt at m w was modes
+  b = bookAt at m w was modes needs
 
   abbrev b₀ : Book
-  b₀ = bookFrom (at .count) (at .serial) m w []
+  b₀ = bookFrom (at .count) (at .serial) m w [] needs
 
   quiet : Sound b₀
-  quiet = all-off b (sound-rows b (g .sound))
+  quiet = all-off b (g .sound)
 
-  pub decides : Ready (at .count) (at .serial) m w under
-  decides = record { size = g .size; sound = quiet; kept = g .kept }
+  pub decides : Ready (at .count) (at .serial) m w needs
+  decides = record { size = g .size; sound = quiet }
+
+  pub places-now : Placed m w
+  places-now = placed (at .count) (at .serial) m w needs (g .size) (sound-rows b₀ quiet)
+
+  -- what is deemed under each account, by the kept needs
+  under : List ℕ
+  under = undersIn w needs
+
+  deemed-under : Under (view b₀) under
+  unfolding under
+  deemed-under = sound-under b₀ quiet (wordAt w 9) (λ i l. sym (ap (λ x. x .margin) (row-in m w i l)))
+
+  under-in : (j : ℕ) → j < 256 → underIn w needs j ≡ getD under j 0
+  unfolding under
+  under-in j l = sym (under-is w needs j l)
+
+  pub under-small : (j : ℕ) → j < 256 → underIn w needs j ≤ 25_600_000_000_000_000
+  under-small j l = omega (arith, under-in j l, under-most b₀ quiet under deemed-under j)
+
+  -- the kept needs are those worked out afresh
+  fresh-now : needs ≡ needsAfresh (view b₀)
+  fresh-now = afresh-is (view b₀) needs (g .wide) (quiet .kept)
 
   pub many-modes : length modes ≡ 256
   many-modes = ap length (g .looks) ∙ looked-size (view b) before
@@ -107,12 +133,12 @@ module _ (at : At) (m : Marks) (w : List ℕ) (was modes : List Bool) (under use
   same = same-change b₀ before quiet (g .sound) r
 
   -- what was decided
-  module _ (x : Gone) (n : Marks) (u v : List ℕ) (d : Decided (at .count) (at .serial) m w r x n u v) where
+  module _ (x : Gone) (n : Marks) (u : List ℕ) (d : Decided (at .count) (at .serial) m w needs r x n u) where
     abbrev after : Book
-    after = bookFrom (x .count) (x .serial) n u []
+    after = bookFrom (x .count) (x .serial) n u [] needs
 
     pub places-after : Placed n u
-    places-after = placed (d .ready)
+    places-after = placed (x .count) (x .serial) n u needs (d .size) (d .rows)
 
     module _ (c : Change) (e : changeOf b₀ r ≡ c) where
       is-change : changeOf b r ≡ c
@@ -121,45 +147,49 @@ module _ (at : At) (m : Marks) (w : List ℕ) (was modes : List Bool) (under use
       is-after : after ≡ changedBy b₀ (r .account) c
       is-after = d .book ∙ ap (changedBy b₀ (r .account)) e
 
-      -- with the modes and the list of what is in excess after it
-      module _ (modes′ : List Bool) (used′ : List ℕ) (is-book : bookAt (atAfter at x) n u was modes′ ≡ bookAfter b (r .account) c)
+      -- with the modes, the kept needs and the list of what is in excess after it
+      module _ (modes′ : List Bool) (needs′ used′ : List ℕ) (is-book : bookAt (atAfter at x) n u was modes′ needs′ ≡ bookAfter b (r .account) c) (wide : length needs′ ≡ 256)
           (uses : Under (inTenths (view after)) used′) (looks : modes′ ≡ looked (view after) (modesIn (atAfter at x .waiting) was modes′)) where
-        steps-to : Stepped at m w was modes r x n u modes′ v used′
+        steps-to : Stepped at m w was modes needs r x n u modes′ needs′ used′
         steps-to = record {
           refusal = d .refusal ∙ ap refusalShown (sym same);
           given = d .given ∙ ap (givenShown (at .count)) (sym same);
           carried = d .carried ∙ ap carriedShown (sym same);
           book = is-book ∙ ap (bookAfter b (r .account)) (sym is-change);
           ready = record {
-            size = d .ready .size;
+            size = d .size;
             many = g .many;
+            wide = wide;
             sound = rw is-book (rw is-change at (change-sound b r (g .sound)));
-            kept = d .ready .kept;
             uses = uses;
             looks = looks;
           };
         }
 
-      -- carried out: the modes are those that a look leaves
-      went : carriedShown c ≡ 1 → bookAfter b (r .account) c ≡ withModes (changedBy b₀ (r .account) c) (looked (view (changedBy b₀ (r .account) c)) before)
-          → (modes′ : List Bool) (used′ : List ℕ) → modes′ ≡ looked (view after) before → Under (inTenths (view after)) used′
-          → Stepped at m w was modes r x n u modes′ v used′
+      -- carried out: the modes are those that a look leaves, and the needs those worked out afresh
+      went : carriedShown c ≡ 1
+          → bookAfter b (r .account) c ≡ withNeeds (withModes (changedBy b₀ (r .account) c) (looked (view (changedBy b₀ (r .account) c)) before)) (needsAfresh (view (changedBy b₀ (r .account) c)))
+          → (modes′ : List Bool) (needs′ used′ : List ℕ) → modes′ ≡ looked (view after) before → needs′ ≡ needsAfresh (view after) → Under (inTenths (view after)) used′
+          → Stepped at m w was modes needs r x n u modes′ needs′ used′
       unfolding pick
-      went one after-is modes′ used′ look uses =
+      went one after-is modes′ needs′ used′ look fresh uses =
           let done : x .carried ≡ 1 = d .carried ∙ ap carriedShown e ∙ one in
           let its : modesIn (atAfter at x .waiting) was modes′ ≡ modes′ =
           ap (λ t. modesIn t was modes′) (ap (λ k. at .waiting && eqb k 0) done ∙ and-false (at .waiting)) in
-          steps-to modes′ used′
-          (ap (withModes after) (its ∙ look) ∙ ap (λ q. withModes q (looked (view q) before)) is-after ∙ sym after-is)
+          steps-to modes′ needs′ used′
+          (ap (λ l. withNeeds (withModes after l) needs′) (its ∙ look) ∙ ap (withNeeds (withModes after (looked (view after) before))) fresh
+          ∙ ap (λ q. withNeeds (withModes q (looked (view q) before)) (needsAfresh (view q))) is-after ∙ sym after-is)
+          (ap length fresh ∙ afresh-size (view after))
           uses
           (look ∙ sym (look-twice (view after) before) ∙ ap (looked (view after)) (sym look ∙ sym its))
 
     -- refused: all stays
-    refused : (k : ℕ) → changeOf b₀ r ≡ Refuse k → Stepped at m w was modes r x n u modes v used
+    refused : (k : ℕ) → changeOf b₀ r ≡ Refuse k → Stepped at m w was modes needs r x n u modes needs used
     unfolding pick
     refused k e =
-        steps-to (Refuse k) e modes used
+        steps-to (Refuse k) e modes needs used
         (ap (withModes after) its ∙ ap (λ q. withModes q before) (is-after (Refuse k) e) ∙ with-modes-after (leb k 3))
+        (g .wide)
         (subst (λ q. Under (inTenths q) used) (sym same-view) (g .uses))
         (g .looks ∙ ap (λ q. looked q before) (sym same-view) ∙ ap (looked (view after)) (sym its))
       where
@@ -178,43 +208,44 @@ module _ (at : At) (m : Marks) (w : List ℕ) (was modes : List Bool) (under use
         same-view = ap view (is-after (Refuse k) e) ∙ unmoved (leb k 3)
 
     -- a code that moves no figure
-    pub plain-step : (leb (r .code) 5 || ltb 10 (r .code)) ≡ true → Stepped at m w was modes r x n u modes v used
-    plain-step l = by (changeOf b₀ r) refl
+    pub still-step : (leb (r .code) 5 || ltb 10 (r .code)) ≡ true → Stepped at m w was modes needs r x n u modes needs used
+    still-step l = by (changeOf b₀ r) refl
       where
-        by : (c : Change) → changeOf b₀ r ≡ c → Stepped at m w was modes r x n u modes v used
+        by : (c : Change) → changeOf b₀ r ≡ c → Stepped at m w was modes needs r x n u modes needs used
         by (Refuse k) e = refused k e
         by (Put y) e =
             let p = put-passes b₀ r y e .account in
             let stays : view after ≡ view b₀ =
             ap view (is-after (Put y) e)
             ∙ same-figures b₀ (r .account) y (omega (arith, rows-length m w, p, quiet .most)) (ap accountOf (made-put b₀ r y e) ∙ still (namedRow b₀ r) r (never-openings b₀ r y e) (put-passes b₀ r y e .good .known) l) in
-            went (Put y) e refl refl modes used (g .looks ∙ ap (λ q. looked q before) (sym stays)) (subst (λ q. Under (inTenths q) used) (sym stays) (g .uses))
+            went (Put y) e refl refl modes needs used (g .looks ∙ ap (λ q. looked q before) (sym stays)) (fresh-now ∙ ap needsAfresh (sym stays)) (subst (λ q. Under (inTenths q) used) (sym stays) (g .uses))
         by (Open y) e =
             let opens : view after ≡ view (changedBy b₀ (r .account) (Open y)) = ap view (is-after (Open y) e) in
-            went (Open y) e refl refl modes used (g .looks ∙ sym (open-looks b₀ r y quiet e before) ∙ ap (λ q. looked q before) (sym opens))
+            went (Open y) e refl refl modes needs used (g .looks ∙ sym (open-looks b₀ r y quiet e before) ∙ ap (λ q. looked q before) (sym opens))
+            (fresh-now ∙ sym (open-needs b₀ r y quiet e) ∙ ap needsAfresh (sym opens))
             (subst (λ q. Under (inTenths q) used) (sym opens) (open-keeps b₀ r y quiet e true used (g .uses)))
 
     -- refused, whatever its code
-    pub refused-step : (x .refusal ≡ 0 → ⊥) → Stepped at m w was modes r x n u modes v used
+    pub refused-step : (x .refusal ≡ 0 → ⊥) → Stepped at m w was modes needs r x n u modes needs used
     refused-step ne = by (changeOf b₀ r) refl
       where
-        by : (c : Change) → changeOf b₀ r ≡ c → Stepped at m w was modes r x n u modes v used
+        by : (c : Change) → changeOf b₀ r ≡ c → Stepped at m w was modes needs r x n u modes needs used
         by (Refuse k) e = refused k e
         by (Put y) e = absurd (ne (d .refusal ∙ ap refusalShown e))
         by (Open y) e = absurd (ne (d .refusal ∙ ap refusalShown e))
 
-    -- a code that may move figures, carried out: three places are looked at
-    module _ (past : Past) (o : PastOf m w (r .account) past) where
+    -- a code that may move figures, carried out: three places are brought up to date and looked at
+    module _ (past : Past) (o : PastOf m w needs (r .account) past) where
       pub moved-step : x .refusal ≡ 0 → (leb (r .code) 5 || ltb 10 (r .code)) ≡ false
-          → Stepped at m w was modes r x n u (lookedSince n u used before modes past) v (usedSince n u used past)
+          → Stepped at m w was modes needs r x n u (lookedSince n u used before modes past) (neededSince n u needs past) (usedSince n u used past)
       moved-step z l = by (changeOf b₀ r) refl
         where
-          by : (c : Change) → changeOf b₀ r ≡ c → Stepped at m w was modes r x n u (lookedSince n u used before modes past) v (usedSince n u used past)
+          by : (c : Change) → changeOf b₀ r ≡ c → Stepped at m w was modes needs r x n u (lookedSince n u used before modes past) (neededSince n u needs past) (usedSince n u used past)
           by (Refuse k) e = absurd (refuse-some b₀ r k e (sym (d .refusal ∙ ap refusalShown e) ∙ z))
           by (Open y) e =
               let c = and-split (leb 1 (r .code)) (leb (r .code) 3) (only-openings b₀ r y e) .1 in
               absurd (omega (arith, leb-true (r .code) 3 c, leb-false (r .code) 5 (or-fails (leb (r .code) 5) (ltb 10 (r .code)) l .0)))
-          by (Put y) e = went (Put y) e refl refl _ _ looks uses
+          by (Put y) e = went (Put y) e refl refl _ _ _ looks fresh uses
             where
               given : r .account < at .count
               given = put-passes b₀ r y e .account
@@ -274,7 +305,7 @@ module _ (at : At) (m : Marks) (w : List ℕ) (was modes : List Bool) (under use
               by-words j q =
                   ap (λ (a : Account). (eqb j 0 || eqb (a .sort) 1) && modeAfter (10 * a .margin + getD (usedSince n u used past) j 0) (a .collateral) (getD before j false))
                   (sym (ap accountOf (row-in n u j (omega (arith, q, quiet .most)))))
-                  ∙ look-by (view after) (d .ready .sound .shaped) (usedSince n u used past) uses before j (rw (ap (λ k. k .count) (is-after (Put y) e)) q)
+                  ∙ look-by (view after) (d .rows .shaped) (usedSince n u used past) uses before j (rw (ap (λ k. k .count) (is-after (Put y) e)) q)
                   ∙ ap (λ v. lookAt v before j) view-is
 
               looks : lookedSince n u used before modes past ≡ looked (view after) before
@@ -294,3 +325,40 @@ module _ (at : At) (m : Marks) (w : List ℕ) (was modes : List Bool) (under use
                   ∙ ap (λ j. set (set (set (looked (view b₀) before) (r .account) (lookAt w′ before (r .account))) j (lookAt w′ before j)) 0 (lookAt w′ before 0)) (sym tm-is)
                   ∙ sym (put-looks b₀ r y quiet e before (namedRow b₀ r .tm) slot)
                   ∙ ap (λ q. looked q before) (sym view-is)
+
+              -- the kept needs, in the law's words
+              top-is : accountIn n u 0 .margin ≡ rowAt (withRow b₀ (r .account) y) 0 .margin
+              top-is = sym (ap (λ q. q .margin) (row-in n u 0 (omega arith))) ∙ ap (λ q. rowAt q 0 .margin) (is-after (Put y) e)
+
+              own-under : past .under ≡ getD under (r .account) 0
+              own-under = o .under ∙ under-in (past .place) (o .inside) ∙ ap (λ j. getD under j 0) its-place
+
+              its-under : past .owed ≡ getD under (namedRow b₀ r .tm) 0
+              its-under = o .owed ∙ under-in (past .own .tm) p-low ∙ ap (λ j. getD under j 0) (sym tm-is)
+
+              all-under : past .all ≡ getD under 0 0
+              all-under = o .all ∙ under-in 0 (omega arith)
+
+              owed-is : owedSince n u past
+                  ≡ owedBy (getD under (r .account) 0) (getD under (namedRow b₀ r .tm) 0) (getD under 0 0) (accountOf (namedRow b₀ r)) (accountOf y) (accountOf (rowAt b₀ (namedRow b₀ r .tm)))
+              owed-is =
+                  ap (λ a. owedBy (past .under) (past .owed) (past .all) a (accountIn n u (past .place)) (past .its)) own-is
+                  ∙ ap (λ a. owedBy (past .under) (past .owed) (past .all) (accountOf (namedRow b₀ r)) a (past .its)) new-is
+                  ∙ ap (owedBy (past .under) (past .owed) (past .all) (accountOf (namedRow b₀ r)) (accountOf y)) its-is
+                  ∙ ap (λ k. owedBy k (past .owed) (past .all) (accountOf (namedRow b₀ r)) (accountOf y) (accountOf (rowAt b₀ (namedRow b₀ r .tm)))) own-under
+                  ∙ ap (λ k. owedBy (getD under (r .account) 0) k (past .all) (accountOf (namedRow b₀ r)) (accountOf y) (accountOf (rowAt b₀ (namedRow b₀ r .tm)))) its-under
+                  ∙ ap (λ k. owedBy (getD under (r .account) 0) (getD under (namedRow b₀ r .tm) 0) k (accountOf (namedRow b₀ r)) (accountOf y) (accountOf (rowAt b₀ (namedRow b₀ r .tm)))) all-under
+
+              fresh : neededSince n u needs past ≡ needsAfresh (view after)
+              fresh =
+                  let own = needToKeep (accountOf y) (getD under (r .account) 0) in
+                  let d′ = owedSince n u past in
+                  ap (λ j. set (set (set needs j (needToKeep (accountIn n u (past .place)) (past .under))) (past .own .tm) (needToKeep (past .its) (d′ .tm))) 0 (accountIn n u 0 .margin + d′ .cm)) its-place
+                  ∙ ap (λ a. set (set (set needs (r .account) (needToKeep a (past .under))) (past .own .tm) (needToKeep (past .its) (d′ .tm))) 0 (accountIn n u 0 .margin + d′ .cm)) new-is
+                  ∙ ap (λ k. set (set (set needs (r .account) (needToKeep (accountOf y) k)) (past .own .tm) (needToKeep (past .its) (d′ .tm))) 0 (accountIn n u 0 .margin + d′ .cm)) own-under
+                  ∙ ap (λ k. set (set (set needs (r .account) own) k (needToKeep (past .its) (d′ .tm))) 0 (accountIn n u 0 .margin + d′ .cm)) (sym tm-is)
+                  ∙ ap (λ a. set (set (set needs (r .account) own) (namedRow b₀ r .tm) (needToKeep a (d′ .tm))) 0 (accountIn n u 0 .margin + d′ .cm)) its-is
+                  ∙ ap (λ k. set (set (set needs (r .account) own) (namedRow b₀ r .tm) (needToKeep (accountOf (rowAt b₀ (namedRow b₀ r .tm))) (d′ .tm))) 0 (k + d′ .cm)) top-is
+                  ∙ ap (λ (z : Owed). set (set (set needs (r .account) own) (namedRow b₀ r .tm) (needToKeep (accountOf (rowAt b₀ (namedRow b₀ r .tm))) (z .tm))) 0 (rowAt (withRow b₀ (r .account) y) 0 .margin + z .cm)) owed-is
+                  ∙ put-needs b₀ r y quiet e needs (g .wide) (quiet .kept) under deemed-under (namedRow b₀ r .tm) slot
+                  ∙ ap needsAfresh (sym view-is)

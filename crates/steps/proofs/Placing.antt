@@ -2,7 +2,7 @@
 use mathlib.Core.Bool.{true}
 use mathlib.Core.List.{List, []}
 use mathlib.Core.Path.{_≡_, ap, _∙_}
-use Prim.Native.Nat.{ℕ, _+_, _*_, _≤_, _<_}
+use Prim.Native.Nat.{ℕ, _+_, _*_, _-_, _≤_, _<_}
 use native.Mathlib.Omega.{arith}
 use native.Mathlib.Decide.{ℕ-discrete, decLt}
 use lib.ListN.{length, getD, set, length-set}
@@ -14,13 +14,13 @@ use Rattle.rows.specs.Under.{underTM, underCM}
 use Rattle.rows.specs.Inner.{accountAs}
 use Rattle.rows.proofs.NeedSums.{under-cm-most, due-most}
 use Rattle.table.specs.Words.{Marks, rowIn, bookFrom}
+use Rattle.table.specs.Facts.{Sized}
 use Rattle.table.proofs.Gathered.{row-in}
-use Rattle.book.specs.Facts.{Sound}
-use Rattle.book.proofs.SoundRanges.{sound-ranges}
+use Rattle.book.specs.Facts.{SoundRows}
+use Rattle.book.proofs.SoundRanges.{rows-ranges}
 use Rattle.steps.specs.declared.looking.Past.{Past}
-use Rattle.steps.specs.Steps.{Ready}
-use Rattle.steps.specs.Own.{accountIn, Borne}
-use Rattle.steps.specs.Looks.{Placed, Light, Modest, PastOf, ModestPast, usedAfter}
+use Rattle.codes.specs.Own.{accountIn, underIn}
+use Rattle.steps.specs.Looks.{Placed, Borne, Light, Modest, PastOf, ModestPast, usedAfter}
 
 pub modest-in : {m : Marks} {w : List ℕ} {j : ℕ} → Placed m w → j < 256 → Modest (accountIn m w j)
 modest-in {m} {w} {j} h l =
@@ -52,7 +52,7 @@ light-after used i old new its l h n t =
     }
 
 -- the TM word of every row of a sound book is a place
-tm-low : (b : Book) → Sound b → (j : ℕ) → rowAt b j .tm < 256
+tm-low : (b : Book) → SoundRows b → (j : ℕ) → rowAt b j .tm < 256
 tm-low b s j = by (decLt j (b .count)) (ℕ-discrete (rowAt b j .sort) 2)
   where
     by : Dec (j < b .count) → Dec (rowAt b j .sort ≡ 2) → rowAt b j .tm < 256
@@ -60,16 +60,29 @@ tm-low b s j = by (decLt j (b .count)) (ℕ-discrete (rowAt b j .sort) 2)
     by (yes l) (no c) = omega (arith, s .no-tm j l c)
     by (no l) d = omega (arith, ap (λ r. r .tm) (s .blank j (omega arith)))
 
-pub placed : {count serial : ℕ} {m : Marks} {w under : List ℕ} → Ready count serial m w under → Placed m w
-placed {count} {serial} {m} {w} h =
-    let b = bookFrom count serial m w [] in
+pub placed : (count serial : ℕ) (m : Marks) (w needs : List ℕ) → Sized m w → SoundRows (bookFrom count serial m w [] needs) → Placed m w
+placed count serial m w needs z s =
+    let b = bookFrom count serial m w [] needs in
     record {
-      size = h .size;
-      ranges = λ j l. rw (row-in m w j l) at (sound-ranges b (h .sound) j);
-      tms = λ j l. omega (arith, ap (λ r. r .tm) (row-in m w j l), tm-low b (h .sound) j);
+      size = z;
+      ranges = λ j l. rw (row-in m w j l) at (rows-ranges b s j);
+      tms = λ j l. omega (arith, ap (λ r. r .tm) (row-in m w j l), tm-low b s j);
     }
 
-pub modest-past : {m : Marks} {w : List ℕ} {a : ℕ} {x : Past} → Placed m w → PastOf m w a x → ModestPast x
-modest-past {m} {w} {a} {x} h o =
+pub modest-past : {m : Marks} {w needs : List ℕ} {a : ℕ} {x : Past} → Placed m w → ((j : ℕ) → j < 256 → underIn w needs j ≤ 25_600_000_000_000_000) → PastOf m w needs a x → ModestPast x
+modest-past {m} {w} {needs} {a} {x} h most o =
     let low : x .own .tm < 256 = rw (o .own) (h .tms (x .place) (o .inside)) in
-    record { inside = o .inside; tm = low; own = rw (o .own) (modest-in h (o .inside)); its = rw (o .its) (modest-in h low) }
+    record {
+      inside = o .inside;
+      tm = low;
+      own = rw (o .own) (modest-in h (o .inside));
+      its = rw (o .its) (modest-in h low);
+      under = rw (o .under) (most (x .place) (o .inside));
+      owed = rw (o .owed) (most (x .own .tm) low);
+      all = rw (o .all) (most 0 (omega arith));
+    }
+
+-- three kept needs put, part by part
+pub three-eq : (needs : List ℕ) (i t : ℕ) {own own′ its its′ top top′ : ℕ} → own ≡ own′ → its ≡ its′ → top ≡ top′
+    → set (set (set needs i own) t its) 0 top ≡ set (set (set needs i own′) t its′) 0 top′
+three-eq needs i t e₁ e₂ e₃ = rw (e₁, e₂, e₃)

@@ -11,7 +11,7 @@ use Rattle.rows.specs.Rows.{view}
 use Rattle.rows.specs.Modes.{looked}
 use Rattle.rows.specs.Inner.{inTenths}
 use Rattle.rows.specs.Under.{Under}
-use Rattle.book.specs.Facts.{Sound}
+use Rattle.book.specs.Facts.{SoundRows, Sound}
 use Rattle.dayfile.specs.declared.Record.{Record}
 use Rattle.rules.specs.declared.Change.{Change}
 use Rattle.rules.specs.declared.Change.the-variants.{Refuse, Put, Open}
@@ -21,11 +21,10 @@ use Rattle.table.specs.Facts.{Sized}
 use Rattle.steps.specs.declared.At.{At}
 use Rattle.steps.specs.declared.Gone.{Gone}
 
--- the words are a sound book's, with what is deemed under each account beside them; a verdict looks at no mode
-pub record Ready (count serial : ℕ) (m : Marks) (w under : List ℕ) : Type 0 where
+-- the words and the kept needs are a sound book's; a verdict looks at no mode
+pub record Ready (count serial : ℕ) (m : Marks) (w needs : List ℕ) : Type 0 where
   pub size : Sized m w
-  pub sound : Sound (bookFrom count serial m w [])
-  pub kept : Under (view (bookFrom count serial m w [])) under
+  pub sound : Sound (bookFrom count serial m w [] needs)
 
 -- what a change shows of its record: the refusal or 0, the number given or 0, and 1 for one carried out
 abbrev pub refusalShown : Change → ℕ
@@ -43,13 +42,14 @@ carriedShown (Refuse n) = 0
 carriedShown (Put row) = 1
 carriedShown (Open row) = 1
 
--- a record was decided at the words w, came to x and left the words u, before any mode is looked at
-pub record Decided (count serial : ℕ) (m : Marks) (w : List ℕ) (r : Record) (x : Gone) (n : Marks) (u under : List ℕ) : Type 0 where
-  pub refusal : x .refusal ≡ refusalShown (changeOf (bookFrom count serial m w []) r)
-  pub given : x .given ≡ givenShown count (changeOf (bookFrom count serial m w []) r)
-  pub carried : x .carried ≡ carriedShown (changeOf (bookFrom count serial m w []) r)
-  pub book : bookFrom (x .count) (x .serial) n u [] ≡ changedBy (bookFrom count serial m w []) (r .account) (changeOf (bookFrom count serial m w []) r)
-  pub ready : Ready (x .count) (x .serial) n u under
+-- a record was decided at the words w, came to x and left the words u, before needs and modes follow
+pub record Decided (count serial : ℕ) (m : Marks) (w needs : List ℕ) (r : Record) (x : Gone) (n : Marks) (u : List ℕ) : Type 0 where
+  pub refusal : x .refusal ≡ refusalShown (changeOf (bookFrom count serial m w [] needs) r)
+  pub given : x .given ≡ givenShown count (changeOf (bookFrom count serial m w [] needs) r)
+  pub carried : x .carried ≡ carriedShown (changeOf (bookFrom count serial m w [] needs) r)
+  pub book : bookFrom (x .count) (x .serial) n u [] needs ≡ changedBy (bookFrom count serial m w [] needs) (r .account) (changeOf (bookFrom count serial m w [] needs) r)
+  pub size : Sized n u
+  pub rows : SoundRows (bookFrom (x .count) (x .serial) n u [] needs)
 
 -- refused with the number k
 abbrev pub stayed : ℕ → ℕ → ℕ → Gone
@@ -74,27 +74,26 @@ abbrev pub modesIn : Bool → List Bool → List Bool → List Bool
 modesIn waiting was modes = pick waiting was modes
 
 -- the book that the arrays are
-abbrev pub bookAt : At → Marks → List ℕ → List Bool → List Bool → Book
-bookAt at m w was modes = bookFrom (at .count) (at .serial) m w (modesIn (at .waiting) was modes)
+abbrev pub bookAt : At → Marks → List ℕ → List Bool → List Bool → List ℕ → Book
+bookAt at m w was modes needs = bookFrom (at .count) (at .serial) m w (modesIn (at .waiting) was modes) needs
 
 -- where it stands after a record that came to x
 abbrev pub atAfter : At → Gone → At
 atAfter at x = record { count = x .count; serial = x .serial; waiting = at .waiting && eqb (x .carried) 0 }
 
--- the arrays are a sound book's. Beside it stand what is deemed under each account, what is in excess under it, in tenths, and the
--- modes that a look leaves
-pub record Going (at : At) (m : Marks) (w : List ℕ) (was modes : List Bool) (under used : List ℕ) : Type 0 where
+-- the arrays are a sound book's. Beside it stand what is in excess under each account, in tenths, and the modes that a look leaves
+pub record Going (at : At) (m : Marks) (w : List ℕ) (was modes : List Bool) (needs used : List ℕ) : Type 0 where
   pub size : Sized m w
   pub many : length was ≡ 256
-  pub sound : Sound (bookAt at m w was modes)
-  pub kept : Under (view (bookAt at m w was modes)) under
-  pub uses : Under (inTenths (view (bookAt at m w was modes))) used
-  pub looks : modes ≡ looked (view (bookAt at m w was modes)) (modesIn (at .waiting) was modes)
+  pub wide : length needs ≡ 256
+  pub sound : Sound (bookAt at m w was modes needs)
+  pub uses : Under (inTenths (view (bookAt at m w was modes needs))) used
+  pub looks : modes ≡ looked (view (bookAt at m w was modes needs)) (modesIn (at .waiting) was modes)
 
 -- a record at such arrays came to x, and left the arrays after it
-pub record Stepped (at : At) (m : Marks) (w : List ℕ) (was modes : List Bool) (r : Record) (x : Gone) (n : Marks) (u : List ℕ) (after : List Bool) (under used : List ℕ) : Type 0 where
-  pub refusal : x .refusal ≡ refusalShown (changeOf (bookAt at m w was modes) r)
-  pub given : x .given ≡ givenShown (at .count) (changeOf (bookAt at m w was modes) r)
-  pub carried : x .carried ≡ carriedShown (changeOf (bookAt at m w was modes) r)
-  pub book : bookAt (atAfter at x) n u was after ≡ bookAfter (bookAt at m w was modes) (r .account) (changeOf (bookAt at m w was modes) r)
-  pub ready : Going (atAfter at x) n u was after under used
+pub record Stepped (at : At) (m : Marks) (w : List ℕ) (was modes : List Bool) (needs : List ℕ) (r : Record) (x : Gone) (n : Marks) (u : List ℕ) (after : List Bool) (needs′ used : List ℕ) : Type 0 where
+  pub refusal : x .refusal ≡ refusalShown (changeOf (bookAt at m w was modes needs) r)
+  pub given : x .given ≡ givenShown (at .count) (changeOf (bookAt at m w was modes needs) r)
+  pub carried : x .carried ≡ carriedShown (changeOf (bookAt at m w was modes needs) r)
+  pub book : bookAt (atAfter at x) n u was after needs′ ≡ bookAfter (bookAt at m w was modes needs) (r .account) (changeOf (bookAt at m w was modes needs) r)
+  pub ready : Going (atAfter at x) n u was after needs′ used

@@ -1,26 +1,31 @@
-// K2's look after a record that may have moved figures: at the account named, its TM and the CM.
+// After a record that may have moved figures: kept needs brought up to date (K3), and a look (K2), each at the account named, its TM and the CM.
 ghost use mathlib.Core.Bool.{false};
 ghost use mathlib.Core.Path.{_≡_};
 ghost use Prim.Native.Nat.{_<_};
 ghost use lib.ListN.{length, getD};
 ghost use Rattle.table.specs.Words.{marksFrom};
 ghost use Rattle.steps.specs.Steps.{modesIn};
-ghost use Rattle.steps.specs.Own.{accountIn, Borne};
-ghost use Rattle.steps.specs.Looks.{Placed, PastOf, Modest, ModestPast, Light, lookIn, usedAfter, usedSince, lookedOn, lookedSince};
-use crate::settling::owes;
-use crate::settling::put_owed;
+ghost use Rattle.codes.specs.Own.{accountIn};
+ghost use Rattle.steps.specs.Looks.{Placed, Borne, PastOf, Modest, ModestPast, Light, lookIn, owedPut, usedAfter, usedSince, lookedOn, lookedSince, neededSince};
+use codes::settling::Owed;
+use codes::settling::owes;
+use codes::settling::under_at;
 use rows::Account;
+use rows::kept::need_to_keep;
 use rows::modes::look;
 use rows::needs::account_of;
 use rows::needs::in_tenths;
 use rows::needs::slot;
 use table::places::row_at;
 
-// The account named and its TM's, before the record, and the place of the first.
+// The account named and its TM's, before the record, the place of the first, and what is deemed under each of them and under the CM.
 pub struct Past {
     pub place: usize,
     pub own: Account,
     pub its: Account,
+    pub under: u64,
+    pub owed: u64,
+    pub all: u64,
 }
 
 fn account_in(
@@ -41,15 +46,58 @@ pub(crate) fn past_of(
     live: &[bool; 256],
     tm: &[u16; 256],
     w: &[u64; 2560],
+    needs: &[u64; 256],
     a: u16,
 ) -> Past
     requires { ⌜ Placed (marksFrom (now sort) (now live) (now tm)) (now w) ⌝ }
-    ensures { λ x. ⌜ PastOf (marksFrom (now (sort .entry)) (now (live .entry)) (now (tm .entry))) (now (w .entry)) a x ⌝ }
+    ensures { λ x. ⌜ PastOf (marksFrom (now (sort .entry)) (now (live .entry)) (now (tm .entry))) (now (w .entry)) (now (needs .entry)) a x ⌝ }
 {
     let place = slot(a);
     let own = account_in(sort, live, tm, w, place);
-    let its = account_in(sort, live, tm, w, own.tm as usize);
-    Past { place, own, its }
+    let t = own.tm as usize;
+    let its = account_in(sort, live, tm, w, t);
+    let under = under_at(w, needs, place);
+    let owed = under_at(w, needs, t);
+    let all = under_at(w, needs, 0);
+    Past {
+        place,
+        own,
+        its,
+        under,
+        owed,
+        all,
+    }
+}
+
+// The kept needs after the record: at the account's place (0 where it is no TM's), at its TM's, and at the CM's last.
+pub(crate) fn settle_needs(
+    sort: &[u8; 256],
+    live: &[bool; 256],
+    tm: &[u16; 256],
+    w: &[u64; 2560],
+    needs: &mut [u64; 256],
+    past: Past,
+)
+    requires { ⌜ Placed (marksFrom (now sort) (now live) (now tm)) (now w) × ModestPast past ⌝ }
+    ensures { λ _. ⌜ now (needs .exit) ≡ neededSince (marksFrom (now (sort .entry)) (now (live .entry)) (now (tm .entry))) (now (w .entry)) (now (needs .entry)) past ⌝ }
+{
+    let i = past.place;
+    let its = past.its;
+    let new = account_in(sort, live, tm, w, i);
+    let top = account_in(sort, live, tm, w, 0);
+    let x = owes(past.under, past.owed, past.all, past.own, new, its);
+    let t = past.own.tm as usize;
+    needs[i] = need_to_keep(new, past.under);
+    needs[t] = need_to_keep(its, x.tm);
+    needs[0] = top.margin + x.cm;
+}
+
+fn put_owed(used: &mut [u64; 256], t: usize, x: Owed)
+    requires { ⌜ t < 256 ⌝ }
+    ensures { λ _. ⌜ now (used .exit) ≡ owedPut (now (used .entry)) t x ⌝ }
+{
+    used[t] = x.tm;
+    used[0] = x.cm;
 }
 
 // What is in excess under each account, after the account at place i changed from old to new; its is its TM's.
@@ -57,8 +105,19 @@ fn settle_uses(used: &mut [u64; 256], i: usize, old: Account, new: Account, its:
     requires { ⌜ Borne (now used) × Modest old × Modest new × Modest its × (i < 256) × (old .tm < 256) ⌝ }
     ensures { λ _. ⌜ now (used .exit) ≡ usedAfter (now (used .entry)) i old new its ⌝ }
 {
-    let x = owes(used, i, in_tenths(old), in_tenths(new), in_tenths(its));
-    put_owed(used, old.tm as usize, x);
+    let t = old.tm as usize;
+    let own = used[i];
+    let owed = used[t];
+    let all = used[0];
+    let x = owes(
+        own,
+        owed,
+        all,
+        in_tenths(old),
+        in_tenths(new),
+        in_tenths(its),
+    );
+    put_owed(used, t, x);
 }
 
 // The mode of the account at a place, in the book.

@@ -48,25 +48,43 @@ module _ {A : Type 0} where
       list-is g n (g i) (set (listTo f n) i (g i)) (length-set (listTo f n) i (g i) ∙ length-listTo f n)
       (λ j m. put-as g (g i) (listTo f n) i j (omega (arith, length-listTo f n)) (λ e. at-listTo f n j (g i) m ∙ sym (h j m e)))
 
-  -- three places, where they differ at these alone
+  -- three places put, the last over the others: the list is g's where what is put is, and every other place was
+  pub puts-three : (g : ℕ → A) (d : A) (n i k p : ℕ) (xs : List A) (a b c : A) → length xs ≡ n → i < n → k < n → p < n
+      → ((i ≡ k → ⊥) → (i ≡ p → ⊥) → a ≡ g i) → ((k ≡ p → ⊥) → b ≡ g k) → c ≡ g p
+      → ((j : ℕ) → j < n → (j ≡ i → ⊥) → (j ≡ k → ⊥) → (j ≡ p → ⊥) → getD xs j d ≡ g j) → listTo g n ≡ set (set (set xs i a) k b) p c
+  puts-three g d n i k p xs a b c size li lk lp ea eb ec h =
+      list-is g n d (set two p c) (length-set two p c ∙ size-two) (λ j m. third j m (ℕ-discrete j p))
+    where
+      one : List A
+      one = set xs i a
+
+      two : List A
+      two = set one k b
+
+      size-one : length one ≡ n
+      size-one = length-set xs i a ∙ size
+
+      size-two : length two ≡ n
+      size-two = length-set one k b ∙ size-one
+
+      first : (j : ℕ) → j < n → (j ≡ k → ⊥) → (j ≡ p → ⊥) → Dec (j ≡ i) → getD one j d ≡ g j
+      first j m q r (yes e) = rw e (getD-set-same xs i a d (omega arith) ∙ ea (λ x. q (e ∙ x)) (λ x. r (e ∙ x)))
+      first j m q r (no e) = getD-set-other xs i j a d e ∙ h j m e q r
+
+      second : (j : ℕ) → j < n → (j ≡ p → ⊥) → Dec (j ≡ k) → getD two j d ≡ g j
+      second j m r (yes e) = rw e (getD-set-same one k b d (omega (arith, size-one)) ∙ eb (λ x. r (e ∙ x)))
+      second j m r (no e) = getD-set-other one k j b d e ∙ first j m e r (ℕ-discrete j i)
+
+      third : (j : ℕ) → j < n → Dec (j ≡ p) → getD (set two p c) j d ≡ g j
+      third j m (yes e) = rw e (getD-set-same two p c d (omega (arith, size-two)) ∙ ec)
+      third j m (no e) = getD-set-other two p j c d e ∙ second j m e (ℕ-discrete j k)
+
+  -- so where f and g differ at three places alone
   pub listTo-three : (f g : ℕ → A) (n i k p : ℕ) → i < n → k < n → p < n
       → ((j : ℕ) → j < n → (j ≡ i → ⊥) → (j ≡ k → ⊥) → (j ≡ p → ⊥) → g j ≡ f j) → listTo g n ≡ set (set (set (listTo f n) i (g i)) k (g k)) p (g p)
   listTo-three f g n i k p li lk lp h =
-      list-is g n (g p) (set two p (g p)) (length-set two p (g p) ∙ size-two)
-      (λ j m. put-as g (g p) two p j (omega (arith, size-two)) (λ e. put-as g (g p) one k j (omega (arith, size-one))
-      (λ e′. put-as g (g p) (listTo f n) i j (omega (arith, length-listTo f n)) (λ e″. at-listTo f n j (g p) m ∙ sym (h j m e″ e′ e)))))
-    where
-      one : List A
-      one = set (listTo f n) i (g i)
-
-      two : List A
-      two = set one k (g k)
-
-      size-one : length one ≡ n
-      size-one = length-set (listTo f n) i (g i) ∙ length-listTo f n
-
-      size-two : length two ≡ n
-      size-two = length-set one k (g k) ∙ size-one
+      puts-three g (g p) n i k p (listTo f n) (g i) (g k) (g p) (length-listTo f n) li lk lp (λ q r. refl) (λ q. refl) refl
+      (λ j m q r e. at-listTo f n j (g p) m ∙ sym (h j m q r e))
 
   -- a list filled from the start on, one place more
   pub filled-step : (f : ℕ → A) (xs : List A) (d : A) (i : ℕ) (x : A) → i < length xs → ((j : ℕ) → j < i → getD xs j d ≡ f j) → x ≡ f i

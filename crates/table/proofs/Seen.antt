@@ -1,4 +1,4 @@
--- Needs look neither at the serial nor at who is live or in the mode: what they see of the words is what they see of the book.
+-- Needs look neither at the serial, at who is live or in the mode, nor at what is kept: what they see of the words is what they see of the book.
 use mathlib.Core.Bool.{Bool}
 use mathlib.Core.List.{List, []}
 use mathlib.Core.Path.{_≡_, ap, sym, _∙_}
@@ -14,12 +14,12 @@ use Rattle.table.specs.Words.{Marks, marksFrom, bookFrom}
 use Rattle.table.specs.Facts.{seenBook}
 use Rattle.table.proofs.Gathered.{rows-length, row-in}
 
-module _ (count serial : ℕ) (m : Marks) (w : List ℕ) (modes : List Bool) where
+module _ (count serial : ℕ) (m : Marks) (w : List ℕ) (modes : List Bool) (needs : List ℕ) where
   abbrev seen : Book
   seen = seenBook count (m .sort) (m .tm) w
 
   abbrev whole : Book
-  whole = bookFrom count serial m w modes
+  whole = bookFrom count serial m w modes needs
 
   abbrev marks : Marks
   marks = marksFrom (m .sort) [] (m .tm)

@@ -6,7 +6,7 @@ use Prim.Native.Nat.{ℕ, _+_, _*_, _/_, _%_, _<_}
 use native.Mathlib.Omega.{arith}
 use lib.ListN.{length, getD}
 use Rattle.sums.specs.Listed.{listTo}
-use Rattle.sums.proofs.Lists.{length-listTo, at-listTo, list-is}
+use Rattle.sums.proofs.Lists.{at-listTo, list-is}
 use Rattle.rows.specs.declared.Row.{Row}
 use Rattle.rows.specs.declared.Book.{Book}
 use Rattle.rows.specs.Rows.{noRow, rowAt}
@@ -18,7 +18,7 @@ use Rattle.table.proofs.Gathered.{row-in, row-eq, word-in}
 pub over-and-back : (b : Book) → length (b .rows) ≡ 256 → turnedBack (turned b) ≡ b
 unfolding rowsOf turned
 over-and-back b e =
-    ap (λ l. record { count = b .count; serial = b .serial; rows = l; modes = b .modes })
+    ap (λ l. record { count = b .count; serial = b .serial; rows = l; modes = b .modes; needs = b .needs })
     (list-is (rowIn (marksOf (turned b)) (turned b .amounts)) 256 noRow (b .rows) e (λ i l. sym (row i l)))
   where
     word : (k i : ℕ) → k < 10 → i < 256 → wordAt (turned b .amounts) k i ≡ amountOf (rowAt b i) k
@@ -42,6 +42,7 @@ back-and-over t h =
       live = column (λ r. r .live) (t .live) false (h .lives) (λ i. refl) j;
       tm = column (λ r. r .tm) (t .tm) 0 (h .tms) (λ i. refl) j;
       modes = t .modes;
+      needs = t .needs;
       amounts = list-is _ 2560 0 (t .amounts) (h .words) (λ n l. sym (word n l)) j;
     }
   where
@@ -56,7 +57,3 @@ back-and-over t h =
 -- "the old one's book, turned over": a table is known by the book that it is turned back to
 pub turned-from : (t : Table) (b : Book) → Sized (marksOf t) (t .amounts) → turnedBack t ≡ b → t ≡ turned b
 turned-from t b h e = sym (back-and-over t h) ∙ ap turned e
-
-pub turned-sized : (b : Book) → Sized (marksOf (turned b)) (turned b .amounts)
-unfolding turned
-turned-sized b = record { sorts = length-listTo _ 256; lives = length-listTo _ 256; tms = length-listTo _ 256; words = length-listTo _ 2560 }

@@ -17,6 +17,6 @@ pub record Sized (m : Marks) (w : List ℕ) : Type 0 where
 pub record Capped (w : List ℕ) (k n : ℕ) : Type 0 where
   pub each : (i : ℕ) → i < n → wordAt w k i ≤ 40_000_000_000_000
 
--- the book as needs see it, by its sorts, TMs and words: they look neither at the serial nor at who is live or in the mode
+-- the book as needs see it, by its sorts, TMs and words: they look neither at the serial, at who is live or in the mode, nor at what is kept
 abbrev pub seenBook : ℕ → List ℕ → List ℕ → List ℕ → Book
-seenBook count sort tm w = bookFrom count 0 (marksFrom sort [] tm) w []
+seenBook count sort tm w = bookFrom count 0 (marksFrom sort [] tm) w [] []

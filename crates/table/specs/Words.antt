@@ -57,13 +57,14 @@ turned b = record {
   live = listTo (λ i. rowAt b i .live) 256;
   tm = listTo (λ i. rowAt b i .tm) 256;
   modes = b .modes;
+  needs = b .needs;
   amounts = listTo (λ n. amountOf (rowAt b (n % 256)) (n / 256)) 2560;
 }
 
--- "the old order": the book that the words and the modes are
-abbrev pub bookFrom : ℕ → ℕ → Marks → List ℕ → List Bool → Book
-bookFrom count serial m w modes = record { count = count; serial = serial; rows = rowsOf m w; modes = modes }
+-- "the old order": the book that the words, the modes and the kept needs are
+abbrev pub bookFrom : ℕ → ℕ → Marks → List ℕ → List Bool → List ℕ → Book
+bookFrom count serial m w modes needs = record { count = count; serial = serial; rows = rowsOf m w; modes = modes; needs = needs }
 
 -- "and back": the table as a book of the old order
 abbrev pub turnedBack : Table → Book
-turnedBack t = bookFrom (t .count) (t .serial) (marksOf t) (t .amounts) (t .modes)
+turnedBack t = bookFrom (t .count) (t .serial) (marksOf t) (t .amounts) (t .modes) (t .needs)

@@ -13,7 +13,8 @@ pub mod modes;
 pub mod needs;
 pub mod places;
 
-// Amount k of account i is word 256 k + i: 0 to 3 received, 4 to 7 allocated, 8 pledged, 9 margin. The modes stand as in the old order.
+// Amount k of account i is word 256 k + i: 0 to 3 received, 4 to 7 allocated, 8 pledged, 9 margin. The modes and the
+// kept needs (K3), one more run of words, stand as in the old order.
 pub struct Table {
     pub count: u16,
     pub serial: u16,
@@ -21,6 +22,7 @@ pub struct Table {
     pub live: [bool; 256],
     pub tm: [u16; 256],
     pub modes: [bool; 256],
+    pub needs: [u64; 256],
     pub amounts: [u64; 2560],
 }
 
@@ -53,6 +55,7 @@ pub fn turn(b: Book) -> Table
         i += 1;
     }
     let modes = b.modes;
+    let needs = b.needs;
     Table {
         count: b.count,
         serial: b.serial,
@@ -60,6 +63,7 @@ pub fn turn(b: Book) -> Table
         live,
         tm,
         modes,
+        needs,
         amounts,
     }
 }
@@ -69,10 +73,12 @@ pub fn turn_back(t: Table) -> Book
 {
     let table = rows_of(&t.sort, &t.live, &t.tm, &t.amounts);
     let modes = t.modes;
+    let needs = t.needs;
     Book {
         count: t.count,
         serial: t.serial,
         rows: table,
         modes,
+        needs,
     }
 }

@@ -1,16 +1,18 @@
 // Needs, in two rising passes over the words in their places: what each TM's clients are deemed, then what the TMs and CPs are. In tenths
-// the same passes give K2's uses.
+// the same passes give K2's uses. Behind them the test of kept needs (K3).
 ghost use mathlib.Core.Path.{_≡_};
-ghost use Prim.Native.Nat.{_<_};
-ghost use Rattle.rows.specs.View.{needCM, need};
+ghost use Prim.Native.Nat.{_≤_, _<_};
+ghost use lib.ListN.{length};
 ghost use Rattle.rows.specs.Rows.{rowAt, accountOf, view};
-ghost use Rattle.rows.specs.Facts.{Shaped, InRange};
+ghost use Rattle.rows.specs.Facts.{Shaped, NoneBeyond, InRange};
 ghost use Rattle.rows.specs.Under.{Under};
-ghost use Rattle.rows.specs.Inner.{Ranged, ClientSums, membersBelow, accountAs, viewAs};
+ghost use Rattle.rows.specs.KeptNeeds.{allKept};
+ghost use Rattle.rows.specs.Inner.{Ranged, ClientSums, membersBelow, accountAs, viewAs, keptWith};
 ghost use Rattle.table.specs.Facts.{seenBook};
 use super::places::kinds_at;
 use super::places::word_at;
 use rows::Account;
+use rows::kept::need_to_keep;
 use rows::needs::client_due;
 use rows::needs::in_tenths;
 use rows::needs::member_due;
@@ -115,31 +117,52 @@ pub fn unders<'a>(
     owed
 }
 
-pub fn need_cm<'a>(sort: &'a [u8; 256], tm: &'a [u16; 256], w: &'a [u64; 2560], count: u16) -> u64
-    requires { ⌜ Ranged (seenBook count (now sort) (now tm) (now w)) × (0 < count) ⌝ }
-    ensures { λ x. ⌜ x ≡ needCM (view (seenBook count (now (sort .entry)) (now (tm .entry)) (now (w .entry)))) ⌝ }
-{
-    let owed = client_sums(sort, tm, w, count, false);
-    word_at(w, 9, 0) + members_sum(sort, tm, w, count, false, owed)
-}
-
-pub fn need_of<'a>(
+// The need to keep at place i (K3), where what is deemed under the account is given.
+fn kept_at<'a>(
     sort: &'a [u8; 256],
     tm: &'a [u16; 256],
     w: &'a [u64; 2560],
     count: u16,
     i: usize,
+    under: u64,
 ) -> u64
-    requires { ⌜ Ranged (seenBook count (now sort) (now tm) (now w)) × (i < count) ⌝ }
-    ensures { λ x. ⌜ x ≡ need (view (seenBook count (now (sort .entry)) (now (tm .entry)) (now (w .entry)))) i ⌝ }
+    requires { ⌜ Ranged (seenBook count (now sort) (now tm) (now w)) × (under ≤ 10_000_000_000_000_000_000) ⌝ }
+    ensures { λ x. ⌜ x ≡ keptWith (view (seenBook count (now (sort .entry)) (now (tm .entry)) (now (w .entry)))) i under ⌝ }
 {
-    let margin = word_at(w, 9, i);
-    if sort[i] == 0 {
-        return need_cm(sort, tm, w, count);
+    if (count as usize) <= i {
+        return 0;
     }
-    if sort[i] == 1 {
-        let owed = client_sums(sort, tm, w, count, false);
-        return margin + owed[i];
+    let a = account_at(sort, tm, w, i);
+    if i == 0 {
+        return a.margin + under;
     }
-    margin
+    need_to_keep(a, under)
+}
+
+// Each kept need is the one worked out afresh.
+pub fn needs_kept<'a>(
+    sort: &'a [u8; 256],
+    tm: &'a [u16; 256],
+    w: &'a [u64; 2560],
+    count: u16,
+    needs: &'a [u64; 256],
+) -> bool
+    requires { ⌜ Ranged (seenBook count (now sort) (now tm) (now w)) × Shaped (view (seenBook count (now sort) (now tm) (now w))) × NoneBeyond (view (seenBook count (now sort) (now tm) (now w))) ⌝ }
+    ensures { λ x. ⌜ x ≡ allKept (view (seenBook count (now (sort .entry)) (now (tm .entry)) (now (w .entry)))) (now (needs .entry)) ⌝ }
+{
+    let under = unders(sort, tm, w, count, false);
+    let mut ok = true;
+    let mut i: usize = 0;
+    while i < 256 {
+        ok = ok & (needs[i] == kept_at(sort, tm, w, count, i, under[i]));
+        i += 1;
+    }
+    ok
+}
+
+// For a proof to cite: the array has its length, by its type.
+pub fn size(needs: [u64; 256]) -> bool
+    ensures { λ _. ⌜ length needs ≡ 256 ⌝ }
+{
+    true
 }

@@ -23,10 +23,6 @@ impl Book {
         10 * self.rows[account].margin + self.over[account]
     }
 
-    pub fn has_mode(&self, account: usize) -> bool {
-        matches!(self.rows[account].sort, Sort::Tm | Sort::Cm)
-    }
-
     /// The look after a record carried out. A record moves the figures of the
     /// account it names and of those that answer for it; at every other TM a
     /// look with the same figures as before would leave the mode as it is.
@@ -41,7 +37,7 @@ impl Book {
     }
 
     fn look_at(&mut self, account: usize) {
-        if self.has_mode(account) {
+        if self.is_member(account) {
             let collateral = self.rows[account].collateral();
             self.modes[account] = self.modes[account].looked_at(self.used(account), collateral);
         }
@@ -55,7 +51,7 @@ impl Book {
         for account in (0..self.count).rev() {
             let row = &self.rows[account];
             let mut against = 10 * row.margin;
-            if self.has_mode(account) {
+            if self.is_member(account) {
                 against += over[account];
                 uses[account] = against;
             }
@@ -64,6 +60,12 @@ impl Book {
             }
         }
         uses
+    }
+
+    /// What is kept for the look must be what the rows say.
+    pub fn uses_agree(&self) -> bool {
+        let mut uses = self.uses().into_iter().enumerate();
+        uses.all(|(account, used)| !self.is_member(account) || self.used(account) == used)
     }
 
     /// "In a sound book only a live TM or the CM can be in the mode."

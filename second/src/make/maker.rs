@@ -102,6 +102,12 @@ impl Maker {
         self.say(SET_MARGIN, 1 << MARGIN, account, &[amount])
     }
 
+    /// Opens an account and gives its number.
+    pub fn opened(&mut self, code: u8, named: u16) -> u16 {
+        self.say(code, 0, named, &[]);
+        self.book.count as u16 - 1
+    }
+
     pub fn amount(&mut self) -> u64 {
         let most = self.scale;
         self.rng.between(1, most)

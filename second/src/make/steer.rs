@@ -180,7 +180,7 @@ fn release_there(maker: &mut Maker) {
 
 /// Kinds whose sum is near what is free, none of them more than allocated,
 /// so that only the sum can tell.
-fn release_free(maker: &mut Maker) {
+pub fn release_free(maker: &mut Maker) {
     let (account, bounds) = with_something(maker, allocated);
     let mut left = maker.rng.near(maker.book.free(usize::from(account)));
     let mut kinds = [0; 4];
@@ -207,7 +207,7 @@ fn unpledge_there(maker: &mut Maker) {
     maker.say_pledge(UNPLEDGE, account, amount);
 }
 
-fn unpledge_free(maker: &mut Maker) {
+pub fn unpledge_free(maker: &mut Maker) {
     let (account, bounds) = with_something(maker, pledged);
     let free = maker.book.free(usize::from(account));
     let amount = maker.rng.near(free.min(bounds[0]));

@@ -45,23 +45,18 @@ fn in_turn(maker: &Maker) -> impl Iterator<Item = (Mark, Mode)> {
     STANDS.into_iter().cycle().skip(first).take(STANDS.len())
 }
 
-fn opened(maker: &mut Maker, code: u8, named: u16) -> u16 {
-    maker.say(code, 0, named, &[]);
-    maker.book.count as u16 - 1
-}
-
 /// Nobody but a client has collateral, 10 tens and 1: its excess of eleven
 /// tenths, of one, or none is all that its TM and the CM use, of nothing. Then
 /// the TM retires, having been on.
 fn of_nothing(maker: &mut Maker) {
-    let tm = opened(maker, OPEN_TM, 0);
-    let client = opened(maker, OPEN_CLIENT, tm);
+    let tm = maker.opened(OPEN_TM, 0);
+    let client = maker.opened(OPEN_CLIENT, tm);
     let tens = maker.rng.between(1, 9);
     maker.say_pledge(PLEDGE, client, 10 * tens + 1);
     for margin in [9 * tens + 2, 9 * tens + 1, 0, 9 * tens + 1] {
         maker.say_margin(client, margin);
     }
-    opened(maker, OPEN_CP, 0);
+    maker.opened(OPEN_CP, 0);
     wind_down_account(maker, client);
     wind_down_account(maker, tm);
     maker.say(OPEN_CLIENT, 0, tm, &[]);
@@ -74,8 +69,8 @@ fn collateral(maker: &mut Maker) -> u64 {
 
 /// After a TM's own coming and going it retires.
 fn tm_to_and_fro(maker: &mut Maker) {
-    let tm = opened(maker, OPEN_TM, 0);
-    let client = opened(maker, OPEN_CLIENT, tm);
+    let tm = maker.opened(OPEN_TM, 0);
+    let client = maker.opened(OPEN_CLIENT, tm);
     let amount = collateral(maker);
     put_in(maker, tm, amount, false);
     to_and_fro(maker, tm, client);
@@ -99,8 +94,8 @@ fn to_and_fro(maker: &mut Maker, member: u16, lever: u16) {
 }
 
 fn tm_at(maker: &mut Maker, mark: Mark, from: Mode) {
-    let tm = opened(maker, OPEN_TM, 0);
-    let client = opened(maker, OPEN_CLIENT, tm);
+    let tm = maker.opened(OPEN_TM, 0);
+    let client = maker.opened(OPEN_CLIENT, tm);
     let amount = collateral(maker);
     let one_more = mark.wants_one_more(amount, false);
     let in_cash = maker.rng.one_in(3);
@@ -129,11 +124,11 @@ fn follow(maker: &mut Maker) {
 /// A CP's excess, a TM's own, or a client's that goes through its TM.
 fn lever_of_cm(maker: &mut Maker) -> u16 {
     match maker.rng.below(3) {
-        0 => opened(maker, OPEN_CP, 0),
-        1 => opened(maker, OPEN_TM, 0),
+        0 => maker.opened(OPEN_CP, 0),
+        1 => maker.opened(OPEN_TM, 0),
         _ => {
-            let tm = opened(maker, OPEN_TM, 0);
-            opened(maker, OPEN_CLIENT, tm)
+            let tm = maker.opened(OPEN_TM, 0);
+            maker.opened(OPEN_CLIENT, tm)
         }
     }
 }

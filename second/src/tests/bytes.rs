@@ -14,6 +14,7 @@ fn an_empty_day() {
         print::standings(&[]),
         b"end 0 0\n0 cm live 0 0 0 0 0 0 off\n"
     );
+    assert_eq!(print::needs(&[]), b"end 0 0\n0 0\n");
 }
 
 #[test]

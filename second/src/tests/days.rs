@@ -54,7 +54,7 @@ fn sound_after_every_record() {
         for seed in 0..40 {
             print::day_seen(&make(kind, seed, 60_000), |_, book| {
                 assert!(
-                    book.is_sound() && book.kept_agrees(),
+                    book.is_sound() && book.uses_agree(),
                     "kind {} seed {seed}",
                     kind.0
                 );

@@ -1,5 +1,5 @@
 //! Document 01, "The program" and "Figures to hold against it", with K1's
-//! figures of document 02. Rupees there, paise here.
+//! figures and K3's list of document 02. Rupees there, paise here.
 
 use super::*;
 use crate::closeout::{close_out, CloseOut, Payment};
@@ -40,6 +40,11 @@ fn blocked(said: &str) -> [u64; 4] {
 fn deemed(said: &str) -> [u64; 4] {
     let all = book_after(said).standings();
     std::array::from_fn(|account| all[account].deemed)
+}
+
+/// All needs in one list (K3).
+fn needs(said: &str) -> Vec<u64> {
+    book_after(said).all_needs()
 }
 
 fn closed(said: &str, losses: [u64; 4]) -> CloseOut {
@@ -91,6 +96,17 @@ fn p4() {
 fn p5() {
     assert!(refusals(&at(5)).iter().all(|&refusal| refusal == 0));
     assert_eq!(blocked(&at(5)), [100_000, 50_000, 30_000, 30_000]);
+}
+
+/// P1 to P5 in K3's list; beside the rows stand TM-1's and the CM's alone.
+#[test]
+fn needs_of_p1_to_p5() {
+    assert_eq!(needs(&at(1)), [0, 0, 0, 10_000]);
+    assert_eq!(needs(&at(2)), [0, 30_000, 60_000, 10_000]);
+    assert_eq!(needs(&at(3)), [10_000, 60_000, 60_000, 60_000]);
+    assert_eq!(needs(&at(4)), [40_000, 90_000, 60_000, 90_000]);
+    assert_eq!(needs(&at(5)), [100_000, 150_000, 60_000, 150_000]);
+    assert_eq!(book_after(&at(4)).needs[..4], [40_000, 90_000, 0, 0]);
 }
 
 #[test]

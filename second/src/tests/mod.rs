@@ -7,6 +7,7 @@ mod days;
 mod figures;
 mod forms;
 mod modes;
+mod needs;
 mod refusals;
 mod soundness;
 
@@ -20,7 +21,7 @@ fn piece(said: &str) -> Vec<u8> {
 
 fn book_after(said: &str) -> Book {
     let (book, _) = day::run_fresh(&piece(said));
-    assert!(book.is_sound() && book.kept_agrees());
+    assert!(book.is_sound() && book.uses_agree());
     book
 }
 

@@ -17,7 +17,10 @@ fn sound_ones() {
     assert!(!breached(|book| book.serial = 65_535));
     assert!(!breached(|book| book.rows[2].received[1] = CEILING));
     assert!(!breached(|book| book.rows[2].allocated[0] = 7));
-    assert!(!breached(|book| book.rows[0].margin = 5));
+    assert!(!breached(|book| {
+        book.rows[0].margin = 5;
+        book.needs[0] = 5;
+    }));
 }
 
 #[test]
@@ -49,11 +52,18 @@ fn amounts() {
     assert!(breached(|book| book.rows[2].pledged = CEILING + 1));
     assert!(breached(|book| book.rows[2].allocated[0] = 8));
     assert!(breached(|book| book.rows[2].allocated[3] = 1));
-    assert!(breached(|book| book.rows[0].margin = 6));
-    assert!(breached(|book| book.rows[2].margin = 6));
+    assert!(breached(|book| {
+        book.rows[0].margin = 6;
+        book.needs[0] = 6;
+    }));
+    assert!(breached(|book| {
+        book.rows[2].margin = 6;
+        book.needs[..2].fill(6);
+    }));
     assert!(breached(|book| {
         book.rows[0].pledged = CEILING;
         book.rows[0].margin = CEILING + 1;
+        book.needs[0] = CEILING + 1;
     }));
 }
 
@@ -75,4 +85,32 @@ fn modes() {
         book.rows[3].sort = Sort::Tm;
         book.modes[3] = Mode::On;
     }));
+}
+
+/// "Each kept need equals the need worked out afresh": the CM's and the TM's,
+/// and nothing is kept for clients, CPs, retired accounts and numbers never
+/// given, their margin neither.
+#[test]
+fn kept_needs() {
+    let start = |book: &mut Book| {
+        book.rows[2].margin = 4;
+        book.rows[3].margin = 1;
+        book.needs[..2].copy_from_slice(&[5, 4]);
+    };
+    assert!(!breached(start));
+    for account in [0, 1, 2, 3, 4, 5, 255] {
+        assert!(breached(|book| {
+            start(book);
+            book.needs[account] += 1;
+        }));
+    }
+    for (account, need) in [(0, 4), (0, 0), (1, 3), (1, 0), (2, 4), (3, 1)] {
+        assert!(breached(|book| {
+            start(book);
+            book.needs[account] = need;
+        }));
+    }
+    assert!(breached(|book| book.rows[1].margin = 1));
+    assert!(breached(|book| book.rows[2].margin = 1));
+    assert!(breached(|book| book.rows[3].margin = 1));
 }

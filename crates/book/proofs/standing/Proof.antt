@@ -5,6 +5,7 @@ use native.Mathlib.Omega.{arith}
 use borrow.Author.Needs.{needs}
 use borrow.Author.Tests.{lt-ltb, le-ltb, not-true, not-false}
 use Rattle.rows.specs.Rows.{rowAt, modeAt}
+use Rattle.rows.specs.KeptNeeds.{keptNeed}
 use Rattle.rows.specs.Inner.{Ranged}
 use Rattle.table.specs.Words.{marksOf, turnedBack, rowIn}
 use Rattle.table.proofs.Gathered.{row-in}
@@ -12,6 +13,7 @@ use Rattle.table.proofs.Seen.{seen-view, seen-ranged}
 use Rattle.book.specs.Sound.{soundB}
 use Rattle.book.specs.Asked.{figuresOf}
 use Rattle.book.proofs.RowTests.{sound-test-ranged}
+use Rattle.book.proofs.SoundTest.{sound→}
 use Rattle.book.proofs.SoundInPlace.{sound-serial}
 use Rattle.book.proofs.StandingRefusals.{unsound-refused, dead-refused, live-answered, standing-by}
 use Rattle.book.proofs.standing.Statement.{statement}
@@ -25,12 +27,12 @@ refused-requires c κs = search needs
 
 -- where the call begins
 abbrev start : tie.After-table-sound → tie.Start
-start c = c .before .before .before .before .before .before .before
+start c = c .before .before .before .before .before .before .before .before
 
 tested : (c : tie.After-table-sound) → c .table-sound .result ≡ soundB (turnedBack (start c .args .t1))
 tested c =
     let t = start c .args .t1 in
-    c .table-sound .ensures ∙ sound-serial (t .count) (t .serial) (marksOf t) (t .amounts) (t .modes)
+    c .table-sound .ensures ∙ sound-serial (t .count) (t .serial) (marksOf t) (t .amounts) (t .modes) (t .needs)
 
 returns : tie.Need-returns
 returns c =
@@ -84,22 +86,36 @@ returns-3 c =
 element-copy-out-mode : tie.Need-element-copy-out-mode
 element-copy-out-mode c = omega (arith, ranged (c .before .before .before) .most)
 
+-- the kept need is the one worked out afresh
+mul-kept : tie.Need-mul-kept
+mul-kept c = omega (arith, ranged (c .before .before .before .before) .most)
+
+element-copy-out-kept : tie.Need-element-copy-out-kept
+element-copy-out-kept c = omega (arith, ranged (c .before .before .before .before) .most)
+
 figures-requires : tie.Need-figures-requires
 figures-requires c κs =
-    let given = c .before .before .before .before .before .before .before in
+    let given = c .before .before .before .before .before .before .before .before in
     let t = start (given .before .before) .args .t1 in
-    (seen-ranged (t .count) (t .serial) (marksOf t) (t .amounts) (t .modes) (ranged (given .before)), given .if2 .left)
+    let i = start (given .before .before) .args .account in
+    let v = seen-view (t .count) (t .serial) (marksOf t) (t .amounts) (t .modes) (t .needs) in
+    let s = sound→ (turnedBack t) (holds (given .before)) in (
+      seen-ranged (t .count) (t .serial) (marksOf t) (t .amounts) (t .modes) (t .needs) (ranged (given .before)),
+      rw v (s .shaped),
+      given .if2 .left,
+      s .kept i (omega (arith, s .most, given .if2 .left)) ∙ ap (λ w. keptNeed w i) (sym v),
+    )
 
 returns-4 : tie.Need-returns-4
 returns-4 c =
-    let live = c .before .before .before .before .before .before in
+    let live = c .before .before .before .before .before .before .before in
     let given = live .before .before in
     let e = given .before in
     let t = start (e .before) .args .t1 in
     let i = start (e .before) .args .account in
     standing-by (turnedBack t) i 0
     (live-answered (turnedBack t) i (holds e) (simp (lt-ltb i (t .count) (given .if2 .left), ap (λ r. r .live) (row given) ∙ not-false _ (live .if3 .left))))
-    (c .figures .ensures ∙ ap (λ v. figuresOf v (modeAt (turnedBack t) i) i) (seen-view (t .count) (t .serial) (marksOf t) (t .amounts) (t .modes)))
+    (c .figures .ensures ∙ ap (λ v. figuresOf v (modeAt (turnedBack t) i) i) (seen-view (t .count) (t .serial) (marksOf t) (t .amounts) (t .modes) (t .needs)))
 
 pub standing-spec : {M : Type 1} → statement M
 standing-spec =
@@ -114,5 +130,7 @@ standing-spec =
     refused-requires-3
     returns-3
     element-copy-out-mode
+    mul-kept
+    element-copy-out-kept
     figures-requires
     returns-4)

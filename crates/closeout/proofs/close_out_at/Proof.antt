@@ -29,7 +29,7 @@ abbrev Rm : In → List ℕ
 Rm c = c .before .before .args .room .now
 
 sound : (c : In) → soundB (Bk c) ≡ true
-sound c = sound← _ (c .before .before .pre .0)
+sound c = sound← _ (c .before .before .pre)
 
 cast-n : tie.Need-cast-n
 cast-n c = search needs
@@ -80,10 +80,8 @@ returns-3 c =
 
 fill-requires : tie.Need-fill-requires
 fill-requires c κs =
-    let tests = c .before .before .before in (
-      record { sound = sound→ _ (sound (of tests)); each = tests .before .if1 .left; wide = tests .if2 .left; small = losses-small (Bk (of tests)) (Ls (of tests)) (good (c .before)) },
-      of tests .before .before .pre .1,
-    )
+    let tests = c .before .before .before in
+    record { sound = sound→ _ (sound (of tests)); each = tests .before .if1 .left; wide = tests .if2 .left; small = losses-small (Bk (of tests)) (Ls (of tests)) (good (c .before)) }
 
 same-length : tie.Need-same-length
 same-length c = search needs

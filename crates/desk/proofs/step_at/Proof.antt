@@ -10,16 +10,13 @@ use Rattle.desk.proofs.step_at.Statement.{statement}
 use Rattle.desk.proofs.step_at.Tie as tie
 
 -- THE PLACES, each named once.
-abbrev called : tie.After-size → tie.Start
-called s = s .before .before .before .before .before .before .before
+abbrev called : tie.After-size2 → tie.Start
+called s = s .before .before .before .before .before .before .before .before .before
 
-abbrev sized : tie.After-unders → tie.After-size
+abbrev sized : tie.After-unders → tie.After-size2
 sized u = u .before .before .before .before
 
-abbrev owed : tie.After-unders2 → tie.After-unders
-owed u = u .before .before .before .before
-
-abbrev summed : tie.After-look-all → tie.After-unders2
+abbrev summed : tie.After-look-all → tie.After-unders
 summed l = l .before .before .before .before .before .before
 
 abbrev looked : tie.After-step → tie.After-look-all
@@ -31,32 +28,30 @@ sizes-requires c κs = search needs
 size-requires : tie.Need-size-requires
 size-requires c κs = search needs
 
+size-requires-2 : tie.Need-size-requires-2
+size-requires-2 c κs = search needs
+
 unders-requires : tie.Need-unders-requires
 unders-requires c κs =
     let s = called (c .before .before .before) in
     let t = s .args .t in
-    adds-up (t .count) (t .serial) (marksOf t) (t .amounts) (t .modes) (s .pre)
-
-unders-requires-2 : tie.Need-unders-requires-2
-unders-requires-2 c κs =
-    let s = called (sized (c .before .before .before)) in
-    let t = s .args .t in
-    adds-up (t .count) (t .serial) (marksOf t) (t .amounts) (t .modes) (s .pre)
+    adds-up (t .count) (t .serial) (marksOf t) (t .amounts) (t .modes) (t .needs) (s .pre)
 
 look-all-requires : tie.Need-look-all-requires
 look-all-requires c κs =
     let u = c .before .before .before .before .before in
-    let s = called (sized (owed u)) in
+    let s = called (sized u) in
     let t = s .args .t in
-    (adds-up (t .count) (t .serial) (marksOf t) (t .amounts) (t .modes) (s .pre), looks-up (t .count) (t .serial) (marksOf t) (t .amounts) (t .modes) (s .pre) _ (u .unders2 .ensures))
+    (adds-up (t .count) (t .serial) (marksOf t) (t .amounts) (t .modes) (t .needs) (s .pre), looks-up (t .count) (t .serial) (marksOf t) (t .amounts) (t .modes) (t .needs) (s .pre) _ (u .unders .ensures))
 
 step-requires : tie.Need-step-requires
 step-requires c κs =
     let l = c .before .before .before .before .before .before .before .before in
-    let u = owed (summed l) in
-    let s = called (sized u) in
+    let u = summed l in
+    let z = sized u in
+    let s = called z in
     let t = s .args .t in
-    enters (t .count) (t .serial) (marksOf t) (t .amounts) (t .modes) (s .pre) (sized u .before .sizes .ensures) (sized u .size .ensures) _ _ _ (u .unders .ensures) (summed l .unders2 .ensures) (l .look-all .ensures)
+    enters (t .count) (t .serial) (marksOf t) (t .amounts) (t .modes) (t .needs) (s .pre) (z .before .before .sizes .ensures) (z .before .size .ensures) (z .size2 .ensures) _ _ (u .unders .ensures) (l .look-all .ensures)
 
 outcome-of-requires : tie.Need-outcome-of-requires
 outcome-of-requires c κs = search needs
@@ -71,14 +66,15 @@ returns : tie.Need-returns
 unfolding pick
 returns c =
     let f = c .before .before .before in
-    let s = called (sized (owed (summed (looked f)))) in
+    let s = called (sized (summed (looked f))) in
     let h = f .step .ensures in
     let x = f .step .last in
     let n = marksFrom (x .0) (x .1 .0) (x .1 .1 .0) in
     let u = x .1 .1 .1 .0 in
     let after = c .before .on .result in
     stepped-over _ (s .args .r) (s .pre) _ _ _ _ (c .before .before .outcome-of .ensures) (h .refusal) (h .given) (h .ready .size)
-    (ap (bookFrom (after .count) (after .serial) n u) (c .modes-of .ensures) ∙ ap (λ a. bookAt a n u (s .args .t .modes) (x .1 .1 .1 .1 .0)) (c .before .on .ensures) ∙ h .book)
+    (ap (λ l. bookFrom (after .count) (after .serial) n u l (x .1 .1 .1 .1 .1 .0)) (c .modes-of .ensures)
+    ∙ ap (λ a. bookAt a n u (s .args .t .modes) (x .1 .1 .1 .1 .0) (x .1 .1 .1 .1 .1 .0)) (c .before .on .ensures) ∙ h .book)
 
 pub step-at-spec : {M : Type 1} → statement M
 step-at-spec =
@@ -86,8 +82,8 @@ step-at-spec =
     (tie.spec
     sizes-requires
     size-requires
+    size-requires-2
     unders-requires
-    unders-requires-2
     look-all-requires
     step-requires
     outcome-of-requires

@@ -20,24 +20,21 @@ use Rattle.feed.proofs.whole_day.Statement.{statement}
 use Rattle.feed.proofs.whole_day.Tie as tie
 
 abbrev Inv-loop : tie.InvT-loop
-Inv-loop telling space₀ sort₀ live₀ tm₀ amounts₀ was under₀ used₀ modes₀ at₀ kept₀ read₀ done₀ space sort live tm amounts under used modes at kept read done =
-    Feeding space (bookAt at (marksFrom sort live tm) amounts was modes) kept read done × Going at (marksFrom sort live tm) amounts was modes under used
+Inv-loop telling space₀ sort₀ live₀ tm₀ amounts₀ needs₀ was used₀ modes₀ at₀ kept₀ read₀ done₀ space sort live tm amounts needs used modes at kept read done =
+    Feeding space (bookAt at (marksFrom sort live tm) amounts was modes needs) kept read done × Going at (marksFrom sort live tm) amounts was modes needs used
 
 abbrev μ-loop : tie.MeasureT-loop
-μ-loop telling space₀ sort₀ live₀ tm₀ amounts₀ was under₀ used₀ modes₀ at₀ kept₀ read₀ done₀ space sort live tm amounts under used modes at kept read done =
+μ-loop telling space₀ sort₀ live₀ tm₀ amounts₀ needs₀ was used₀ modes₀ at₀ kept₀ read₀ done₀ space sort live tm amounts needs used modes at kept read done =
     1_000_000 - read
 
 -- THE PLACES, each named once.
-abbrev made : tie.After-size Inv-loop μ-loop → tie.After-fresh Inv-loop μ-loop
-made s = s .before .before .before .before .before .before .before
+abbrev made : tie.After-size2 Inv-loop μ-loop → tie.After-fresh Inv-loop μ-loop
+made s = s .before .before .before .before .before .before .before .before .before
 
-abbrev sized : tie.After-unders Inv-loop μ-loop → tie.After-size Inv-loop μ-loop
+abbrev sized : tie.After-unders Inv-loop μ-loop → tie.After-size2 Inv-loop μ-loop
 sized u = u .before .before .before .before
 
-abbrev owed : tie.After-unders2 Inv-loop μ-loop → tie.After-unders Inv-loop μ-loop
-owed u = u .before .before .before .before
-
-abbrev summed : tie.After-look-all Inv-loop μ-loop → tie.After-unders2 Inv-loop μ-loop
+abbrev summed : tie.After-look-all Inv-loop μ-loop → tie.After-unders Inv-loop μ-loop
 summed l = l .before .before .before .before .before .before
 
 abbrev started : tie.At-loop Inv-loop μ-loop → tie.After-starting Inv-loop μ-loop
@@ -57,14 +54,14 @@ judged k = k .before .before .before
 
 -- the modes that the fresh book was handed over with
 abbrev was : tie.At-loop Inv-loop μ-loop → List Bool
-was t = made (sized (owed (summed (started t .before)))) .fresh .result .modes
+was t = made (sized (summed (started t .before))) .fresh .result .modes
 
 -- what the piece came to
 abbrev ran : tie.After-carry Inv-loop μ-loop → Ran
-ran c = let x = c .carry .last in ranIn (c .carry .result) (marksFrom (x .0) (x .1 .0) (x .1 .1 .0)) (x .1 .1 .1 .0) (was (turn (filled c))) (x .1 .1 .1 .1 .0)
+ran c = let x = c .carry .last in ranIn (c .carry .result) (marksFrom (x .0) (x .1 .0) (x .1 .1 .0)) (x .1 .1 .1 .0) (was (turn (filled c))) (x .1 .1 .1 .1 .0) (x .1 .1 .1 .1 .1 .0)
 
 piece : (c : tie.After-carry Inv-loop μ-loop) → (let f = filled c in let v = turn f .loop in
-    Piece (v .space) (bookAt (v .at) (marksFrom (v .sort) (v .live) (v .tm)) (v .amounts) (was (turn f)) (v .modes)) (v .kept) (v .read) (v .done) (f .refill .last .0) (v .kept + f .refill .result) (ran c))
+    Piece (v .space) (bookAt (v .at) (marksFrom (v .sort) (v .live) (v .tm)) (v .amounts) (was (turn f)) (v .modes) (v .needs)) (v .kept) (v .read) (v .done) (f .refill .last .0) (v .kept + f .refill .result) (ran c))
 piece c =
     let g = turn (filled c) .loop .inv in
     let f = filled c .refill in
@@ -90,25 +87,22 @@ sizes-requires c κs = search needs
 size-requires : tie.Need-size-requires Inv-loop μ-loop
 size-requires c κs = search needs
 
+size-requires-2 : tie.Need-size-requires-2 Inv-loop μ-loop
+size-requires-2 c κs = search needs
+
 unders-requires : tie.Need-unders-requires Inv-loop μ-loop
 unders-requires c κs =
     let f = made (c .before .before .before) .fresh in
     let t = f .result in
-    adds-up (t .count) (t .serial) (marksOf t) (t .amounts) (t .modes) (sound-at-first t (f .ensures))
-
-unders-requires-2 : tie.Need-unders-requires-2 Inv-loop μ-loop
-unders-requires-2 c κs =
-    let f = made (sized (c .before .before .before)) .fresh in
-    let t = f .result in
-    adds-up (t .count) (t .serial) (marksOf t) (t .amounts) (t .modes) (sound-at-first t (f .ensures))
+    adds-up (t .count) (t .serial) (marksOf t) (t .amounts) (t .modes) (t .needs) (sound-at-first t (f .ensures))
 
 look-all-requires : tie.Need-look-all-requires Inv-loop μ-loop
 look-all-requires c κs =
     let u = c .before .before .before .before .before in
-    let f = made (sized (owed u)) .fresh in
+    let f = made (sized u) .fresh in
     let t = f .result in
     let h = sound-at-first t (f .ensures) in
-    (adds-up (t .count) (t .serial) (marksOf t) (t .amounts) (t .modes) h, looks-up (t .count) (t .serial) (marksOf t) (t .amounts) (t .modes) h _ (u .unders2 .ensures))
+    (adds-up (t .count) (t .serial) (marksOf t) (t .amounts) (t .modes) (t .needs) h, looks-up (t .count) (t .serial) (marksOf t) (t .amounts) (t .modes) (t .needs) h _ (u .unders .ensures))
 
 starting-requires : tie.Need-starting-requires Inv-loop μ-loop
 starting-requires c κs = search needs
@@ -117,12 +111,13 @@ loop-holds : tie.Need-loop-holds Inv-loop μ-loop
 unfolding pick
 loop-holds c =
     let l = c .before in
-    let u = owed (summed l) in
-    let f = made (sized u) .fresh in
+    let u = summed l in
+    let z = sized u in
+    let f = made z .fresh in
     let t = f .result in
     rw (c .starting .ensures) (
-      nothing-read _ _ (sym (made (sized u) .before .blank .ensures)) (is-fresh t (f .ensures)),
-      enters (t .count) (t .serial) (marksOf t) (t .amounts) (t .modes) (sound-at-first t (f .ensures)) (sized u .before .sizes .ensures) (sized u .size .ensures) _ _ _ (u .unders .ensures) (summed l .unders2 .ensures) (l .look-all .ensures),
+      nothing-read _ _ (sym (made z .before .blank .ensures)) (is-fresh t (f .ensures)),
+      enters (t .count) (t .serial) (marksOf t) (t .amounts) (t .modes) (t .needs) (sound-at-first t (f .ensures)) (z .before .before .sizes .ensures) (z .before .size .ensures) (z .size2 .ensures) _ _ (u .unders .ensures) (l .look-all .ensures),
     )
 
 slice-aggregate-refill : tie.Need-slice-aggregate-refill Inv-loop μ-loop
@@ -186,7 +181,7 @@ returns c =
     let at = t .carry .result .at in
     let n = marksFrom (x .0) (x .1 .0) (x .1 .1 .0) in
     came (piece t) _
-    (ap (λ (l : List Bool). turned (bookFrom (at .count) (at .serial) n (x .1 .1 .1 .0) l)) (sym (c .modes-of .ensures)) ∙ back-and-over _ (t .carry .ensures .1 .size))
+    (ap (λ (l : List Bool). turned (bookFrom (at .count) (at .serial) n (x .1 .1 .1 .0) l (x .1 .1 .1 .1 .1 .0))) (sym (c .modes-of .ensures)) ∙ back-and-over _ (t .carry .ensures .1 .size))
 
 pub whole-day-spec : {M : Type 1} → statement M
 whole-day-spec =
@@ -198,8 +193,8 @@ whole-day-spec =
     fresh-requires
     sizes-requires
     size-requires
+    size-requires-2
     unders-requires
-    unders-requires-2
     look-all-requires
     starting-requires
     loop-holds

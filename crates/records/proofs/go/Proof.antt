@@ -19,12 +19,12 @@ use Rattle.records.proofs.go.Statement.{statement}
 use Rattle.records.proofs.go.Tie as tie
 
 abbrev Inv-loop : tie.InvT-loop
-Inv-loop sort₀ live₀ tm₀ w₀ modes₀ under₀ used₀ was piece most room₀ tell at₀ place₀ read₀ done₀ sort live tm w modes under used room at place read done =
-    Loop piece most tell room₀ (bookAt at₀ (marksFrom sort₀ live₀ tm₀) w₀ was modes₀) place₀ read₀ done₀ room (bookAt at (marksFrom sort live tm) w was modes) place read done
-    × Going at (marksFrom sort live tm) w was modes under used
+Inv-loop sort₀ live₀ tm₀ w₀ modes₀ needs₀ used₀ was piece most room₀ tell at₀ place₀ read₀ done₀ sort live tm w modes needs used room at place read done =
+    Loop piece most tell room₀ (bookAt at₀ (marksFrom sort₀ live₀ tm₀) w₀ was modes₀ needs₀) place₀ read₀ done₀ room (bookAt at (marksFrom sort live tm) w was modes needs) place read done
+    × Going at (marksFrom sort live tm) w was modes needs used
 
 abbrev μ-loop : tie.MeasureT-loop
-μ-loop sort₀ live₀ tm₀ w₀ modes₀ under₀ used₀ was piece most room₀ tell at₀ place₀ read₀ done₀ sort live tm w modes under used room at place read done =
+μ-loop sort₀ live₀ tm₀ w₀ modes₀ needs₀ used₀ was piece most room₀ tell at₀ place₀ read₀ done₀ sort live tm w modes needs used room at place read done =
     most - read
 
 -- THE PLACES, each named once: seen from where the piece was looked at, and from where a record was carried out.
@@ -68,8 +68,8 @@ loop-holds c =
         sound = start .pre .0 .sound;
         same = refl;
         space = start .pre .1;
-        runs = ap (λ n. runOf (a .piece .now) n (bookAt (a .first) (marksFrom (a .sort .now) (a .live .now) (a .tm .now)) (a .w .now) (a .was .now) (a .modes .now)) 0 0 0) (less-zero (a .most));
-        tells = ap (λ n. pick (a .tell) (tellOf (a .piece .now) n (bookAt (a .first) (marksFrom (a .sort .now) (a .live .now) (a .tm .now)) (a .w .now) (a .was .now) (a .modes .now)) 0 0 (a .room .now)) (a .room .now)) (less-zero (a .most));
+        runs = ap (λ n. runOf (a .piece .now) n (bookAt (a .first) (marksFrom (a .sort .now) (a .live .now) (a .tm .now)) (a .w .now) (a .was .now) (a .modes .now) (a .needs .now)) 0 0 0) (less-zero (a .most));
+        tells = ap (λ n. pick (a .tell) (tellOf (a .piece .now) n (bookAt (a .first) (marksFrom (a .sort .now) (a .live .now) (a .tm .now)) (a .w .now) (a .was .now) (a .modes .now) (a .needs .now)) 0 0 (a .room .now)) (a .room .now)) (less-zero (a .most));
       },
       start .pre .0,
     )
@@ -115,7 +115,7 @@ loop-again c =
     let e = c .before .on .ensures in
     let v = its-turn s .loop in
     rw e (
-      turn-on _ _ _ _ _ _ _ _ (v .room) (v .at) _ (v .w) _ (v .modes) (v .place) (v .read) (v .done) (v .inv .0) _ _ (more s .if2 .left)
+      turn-on _ _ _ _ _ _ _ _ (v .room) (v .at) _ (v .w) _ (v .modes) (v .needs) (v .place) (v .read) (v .done) (v .inv .0) _ _ (more s .if2 .left)
           (met (looked (whole (more s))) _ (whole (more s) .found .given .1)) _ _ _ _ _ _ (s .step .ensures) _ (told-is (c .before .before)),
       s .step .ensures .ready,
     )

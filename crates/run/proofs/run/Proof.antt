@@ -12,17 +12,14 @@ use Rattle.run.proofs.run.Statement.{statement}
 use Rattle.run.proofs.run.Tie as tie
 
 -- THE PLACES, each named once.
-abbrev sized : tie.After-unders → tie.After-size
+abbrev sized : tie.After-unders → tie.After-size2
 sized u = u .before .before .before .before
 
-abbrev owed : tie.After-unders2 → tie.After-unders
-owed u = u .before .before .before .before
-
-abbrev summed : tie.After-look-all → tie.After-unders2
+abbrev summed : tie.After-look-all → tie.After-unders
 summed l = l .before .before .before .before .before .before
 
-abbrev called : tie.After-size → tie.Start
-called s = s .before .before .before .before .before .before .before .before .before
+abbrev called : tie.After-size2 → tie.Start
+called s = s .before .before .before .before .before .before .before .before .before .before .before
 
 abbrev looked : tie.After-go → tie.After-look-all
 looked g = g .before .before .before .before .before .before .before .before .before .before
@@ -33,32 +30,30 @@ sizes-requires c κs = search needs
 size-requires : tie.Need-size-requires
 size-requires c κs = search needs
 
+size-requires-2 : tie.Need-size-requires-2
+size-requires-2 c κs = search needs
+
 unders-requires : tie.Need-unders-requires
 unders-requires c κs =
     let s = called (c .before .before .before) in
     let t = s .args .t in
-    adds-up (t .count) (t .serial) (marksOf t) (t .amounts) (t .modes) (s .pre .0)
-
-unders-requires-2 : tie.Need-unders-requires-2
-unders-requires-2 c κs =
-    let s = called (sized (c .before .before .before)) in
-    let t = s .args .t in
-    adds-up (t .count) (t .serial) (marksOf t) (t .amounts) (t .modes) (s .pre .0)
+    adds-up (t .count) (t .serial) (marksOf t) (t .amounts) (t .modes) (t .needs) (s .pre .0)
 
 look-all-requires : tie.Need-look-all-requires
 look-all-requires c κs =
     let u = c .before .before .before .before .before in
-    let s = called (sized (owed u)) in
+    let s = called (sized u) in
     let t = s .args .t in
-    (adds-up (t .count) (t .serial) (marksOf t) (t .amounts) (t .modes) (s .pre .0), looks-up (t .count) (t .serial) (marksOf t) (t .amounts) (t .modes) (s .pre .0) _ (u .unders2 .ensures))
+    (adds-up (t .count) (t .serial) (marksOf t) (t .amounts) (t .modes) (t .needs) (s .pre .0), looks-up (t .count) (t .serial) (marksOf t) (t .amounts) (t .modes) (t .needs) (s .pre .0) _ (u .unders .ensures))
 
 go-requires : tie.Need-go-requires
 go-requires c κs =
     let l = c .before .before .before .before .before .before .before .before .before in
-    let u = owed (summed l) in
-    let s = called (sized u) in
+    let u = summed l in
+    let z = sized u in
+    let s = called z in
     let t = s .args .t in
-    (enters (t .count) (t .serial) (marksOf t) (t .amounts) (t .modes) (s .pre .0) (sized u .before .sizes .ensures) (sized u .size .ensures) _ _ _ (u .unders .ensures) (summed l .unders2 .ensures) (l .look-all .ensures), s .pre .1)
+    (enters (t .count) (t .serial) (marksOf t) (t .amounts) (t .modes) (t .needs) (s .pre .0) (z .before .before .sizes .ensures) (z .before .size .ensures) (z .size2 .ensures) _ _ (u .unders .ensures) (l .look-all .ensures), s .pre .1)
 
 modes-of-requires : tie.Need-modes-of-requires
 modes-of-requires c κs = search needs
@@ -74,7 +69,7 @@ returns c =
     let w = g .go .result in
     let n = marksFrom (x .0) (x .1 .0) (x .1 .1 .0) in (
       left-over _ _ (g .go .ensures .1 .0 .size)
-          (ap {B = Ran} (λ (l : List Bool). record { book = bookFrom (w .at .count) (w .at .serial) n (x .1 .1 .1 .0) l; place = w .place; closing = w .closing; read = w .read; done = w .done }) (c .modes-of .ensures) ∙ g .go .ensures .0),
+          (ap {B = Ran} (λ (l : List Bool). record { book = bookFrom (w .at .count) (w .at .serial) n (x .1 .1 .1 .0) l (x .1 .1 .1 .1 .1 .0); place = w .place; closing = w .closing; read = w .read; done = w .done }) (c .modes-of .ensures) ∙ g .go .ensures .0),
       g .go .ensures .1 .1,
     )
 
@@ -84,8 +79,8 @@ run-spec =
     (tie.spec
     sizes-requires
     size-requires
+    size-requires-2
     unders-requires
-    unders-requires-2
     look-all-requires
     go-requires
     modes-of-requires

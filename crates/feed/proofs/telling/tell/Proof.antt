@@ -17,12 +17,12 @@ use Rattle.feed.proofs.telling.tell.Statement.{statement}
 use Rattle.feed.proofs.telling.tell.Tie as tie
 
 abbrev Inv-loop : tie.InvT-loop
-Inv-loop sort₀ live₀ tm₀ w₀ modes₀ under₀ used₀ was piece most text₀ told₀ at₀ place₀ read₀ done₀ sort live tm w modes under used text told at place read done =
-    Telling piece most (bookAt at₀ (marksFrom sort₀ live₀ tm₀) w₀ was modes₀) text told (bookAt at (marksFrom sort live tm) w was modes) place read done
-    × Going at (marksFrom sort live tm) w was modes under used
+Inv-loop sort₀ live₀ tm₀ w₀ modes₀ needs₀ used₀ was piece most text₀ told₀ at₀ place₀ read₀ done₀ sort live tm w modes needs used text told at place read done =
+    Telling piece most (bookAt at₀ (marksFrom sort₀ live₀ tm₀) w₀ was modes₀ needs₀) text told (bookAt at (marksFrom sort live tm) w was modes needs) place read done
+    × Going at (marksFrom sort live tm) w was modes needs used
 
 abbrev μ-loop : tie.MeasureT-loop
-μ-loop sort₀ live₀ tm₀ w₀ modes₀ under₀ used₀ was piece most text₀ told₀ at₀ place₀ read₀ done₀ sort live tm w modes under used text told at place read done =
+μ-loop sort₀ live₀ tm₀ w₀ modes₀ needs₀ used₀ was piece most text₀ told₀ at₀ place₀ read₀ done₀ sort live tm w modes needs used text told at place read done =
     most - read
 
 -- THE PLACES, each named once.
@@ -43,13 +43,13 @@ printed s = s .before .before .before .before .before
 
 -- the book at the start, and that after a call
 abbrev b₀ : tie.Start Inv-loop μ-loop → Book
-b₀ s = let a = s .args in bookAt (a .first) (marksFrom (a .sort .now) (a .live .now) (a .tm .now)) (a .w .now) (a .was .now) (a .modes .now)
+b₀ s = let a = s .args in bookAt (a .first) (marksFrom (a .sort .now) (a .live .now) (a .tm .now)) (a .w .now) (a .was .now) (a .modes .now) (a .needs .now)
 
 abbrev ran : tie.After-go Inv-loop μ-loop → Ran
-ran g = let x = g .go .last in ranIn (g .go .result) (marksFrom (x .0) (x .1 .0) (x .1 .1 .0)) (x .1 .1 .1 .0) (called (turn g) .args .was .now) (x .1 .1 .1 .1 .0)
+ran g = let x = g .go .last in ranIn (g .go .result) (marksFrom (x .0) (x .1 .0) (x .1 .1 .0)) (x .1 .1 .1 .0) (called (turn g) .args .was .now) (x .1 .1 .1 .1 .0) (x .1 .1 .1 .1 .1 .0)
 
 call : (g : tie.After-go Inv-loop μ-loop) → (let s = called (turn g) in let v = turn g .loop in
-    Call (s .args .piece .now) (s .args .most) (b₀ s) (v .text) (v .told) (bookAt (v .at) (marksFrom (v .sort) (v .live) (v .tm)) (v .w) (s .args .was .now) (v .modes)) (v .place) (v .read) (v .done) (ran g))
+    Call (s .args .piece .now) (s .args .most) (b₀ s) (v .text) (v .told) (bookAt (v .at) (marksFrom (v .sort) (v .live) (v .tm)) (v .w) (s .args .was .now) (v .modes) (v .needs)) (v .place) (v .read) (v .done) (ran g))
 call g =
     let v = turn g .loop in
     record {

@@ -1,6 +1,8 @@
 -- `steps::looking::past_of` meets its contract.
 use borrow.Author.Needs.{needs}
 use mathlib.Core.Path.{_≡_, ap, _∙_}
+use Prim.Native.Nat.{_<_}
+use native.Mathlib.Omega.{arith}
 use Rattle.steps.proofs.looking.past_of.Statement.{statement}
 use Rattle.steps.proofs.looking.past_of.Tie as tie
 
@@ -10,18 +12,41 @@ slot-requires c κs = search needs
 account-in-requires : tie.Need-account-in-requires
 account-in-requires c κs = (c .before .pre, c .slot .ensures .inside)
 
-cast-account-in : tie.Need-cast-account-in
-cast-account-in c = search needs
+-- its TM's place
+low : (c : tie.After-account-in) → c .account-in .result .tm < 256
+low c = rw (c .account-in .ensures) (c .before .before .pre .tms _ (c .before .slot .ensures .inside))
+
+cast-t : tie.Need-cast-t
+cast-t c = search needs
 
 account-in-requires-2 : tie.Need-account-in-requires-2
-account-in-requires-2 c κs =
-    let s = c .before .before .before in
-    (s .pre, rw (c .before .account-in .ensures) (s .pre .tms _ (c .before .before .slot .ensures .inside)))
+account-in-requires-2 c κs = (c .before .before .before .pre, low (c .before))
+
+under-at-requires : tie.Need-under-at-requires
+under-at-requires c κs = c .before .before .before .slot .ensures .inside
+
+under-at-requires-2 : tie.Need-under-at-requires-2
+under-at-requires-2 c κs = low (c .before .before .before)
+
+under-at-requires-3 : tie.Need-under-at-requires-3
+under-at-requires-3 c κs = omega arith
 
 returns : tie.Need-returns
 returns c =
-    let g = c .before .before .before .slot .ensures in
-    record { inside = g .inside; named = g .named; own = c .before .before .account-in .ensures; its = c .account-in2 .ensures }
+    let its = c .before .before .before in
+    let own = its .before .before in
+    let g = own .before .slot .ensures in
+    record {
+      inside = g .inside;
+      named = g .named;
+      own = own .account-in .ensures;
+      its = its .account-in2 .ensures;
+      under = c .before .before .under-at .ensures;
+      owed = c .before .under-at2 .ensures;
+      all = c .under-at3 .ensures;
+    }
 
 pub past-of-spec : {M : Type 1} → statement M
-past-of-spec = tie.close (tie.spec slot-requires account-in-requires cast-account-in account-in-requires-2 returns)
+past-of-spec =
+    tie.close
+    (tie.spec slot-requires account-in-requires cast-t account-in-requires-2 under-at-requires under-at-requires-2 under-at-requires-3 returns)

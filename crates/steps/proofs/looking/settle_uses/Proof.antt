@@ -2,42 +2,85 @@
 use borrow.Author.Needs.{needs}
 use mathlib.Core.Path.{_≡_, ap, _∙_}
 use native.Mathlib.Omega.{arith}
-use Rattle.steps.specs.Own.{owedBy, settled}
+use Rattle.steps.specs.Looks.{owedPut}
 use Rattle.steps.proofs.looking.settle_uses.Statement.{statement}
 use Rattle.steps.proofs.looking.settle_uses.Tie as tie
 
+-- THE PLACES, each named once.
+abbrev start : tie.After-all → tie.Start
+start c = c .before .before .before .before
+
+abbrev read : tie.After-in-tenths3 → tie.After-all
+read c = c .before .before .before
+
+cast-t : tie.Need-cast-t
+cast-t c = search needs
+
+mul-own : tie.Need-mul-own
+mul-own c = search needs
+
+element-copy-out-own : tie.Need-element-copy-out-own
+element-copy-out-own c = omega (arith, c .before .pre .0 .size, c .before .pre .4)
+
+mul-owed : tie.Need-mul-owed
+mul-owed c = search needs
+
+element-copy-out-owed : tie.Need-element-copy-out-owed
+element-copy-out-owed c = omega (arith, c .before .before .pre .0 .size, c .before .before .pre .5)
+
+element-copy-out-all : tie.Need-element-copy-out-all
+element-copy-out-all c = omega (arith, c .before .before .before .pre .0 .size)
+
 in-tenths-requires : tie.Need-in-tenths-requires
 in-tenths-requires c κs =
-    let p = c .before .pre in
+    let p = start c .pre in
     (omega (arith, p .1 .margin), p .1 .collateral)
 
 in-tenths-requires-2 : tie.Need-in-tenths-requires-2
 in-tenths-requires-2 c κs =
-    let p = c .before .before .pre in
+    let p = start (c .before) .pre in
     (omega (arith, p .2 .margin), p .2 .collateral)
 
 in-tenths-requires-3 : tie.Need-in-tenths-requires-3
 in-tenths-requires-3 c κs =
-    let p = c .before .before .before .pre in
+    let p = start (c .before .before) .pre in
     (omega (arith, p .3 .margin), p .3 .collateral)
 
 owes-requires : tie.Need-owes-requires
 owes-requires c κs =
-    let p = c .before .before .before .before .pre in
-    let o = c .before .before .in-tenths .ensures in
-    rw (o, c .before .in-tenths2 .ensures, c .in-tenths3 .ensures) (p .0, p .4, p .5, omega (arith, p .1 .margin), omega (arith, p .2 .margin), omega (arith, p .3 .margin))
-
-cast-put-owed : tie.Need-cast-put-owed
-cast-put-owed c = search needs
+    let s = start (read c) in
+    let p = s .pre in
+    rw (c .before .before .in-tenths .ensures, c .before .in-tenths2 .ensures, c .in-tenths3 .ensures) (
+      p .0 .most (s .args .i),
+      p .0 .most (s .args .old .tm),
+      p .0 .most 0,
+      omega (arith, p .1 .margin),
+      omega (arith, p .2 .margin),
+      omega (arith, p .3 .margin),
+    )
 
 put-owed-requires : tie.Need-put-owed-requires
-put-owed-requires c κs = c .before .before .before .before .before .before .before .pre .5
+put-owed-requires c κs = start (read (c .before .before)) .pre .5
 
 returns : tie.Need-returns
 returns c =
-    let s = c .before .before .before .before .before .before .before .before .args in
-    let t = c .before .before .before .before in
-    c .put-owed .ensures ∙ ap (settled (s .used .now) (s .old .tm)) (c .before .before .before .owes .ensures ∙ rw (t .before .before .in-tenths .ensures, t .before .in-tenths2 .ensures, t .in-tenths3 .ensures))
+    let t = c .before .before .before in
+    let a = start (read t) .args in
+    c .put-owed .ensures ∙ ap (owedPut (a .used .now) (a .old .tm)) (c .before .before .owes .ensures ∙ rw (t .before .before .in-tenths .ensures, t .before .in-tenths2 .ensures, t .in-tenths3 .ensures))
 
 pub settle-uses-spec : {M : Type 1} → statement M
-settle-uses-spec = tie.close (tie.spec in-tenths-requires in-tenths-requires-2 in-tenths-requires-3 owes-requires cast-put-owed put-owed-requires returns)
+settle-uses-spec =
+    tie.close
+    (tie.spec
+    cast-t
+    mul-own
+    element-copy-out-own
+    mul-owed
+    element-copy-out-owed
+    element-copy-out-all
+    in-tenths-requires
+    in-tenths-requires-2
+    in-tenths-requires-3
+    owes-requires
+    put-owed-requires
+    returns)

@@ -1,0 +1,3 @@
+pub mod Lines
+pub mod Made
+pub mod ByCode

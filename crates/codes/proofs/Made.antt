@@ -1,0 +1,109 @@
+-- What a code's function shows where it returns: a line of its own that applies, or its words put.
+use mathlib.Core.Bool.{Bool, true, false}
+use mathlib.Core.List.{List, [], _∷_}
+use mathlib.Core.Path.{_≡_, refl, sym, ap, _∙_}
+use Prim.Native.Nat.{ℕ, _+_, _*_, _≤_, _<_}
+use native.Mathlib.Omega.{arith}
+use lib.Dec.{ltb}
+use lib.ListN.{getD, set}
+use Rattle.sums.specs.Choice.{pick}
+use Rattle.sums.specs.Table.{Line, _when_, first}
+use Rattle.sums.proofs.Lists.{at-listTo}
+use Rattle.rows.specs.declared.Kinds.{Kinds}
+use Rattle.rows.specs.declared.Row.{Row}
+use Rattle.rows.specs.declared.Account.{Account}
+use Rattle.rows.specs.Rows.{ceiling, accountOf, withReceived, withAllocated, withPledged, withMargin}
+use Rattle.rows.specs.Facts.{InRange}
+use Rattle.table.specs.Words.{Marks, rowIn}
+use Rattle.table.specs.Facts.{Sized}
+use Rattle.table.specs.Inner.{putKinds, Anew}
+use Rattle.table.proofs.RowsPut.{received-put, allocated-put, pledged-put, margin-put}
+use Rattle.rows.proofs.NeedSums.{under-cm-most, due-most}
+use Rattle.rules.specs.Inner.{topMargin}
+use Rattle.codes.specs.declared.settling.Owed.{Owed}
+use Rattle.codes.specs.Own.{accountIn, underIn, undersIn, overIn, owedBy, owedIn, Held, Answers}
+
+-- the first line of two or of one
+pub here : (k : ℕ) (t : Bool) (rest : List Line) → t ≡ true → k ≡ first ((k when t) ∷ rest)
+unfolding first pick
+here k t rest e = rw e
+
+pub next : (k : ℕ) (t : Bool) (rest : List Line) (n : ℕ) → t ≡ false → n ≡ first rest → n ≡ first ((k when t) ∷ rest)
+unfolding first pick
+next k t rest n e h = rw e h
+
+pub none : 0 ≡ first []
+unfolding first
+none = refl
+
+module _ {m : Marks} {w : List ℕ} {i : ℕ} {x : Row} {own : List Line} where
+  pub opens-not : (k : ℕ) → k ≡ first own → (k ≡ 0 → ⊥) → Answers m w i x own k m w
+  opens-not k e ne = record { number = e; puts = λ z. absurd (ne z); stays = λ z. (refl, refl) }
+
+  pub opens : {n : Marks} {u : List ℕ} → 0 ≡ first own → Anew m w i x n u → Answers m w i x own 0 n u
+  opens e h = record { number = e; puts = λ z. h; stays = λ ne. absurd (ne refl) }
+
+module _ {m : Marks} {w : List ℕ} {i : ℕ} where
+  pub refuses : {x : Row} (k : ℕ) (own : Row → List Line) (row : Row) → row ≡ rowIn m w i → k ≡ first (own row) → (k ≡ 0 → ⊥)
+      → Answers m w i x (own (rowIn m w i)) k m w
+  refuses k own row er e ne = record { number = e ∙ ap (λ q. first (own q)) er; puts = λ z. absurd (ne z); stays = λ z. (refl, refl) }
+
+  pub puts : {x : Row} {n : Marks} {u : List ℕ} (own : Row → List Line) (row : Row) → row ≡ rowIn m w i → 0 ≡ first (own row) → Anew m w i x n u
+      → Answers m w i x (own (rowIn m w i)) 0 n u
+  puts own row er e h = record { number = e ∙ ap (λ q. first (own q)) er; puts = λ z. h; stays = λ ne. absurd (ne refl) }
+
+  -- what the sum after a change asks of the two accounts
+  pub settles : {under : List ℕ} (row new : Row) (a b : Account) → Held m w under i → row ≡ rowIn m w i → a ≡ accountOf row → b ≡ accountOf new → InRange new
+      → Held m w under i × (a .tm < 256) × (a .margin ≤ ceiling) × (b .margin ≤ ceiling)
+  settles row new a b h er ea eb g =
+      (h, rw (ea, er) (h .tm), rw (ea, er) (h .ranges i (h .inside) .margin), rw eb (g .margin))
+
+  pub ranged : {under : List ℕ} (row : Row) → Held m w under i → row ≡ rowIn m w i → InRange row
+  ranged row h er = rw er (h .ranges i (h .inside))
+
+  -- the words that each setter puts
+  module _ (s : Sized m w) (l : i < 256) (new : Row) {u : List ℕ} where
+    pub received-anew : (x : Kinds) → new ≡ withReceived (rowIn m w i) x → u ≡ putKinds w 0 i (new .received) → Anew m w i (withReceived (rowIn m w i) x) m u
+    received-anew x en eu = rw (eu, en) (received-put m w i s l x)
+
+    pub allocated-anew : (x : Kinds) → new ≡ withAllocated (rowIn m w i) x → u ≡ putKinds w 4 i (new .allocated) → Anew m w i (withAllocated (rowIn m w i) x) m u
+    allocated-anew x en eu = rw (eu, en) (allocated-put m w i s l x)
+
+    pub pledged-anew : (x : ℕ) → new ≡ withPledged (rowIn m w i) x → u ≡ set w (256 * 8 + i) (new .pledged) → Anew m w i (withPledged (rowIn m w i) x) m u
+    pledged-anew x en eu = rw (eu, en) (pledged-put m w i s l x)
+
+    pub margin-anew : (x : ℕ) → new ≡ withMargin (rowIn m w i) x → u ≡ set w (256 * 9 + i) (new .margin) → Anew m w i (withMargin (rowIn m w i) x) m u
+    margin-anew x en eu = rw (eu, en) (margin-put m w i s l x)
+
+-- what is under an account, by its word and its kept need
+pub under-is : (w needs : List ℕ) (j : ℕ) → j < 256 → getD (undersIn w needs) j 0 ≡ underIn w needs j
+under-is w needs j l = at-listTo (underIn w needs) 256 j 0 l
+
+-- part by part
+pub owed-eq : {own own′ owed owed′ all all′ : ℕ} {its its′ : Account} (old new : Account) → own ≡ own′ → owed ≡ owed′ → all ≡ all′ → its ≡ its′
+    → owedBy own owed all old new its ≡ owedBy own′ owed′ all′ old new its′
+owed-eq old new e₁ e₂ e₃ e₄ = rw (e₁, e₂, e₃, e₄)
+
+-- the cover test of a new margin, part by part
+pub over-is : (m : Marks) (w under : List ℕ) (i y : ℕ) (row new : Row) (a b top : Account) (d : Owed) (t : Bool) → row ≡ rowIn m w i → new ≡ withMargin row y
+    → a ≡ accountOf row → b ≡ accountOf new → top ≡ accountIn m w 0 → d ≡ owedIn m w under i a b → t ≡ ltb (top .collateral) (topMargin a top y + d .cm)
+    → overIn m w under i y ≡ t
+over-is m w under i y row new a b top d t er en ea eb ep ed et = rw (et, ed, ep, eb, ea, en, er)
+
+-- no word passes
+pub owed-most : {m : Marks} {w under : List ℕ} {i : ℕ} (a b : Account) (d : Owed) → Held m w under i → a .tm < 256 → b .margin ≤ ceiling → d ≡ owedIn m w under i a b
+    → (d .tm ≤ 10_000_000_000_000_000_000) × (d .cm ≤ 10_000_000_000_000_000_000)
+owed-most {m} {w} {under} {i} a b d h l g e =
+    rw e (
+      omega (arith, due-most b, h .most (a .tm)),
+      omega (arith, under-cm-most a b (accountIn m w (a .tm)) (getD under i 0) (getD under (a .tm) 0) (getD under 0 0), h .most i, h .most (a .tm), h .most 0, h .ranges (a .tm) l .margin),
+    )
+
+-- a row with a new margin is in range
+pub margin-in : (q : Row) (y : ℕ) → InRange q → y ≤ ceiling → InRange (withMargin q y)
+margin-in q y h l = omega (arith, h)
+
+-- the same answer to the same table
+pub as-amended : {m n : Marks} {w : List ℕ} {i k : ℕ} {x y : Row} {own table : List Line} {u : List ℕ} → y ≡ x → first table ≡ first own
+    → Answers m w i x own k n u → Answers m w i y table k n u
+as-amended ex eo a = record { number = a .number ∙ sym eo; puts = λ z. rw ex (a .puts z); stays = a .stays }

@@ -1,0 +1,107 @@
+-- `codes::own::unpledge` meets its contract.
+use mathlib.Core.Path.{_≡_, refl, sym, ap, _∙_}
+use Prim.Native.Nat.{_+_, _-_}
+use native.Mathlib.Omega.{arith}
+use mathlib.Core.List.{List}
+use lib.ListN.{getD}
+use borrow.Author.Tests.{lt-ltb, le-ltb}
+use Rattle.sums.specs.Table.{Line}
+use Rattle.rows.specs.declared.Row.{Row}
+use Rattle.rows.specs.Rows.{collateral, withPledged}
+use Rattle.rows.specs.View.{freeOf}
+use Rattle.codes.specs.Own.{undersIn, unpledgeLines}
+use Rattle.codes.proofs.Made.{here, next, none, refuses, puts, ranged, under-is, pledged-anew}
+use borrow.Author.Needs.{needs}
+use Rattle.codes.proofs.own.unpledge.Statement.{statement}
+use Rattle.codes.proofs.own.unpledge.Tie as tie
+
+-- THE PLACES, each named once.
+abbrev start : tie.Else1 → tie.Start
+start c = c .before .before .before .before
+
+abbrev enough : tie.After-free-with → tie.Else1
+enough c = c .before .before .before .before
+
+-- the code's own lines, by the row
+abbrev own : tie.Start → Row → List Line
+own s q = unpledgeLines q (freeOf (q .margin + getD (undersIn (s .args .w .now) (s .args .needs .now)) (s .args .i) 0) (collateral q)) (s .args .y)
+
+under-at-is : (c : tie.After-under-at) → (let s = start (c .before .before .before) in c .under-at .result ≡ getD (undersIn (s .args .w .now) (s .args .needs .now)) (s .args .i) 0)
+under-at-is c = let s = start (c .before .before .before) in c .under-at .ensures ∙ sym (under-is (s .args .w .now) (s .args .needs .now) (s .args .i) (s .pre .inside))
+
+free-is : (c : tie.After-free-with) → (let s = start (enough c) in
+    let q = enough c .before .before .row-at .result in
+    c .free-with .result ≡ freeOf (q .margin + getD (undersIn (s .args .w .now) (s .args .needs .now)) (s .args .i) 0) (collateral q))
+free-is c =
+    let s = start (enough c) in
+    c .free-with .ensures ∙ ap (λ n. freeOf (c .before .before .before .account-of .result .margin + n) (c .before .before .before .account-of .result .collateral)) (under-at-is (c .before))
+    ∙ ap (λ q. freeOf (q .margin + getD (undersIn (s .args .w .now) (s .args .needs .now)) (s .args .i) 0) (q .collateral)) (c .before .before .before .account-of .ensures)
+
+row-at-requires : tie.Need-row-at-requires
+row-at-requires c κs = search needs
+
+returns : tie.Need-returns
+returns c = refuses 11 (own (c .before .before .before .before)) _ (c .before .before .row-at .ensures) (here 11 _ _ (lt-ltb _ _ (c .if1 .taken))) (λ z. omega arith)
+
+account-of-requires : tie.Need-account-of-requires
+account-of-requires c κs = ranged _ (start c .pre) (c .before .before .row-at .ensures)
+
+under-at-requires : tie.Need-under-at-requires
+under-at-requires c κs = start (c .before .before) .pre .inside
+
+free-with-requires : tie.Need-free-with-requires
+free-with-requires c κs =
+    let e = c .before .before .before in
+    let s = start e in
+    (rw (c .before .before .account-of .ensures) (omega (arith, ranged _ (s .pre) (e .before .before .row-at .ensures))), rw (under-at-is c) (omega (arith, s .pre .most (s .args .i))))
+
+returns-2 : tie.Need-returns-2
+returns-2 c =
+    let f = c .before in
+    let e = enough f in
+    refuses 12 (own (start e)) _ (e .before .before .row-at .ensures)
+    (next 11 _ _ 12 (le-ltb _ _ (e .if1 .left)) (here 12 _ _ (rw (← free-is f) (lt-ltb _ _ (c .if2 .taken))))) (λ z. omega arith)
+
+with-pledged-requires : tie.Need-with-pledged-requires
+with-pledged-requires c κs = search needs
+
+mul-w : tie.Need-mul-w
+mul-w c = search needs
+
+add-w : tie.Need-add-w
+add-w c = omega (arith, start (enough (c .before .before .before)) .pre .inside)
+
+mul-w-2 : tie.Need-mul-w-2
+mul-w-2 c = omega (arith, start (enough (c .before .before .before)) .pre .inside)
+
+element-write-w : tie.Need-element-write-w
+element-write-w c = omega (arith, start (enough (c .before .before .before)) .pre .inside)
+
+returns-3 : tie.Need-returns-3
+returns-3 c =
+    let passed = c .before .before in
+    let f = passed .before in
+    let e = enough f in
+    let s = start e in
+    let row-at = e .before .before .row-at in
+    puts (own s) _ (row-at .ensures)
+    (next 11 _ _ 0 (le-ltb _ _ (e .if1 .left)) (next 12 _ _ 0 (rw (← free-is f) (le-ltb _ _ (passed .if2 .left))) none))
+    (pledged-anew (s .pre .size) (s .pre .inside) _ _
+    (c .with-pledged .ensures ∙ ap (λ q. withPledged q (q .pledged - s .args .y)) (row-at .ensures)) refl)
+
+pub unpledge-spec : {M : Type 1} → statement M
+unpledge-spec =
+    tie.close
+    (tie.spec
+    row-at-requires
+    returns
+    account-of-requires
+    under-at-requires
+    free-with-requires
+    returns-2
+    with-pledged-requires
+    mul-w
+    add-w
+    mul-w-2
+    element-write-w
+    returns-3)

@@ -1,0 +1,173 @@
+-- Each code's own lines of document 01's table of refusals, and the words that it puts: only for internal functions.
+use mathlib.Core.Bool.{Bool, true, false, not, _&&_, _||_}
+use mathlib.Core.List.{List, [], _∷_, _++_}
+use mathlib.Core.Path.{_≡_}
+use Prim.Native.Nat.{ℕ, _+_, _-_, _≤_, _<_}
+use lib.Dec.{eqb, leb, ltb}
+use lib.ListN.{getD, drop}
+use Rattle.sums.specs.Choice.{pick}
+use Rattle.sums.specs.Sum.{any}
+use Rattle.sums.specs.Table.{Line, _when_, first}
+use Rattle.rows.specs.declared.Kinds.{Kinds}
+use Rattle.rows.specs.declared.Row.{Row}
+use Rattle.rows.specs.declared.Account.{Account}
+use Rattle.rows.specs.Rows.{ceiling, addedUp, plusKinds, lessKinds, accountOf, openedRow, withLive, withReceived, withAllocated, withPledged, withMargin}
+use Rattle.rows.specs.Ranges.{kindsCapped, kindsWithin, noAmounts}
+use Rattle.rows.specs.Facts.{InRange}
+use Rattle.rows.specs.View.{freeOf}
+use Rattle.rows.specs.Under.{atMargin, underTM, underCM, undersBy}
+use Rattle.dayfile.specs.declared.Record.{Record}
+use Rattle.dayfile.specs.Records.{faults, knownCode}
+use Rattle.rules.specs.declared.Seen.{Seen}
+use Rattle.rules.specs.Effects.{amended}
+use Rattle.rules.specs.Inner.{AmountsIn, from7, topMargin, seenWith}
+use Rattle.table.specs.Words.{Marks, rowIn, wordAt}
+use Rattle.table.specs.Facts.{Sized}
+use Rattle.table.specs.Inner.{Anew}
+use Rattle.codes.specs.declared.settling.Owed.{Owed}
+
+-- the lines before 8, which ask nothing of the code, where it is known whether the account is live
+abbrev pub before8 : Bool → ℕ → Record → List Line
+before8 alive serial r = (3 when not (eqb (r .serial) serial)) ∷ (faults r ++ ((7 when not alive) ∷ []))
+
+unfoldable pub earlyNumber : Bool → ℕ → Record → ℕ
+earlyNumber alive serial r = first (before8 alive serial r)
+
+-- the account's number was given, and it is live
+abbrev pub aliveIn : List Bool → ℕ → ℕ → Bool
+aliveIn live count a = ltb a count && getD live a false
+
+-- the lines from 8 on
+abbrev pub from8 : Row → ℕ → Seen → Record → List Line
+from8 row count seen r = drop 1 (from7 row count seen r)
+
+-- "8: opening: the account named is of the wrong sort"; "9: opening with 256 numbers given"
+abbrev pub openLines : Row → ℕ → ℕ → List Line
+openLines row code count = (8 when not (eqb (row .sort) (pick (eqb code 2) 1 0))) ∷ (9 when leb 256 count) ∷ []
+
+-- "10: receive .. would carry an amount past the ceiling"
+abbrev pub receiveLines : Row → Kinds → List Line
+receiveLines row k = (10 when not (kindsCapped (plusKinds (row .received) k))) ∷ []
+
+-- "11: hand back of more than received less allocated, allocate of more than that"
+abbrev pub leftLines : Row → Kinds → List Line
+leftLines row k = (11 when not (kindsWithin k (lessKinds (row .received) (row .allocated)))) ∷ []
+
+-- "11: .. release of more than allocated"; "12: release (its kinds added up) .. of more than the account's free"
+abbrev pub releaseLines : Row → ℕ → Kinds → List Line
+releaseLines row left k = (11 when not (kindsWithin k (row .allocated))) ∷ (12 when ltb left (addedUp k)) ∷ []
+
+-- "10: .. pledge would carry an amount past the ceiling"
+abbrev pub pledgeLines : Row → ℕ → List Line
+pledgeLines row x = (10 when ltb ceiling (row .pledged + x)) ∷ []
+
+-- "11: .. unpledge of more than pledged"; "12: .. unpledge of more than the account's free"
+abbrev pub unpledgeLines : Row → ℕ → ℕ → List Line
+unpledgeLines row left x = (11 when ltb (row .pledged) x) ∷ (12 when ltb left x) ∷ []
+
+-- "13: after the new margin the CM's need would pass its collateral"
+abbrev pub marginLines : Bool → List Line
+marginLines over = (13 when over) ∷ []
+
+-- "8: .. retiring: account 0"; "14: retiring an account with any amount not zero, or a TM with a live client"
+abbrev pub retireLines : Row → ℕ → Bool → List Line
+retireLines row a tied = (8 when eqb a 0) ∷ (14 when (not (noAmounts row) || tied)) ∷ []
+
+-- account i is a live client of account a, by three columns
+abbrev pub clientIn : Marks → ℕ → ℕ → Bool
+clientIn m a i = eqb (getD (m .sort) i 0) 2 && eqb (getD (m .tm) i 0) a && getD (m .live) i false
+
+-- a TM has a live client
+unfoldable pub tiedIn : Marks → ℕ → ℕ → Bool
+tiedIn m count a = pick (eqb (getD (m .sort) a 0) 1) (any count (clientIn m a)) false
+
+-- the account at place i, and what is free of it
+abbrev pub accountIn : Marks → List ℕ → ℕ → Account
+accountIn m w i = accountOf (rowIn m w i)
+
+abbrev pub freeIn : Marks → List ℕ → List ℕ → ℕ → ℕ
+freeIn m w under i = freeOf (accountIn m w i .margin + getD under i 0) (accountIn m w i .collateral)
+
+-- what is deemed under the account at place j: its kept need less its margin (K3)
+abbrev pub underIn : List ℕ → List ℕ → ℕ → ℕ
+underIn w needs j = getD needs j 0 - wordAt w 9 j
+
+abbrev pub undersIn : List ℕ → List ℕ → List ℕ
+undersIn w needs = undersBy (wordAt w 9) needs
+
+-- what is under its TM and under the CM after an account changed from a to x, where its TM's is given, and so much is under each of the three
+abbrev pub owedBy : ℕ → ℕ → ℕ → Account → Account → Account → Owed
+owedBy own owed all a x its = record { tm = underTM a x owed; cm = underCM a x own its owed all }
+
+abbrev pub owedIn : Marks → List ℕ → List ℕ → ℕ → Account → Account → Owed
+owedIn m w under i a x = owedBy (getD under i 0) (getD under (a .tm) 0) (getD under 0 0) a x (accountIn m w (a .tm))
+
+-- the CM's need would pass its collateral after the margin x
+abbrev pub overIn : Marks → List ℕ → List ℕ → ℕ → ℕ → Bool
+overIn m w under i x =
+    ltb (accountIn m w 0 .collateral)
+    (topMargin (accountIn m w i) (accountIn m w 0) x + owedIn m w under i (accountIn m w i) (atMargin (accountIn m w i) x) .cm)
+
+-- what is seen of the other rows
+abbrev pub seenIn : ℕ → Marks → List ℕ → List ℕ → Record → Seen
+seenIn count m w under r =
+    let i = r .account in
+    let p = getD (m .tm) i 0 in
+    seenWith (accountIn m w i) (getD under i 0) (accountIn m w p) (getD under p 0) (accountIn m w 0) (getD under 0 0) (tiedIn m count i) r
+
+-- what a code's function needs of the words at account i
+pub record Held (m : Marks) (w under : List ℕ) (i : ℕ) : Type 0 where
+  pub size : Sized m w
+  pub inside : i < 256
+  pub tm : getD (m .tm) i 0 < 256
+  pub ranges : (j : ℕ) → j < 256 → InRange (rowIn m w j)
+  pub most : (j : ℕ) → getD under j 0 ≤ 2_560_000_000_000_000
+
+-- k is the first of the code's own lines that applies, or 0: then the row at place i is put anew as x, and else no word changes
+pub record Answers (m : Marks) (w : List ℕ) (i : ℕ) (x : Row) (own : List Line) (k : ℕ) (n : Marks) (u : List ℕ) : Type 0 where
+  pub number : k ≡ first own
+  pub puts : k ≡ 0 → Anew m w i x n u
+  pub stays : (k ≡ 0 → ⊥) → (n ≡ m) × (u ≡ w)
+
+-- each code's function
+abbrev pub Opens : Marks → List ℕ → ℕ → ℕ → ℕ → ℕ → Marks → List ℕ → Type 0
+Opens m w count code a = Answers m w count (openedRow code a) (openLines (rowIn m w a) code count)
+
+abbrev pub Receives : Marks → List ℕ → ℕ → Kinds → ℕ → List ℕ → Type 0
+Receives m w i k x = Answers m w i (withReceived (rowIn m w i) (plusKinds (rowIn m w i .received) k)) (receiveLines (rowIn m w i) k) x m
+
+abbrev pub HandsBack : Marks → List ℕ → ℕ → Kinds → ℕ → List ℕ → Type 0
+HandsBack m w i k x = Answers m w i (withReceived (rowIn m w i) (lessKinds (rowIn m w i .received) k)) (leftLines (rowIn m w i) k) x m
+
+abbrev pub Allocates : Marks → List ℕ → ℕ → Kinds → ℕ → List ℕ → Type 0
+Allocates m w i k x = Answers m w i (withAllocated (rowIn m w i) (plusKinds (rowIn m w i .allocated) k)) (leftLines (rowIn m w i) k) x m
+
+abbrev pub Releases : Marks → List ℕ → List ℕ → ℕ → Kinds → ℕ → List ℕ → Type 0
+Releases m w under i k x =
+    Answers m w i (withAllocated (rowIn m w i) (lessKinds (rowIn m w i .allocated) k)) (releaseLines (rowIn m w i) (freeIn m w under i) k) x m
+
+abbrev pub Pledges : Marks → List ℕ → ℕ → ℕ → ℕ → List ℕ → Type 0
+Pledges m w i y x = Answers m w i (withPledged (rowIn m w i) (rowIn m w i .pledged + y)) (pledgeLines (rowIn m w i) y) x m
+
+abbrev pub Unpledges : Marks → List ℕ → List ℕ → ℕ → ℕ → ℕ → List ℕ → Type 0
+Unpledges m w under i y x =
+    Answers m w i (withPledged (rowIn m w i) (rowIn m w i .pledged - y)) (unpledgeLines (rowIn m w i) (freeIn m w under i) y) x m
+
+abbrev pub SetsMargin : Marks → List ℕ → List ℕ → ℕ → ℕ → ℕ → List ℕ → Type 0
+SetsMargin m w under i y x = Answers m w i (withMargin (rowIn m w i) y) (marginLines (overIn m w under i y)) x m
+
+abbrev pub Retires : Marks → List ℕ → ℕ → ℕ → ℕ → Marks → Type 0
+Retires m w count i x n = Answers m w i (withLive (rowIn m w i) false) (retireLines (rowIn m w i) i (tiedIn m count i)) x n w
+
+-- document 01's answer to a record that is no opening and passed the lines before 8, whichever its code
+abbrev pub Answered : ℕ → Marks → List ℕ → List ℕ → Record → ℕ → Marks → List ℕ → Type 0
+Answered count m w under r =
+    Answers m w (r .account) (amended (rowIn m w (r .account)) r) (from8 (rowIn m w (r .account)) count (seenIn count m w under r) r)
+
+-- such a record
+pub record Amending (count : ℕ) (m : Marks) (w under : List ℕ) (r : Record) : Type 0 where
+  pub held : Held m w under (r .account)
+  pub amounts : AmountsIn r
+  pub low : 4 ≤ r .code
+  pub known : knownCode (r .code) ≡ true
+  pub most : count ≤ 256

@@ -1,0 +1,79 @@
+-- `report::need::put_list` meets its contract. The invariant: the lines of the accounts below i stand in the room, at most 42 bytes each.
+use borrow.Author.Needs.{needs}
+use mathlib.Core.Path.{_≡_}
+use Prim.Native.Nat.{ℕ, _*_, _-_, _≤_}
+use native.Mathlib.Numerals.{add-one}
+use native.Mathlib.Omega.{arith}
+use lib.ListN.{length, getD}
+use Rattle.lines.specs.Inner.{Puts}
+use Rattle.lines.proofs.Puts.{and-then, puts-length}
+use Rattle.report.specs.Reports.{needLines}
+use Rattle.report.proofs.Puts.{none}
+use Rattle.report.proofs.need.put_list.Statement.{statement}
+use Rattle.report.proofs.need.put_list.Tie as tie
+
+abbrev Inv-loop : tie.InvT-loop
+Inv-loop room₀ needs at₀ i₀ room at i = Puts room₀ 0 (needLines (λ (j : ℕ). getD needs j 0) i) room at × (at ≤ 42 * i) × (i ≤ length needs)
+
+abbrev μ-loop : tie.MeasureT-loop
+μ-loop room₀ needs at₀ i₀ room at i = length needs - i
+
+-- where a round begins, and where its line is put
+abbrev round : tie.After-list Inv-loop μ-loop → tie.At-loop Inv-loop μ-loop
+round c = c .before .before .before .before
+
+abbrev put : tie.After-slice-known2 Inv-loop μ-loop → tie.After-put-spaced Inv-loop μ-loop
+put c = c .before .before
+
+loop-holds : tie.Need-loop-holds Inv-loop μ-loop
+unfolding needLines
+loop-holds c = (none _ _ (omega arith) (omega arith), omega arith, omega arith)
+
+mul-need : tie.Need-mul-need Inv-loop μ-loop
+mul-need c = omega arith
+
+shared-slice-read-need : tie.Need-shared-slice-read-need Inv-loop μ-loop
+shared-slice-read-need c = omega arith
+
+slice-aggregate-put-spaced : tie.Need-slice-aggregate-put-spaced Inv-loop μ-loop
+slice-aggregate-put-spaced c = search needs
+
+put-spaced-requires : tie.Need-put-spaced-requires Inv-loop μ-loop
+put-spaced-requires c κs = omega (arith, puts-length (round c .loop .inv .0))
+
+add-i : tie.Need-add-i Inv-loop μ-loop
+add-i c = omega arith
+
+loop-less : tie.Need-loop-less Inv-loop μ-loop
+loop-less c = omega arith
+
+loop-again : tie.Need-loop-again Inv-loop μ-loop
+unfolding needLines
+loop-again c =
+    let l = round (put c .before) .loop in
+    (rw (add-one (l .i)) (and-then _ _ (l .inv .0) (put c .put-spaced .ensures .0)), omega arith, omega arith)
+
+same-length : tie.Need-same-length Inv-loop μ-loop
+same-length c = puts-length (c .before .loop .inv .0)
+
+returns : tie.Need-returns Inv-loop μ-loop
+returns c =
+    let l = c .before .loop in
+    let e : l .i ≡ length (c .before .before .before .before .args .needs .now) = omega arith in rw e at (l .inv .0)
+
+pub put-list-spec : {M : Type 1} → statement M
+put-list-spec =
+    tie.close
+    (tie.spec
+    Inv-loop
+    μ-loop
+    loop-holds
+    mul-need
+    shared-slice-read-need
+    slice-aggregate-put-spaced
+    put-spaced-requires
+    add-i
+    loop-less
+    loop-again
+    same-length
+    returns)

@@ -1,0 +1,181 @@
+//! Days about needs that move with a record, or just don't: those of an
+//! account's TM and of the CM. They are short enough for a bundle.
+
+use super::deemed::{fund_by_sort, open_groups};
+use super::maker::Maker;
+use super::steer::{open_any, release_free, step, unpledge_free, wind_down_account};
+use crate::book::{Sort, CEILING, KINDS};
+use crate::dayfile::*;
+
+/// Every kind of move in every day, whatever the seed. At the end TMs stand
+/// about their collateral by what a client of each is deemed.
+pub fn moved(maker: &mut Maker) {
+    for _ in 0..maker.rng.below(4) {
+        open_any(maker);
+    }
+    about(maker, 0);
+    let for_all = 4 * amount(maker);
+    maker.say_pledge(PLEDGE, 0, for_all);
+    let cp = maker.opened(OPEN_CP, 0);
+    about(maker, cp);
+    let tm = maker.opened(OPEN_TM, 0);
+    about(maker, tm);
+    let for_clients = amount(maker);
+    deposit(maker, tm, for_clients);
+    let neighbour = maker.opened(OPEN_CLIENT, tm);
+    let deemed = maker.rng.between(1, 3);
+    maker.say_margin(neighbour, deemed);
+    let client = maker.opened(OPEN_CLIENT, tm);
+    about(maker, client);
+    about_tm(maker, tm, client);
+    for account in [client, neighbour, tm, cp] {
+        wind_down_account(maker, account);
+    }
+    for stand in 0..4 {
+        stay(maker, stand);
+    }
+}
+
+/// Enough for parts of it to be taken out.
+fn amount(maker: &mut Maker) -> u64 {
+    maker.amount() + 5
+}
+
+fn own(maker: &Maker, account: u16) -> u64 {
+    maker.book.rows[usize::from(account)].collateral()
+}
+
+fn of_one_kind(kind: usize, amount: u64) -> [u64; KINDS] {
+    let mut kinds = [0; KINDS];
+    kinds[kind] = amount;
+    kinds
+}
+
+fn allocate_new(maker: &mut Maker, account: u16, kind: usize, amount: u64) {
+    maker.say_kinds(RECEIVE, account, of_one_kind(kind, amount));
+    maker.say_kinds(ALLOCATE, account, of_one_kind(kind, amount));
+}
+
+/// As an allocation, or as a pledge.
+fn deposit(maker: &mut Maker, account: u16, amount: u64) {
+    if maker.rng.one_in(2) {
+        let kind = maker.rng.below(4) as usize;
+        allocate_new(maker, account, kind, amount);
+    } else {
+        maker.say_pledge(PLEDGE, account, amount);
+    }
+}
+
+/// About the account's own collateral: up to it, a paisa over and back again
+/// by its margin, by an allocation and by a pledge. For the CM over is 13.
+fn about(maker: &mut Maker, account: u16) {
+    let (kind, part, pledged) = (maker.rng.below(4) as usize, amount(maker), amount(maker));
+    allocate_new(maker, account, kind, part);
+    maker.say_pledge(PLEDGE, account, pledged);
+    let whole = part + pledged;
+    for margin in [whole - 1, whole, whole + 1, whole, whole, whole + 1] {
+        maker.say_margin(account, margin);
+    }
+    allocate_new(maker, account, kind, 1);
+    maker.say_margin(account, whole + 2);
+    maker.say_pledge(PLEDGE, account, 1);
+    take_out_free(maker, account, kind, [part, pledged]);
+}
+
+/// A lower margin, and what is free then is taken out to the last paisa: of
+/// what is allocated, and of what is pledged.
+fn take_out_free(maker: &mut Maker, account: u16, kind: usize, parts: [u64; 2]) {
+    let [released, unpledged] = parts.map(|part| maker.rng.between(3, part - 1));
+    let left = own(maker, account).saturating_sub(released);
+    maker.say_margin(account, left);
+    maker.say_kinds(RELEASE, account, of_one_kind(kind, released));
+    maker.say_kinds(HAND_BACK, account, of_one_kind(kind, released));
+    maker.say_margin(account, left.saturating_sub(unpledged));
+    maker.say_pledge(UNPLEDGE, account, unpledged);
+}
+
+/// About the TM's collateral by what the client is deemed, likewise.
+fn about_tm(maker: &mut Maker, tm: u16, client: u16) {
+    let whole = own(maker, client) + maker.book.free(usize::from(tm));
+    for margin in [whole, whole + 1, whole, whole + 1] {
+        maker.say_margin(client, margin);
+    }
+    let kind = maker.rng.below(4) as usize;
+    allocate_new(maker, client, kind, 1);
+    maker.say_margin(client, whole + 2);
+    maker.say_pledge(PLEDGE, client, 1);
+}
+
+/// A TM with a paisa free (0), with none (1), deemed a paisa (2) or more (3).
+fn stay(maker: &mut Maker, stand: u64) {
+    let tm = maker.opened(OPEN_TM, 0);
+    let client = maker.opened(OPEN_CLIENT, tm);
+    for account in [tm, client] {
+        let amount = amount(maker);
+        deposit(maker, account, amount);
+    }
+    let more = match stand {
+        3 => 3 + maker.rng.below(maker.book.free(0) / 2),
+        _ => stand,
+    };
+    let margin = (own(maker, tm) + own(maker, client) + more).saturating_sub(1);
+    maker.say_margin(client, margin.min(CEILING));
+}
+
+/// Many TMs, clients and CPs whose needs go to and fro about collaterals.
+pub fn moving(maker: &mut Maker) {
+    open_groups(maker);
+    for account in 0..maker.book.count as u16 {
+        fund_by_sort(maker, account);
+    }
+    for _ in 0..maker.usual_length() {
+        match maker.rng.below(10) {
+            0 => step(maker),
+            1 => release_free(maker),
+            2 => unpledge_free(maker),
+            3..=5 => lessen_deemed(maker),
+            _ => move_margin(maker),
+        }
+    }
+}
+
+/// To where the account, or a client's TM, is just not deemed anything, or by
+/// one paisa over or under.
+fn move_margin(maker: &mut Maker) {
+    let account = maker.live();
+    let (book, at) = (&maker.book, usize::from(account));
+    let row = &book.rows[at];
+    let others = book.need(at) - row.margin;
+    let mut edge = row.collateral().saturating_sub(others);
+    if row.sort == Sort::Client && maker.rng.one_in(2) {
+        let tm = book.answers_for(at);
+        let others = book.need(tm) - book.deemed(at);
+        edge += book.rows[tm].collateral().saturating_sub(others);
+    }
+    let margin = maker.rng.beside(edge).min(CEILING);
+    maker.say_margin(account, margin);
+}
+
+/// A deposit of what the account is deemed, or of what its TM is, or by one
+/// paisa more or less.
+fn lessen_deemed(maker: &mut Maker) {
+    let account = deemed_one(maker);
+    let (book, at) = (&maker.book, usize::from(account));
+    let (deemed, above) = (book.deemed(at), book.deemed(book.answers_for(at)));
+    let is_through = 0 < above && above < deemed && maker.rng.one_in(2);
+    let edge = if is_through { above } else { deemed };
+    let amount = maker.rng.beside(edge).clamp(1, CEILING);
+    deposit(maker, account, amount);
+}
+
+/// An account that is deemed something, if one is found soon.
+fn deemed_one(maker: &mut Maker) -> u16 {
+    let mut account = maker.live();
+    for _ in 0..12 {
+        if maker.book.deemed(usize::from(account)) > 0 {
+            break;
+        }
+        account = maker.live();
+    }
+    account
+}
