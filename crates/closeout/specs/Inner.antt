@@ -1,10 +1,10 @@
 -- Only for internal functions: no promise of a public call cites it.
-use mathlib.Core.Bool.{Bool, not, _||_}
+use mathlib.Core.Bool.{Bool, false, not, _&&_, _||_}
 use mathlib.Core.Path.{_≡_}
 use mathlib.Core.List.{List, [], _∷_, _++_}
 use Prim.Native.Nat.{ℕ, _+_, _-_, _*_, _≤_, _<_, min}
-use lib.Dec.{eqb}
-use lib.ListN.{length, take, drop}
+use lib.Dec.{eqb, leb}
+use lib.ListN.{length, getD, take, drop}
 use Rattle.sums.specs.Sum.{only}
 use Rattle.rows.specs.declared.Account.{Account}
 use Rattle.rows.specs.declared.Book.{Book}
@@ -98,6 +98,10 @@ fourOf p = p .own ∷ p .tm ∷ p .cm ∷ p .second .unpaid ∷ []
 -- the room with four amounts put in from place at on
 abbrev pub putAt : List ℕ → ℕ → List ℕ → List ℕ
 putAt room at amounts = take at room ++ amounts ++ drop (at + 4) room
+
+-- account i's loss is good, where it is known who is live
+abbrev pub goodIn : List Bool → List ℕ → ℕ → Bool
+goodIn live losses i = leb (lossAt losses i) ceiling && (getD live i false || eqb (lossAt losses i) 0)
 
 -- the checks have passed
 pub record Checked (b : Book) (losses room : List ℕ) : Type 0 where

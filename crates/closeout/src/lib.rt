@@ -1,14 +1,15 @@
 // The close-out: who pays what when positions are closed out. The book stays as it is.
 ghost use mathlib.Core.Path.{_≡_};
+ghost use mathlib.Core.List.{[]};
 ghost use Prim.Native.Nat.{_≤_};
 ghost use lib.ListN.{length};
+ghost use Rattle.sums.specs.Sum.{all};
 ghost use Rattle.book.specs.Facts.{Sound};
-ghost use Rattle.table.specs.Words.{turnedBack};
-ghost use Rattle.closeout.specs.Closing.{goodLoss, goodLosses, noTotal, closedOf, roomOf};
-use book::is_sound;
-use rows::Book;
+ghost use Rattle.table.specs.Words.{marksFrom, bookFrom, turnedBack};
+ghost use Rattle.closeout.specs.Closing.{noTotal, closedOf, roomOf};
+ghost use Rattle.closeout.specs.Inner.{goodIn};
+use book::sound::table_sound;
 use rows::CEILING;
-use rows::Row;
 use table::Table;
 
 mod pays;
@@ -19,21 +20,16 @@ pub struct Closed {
     pub total: u64,
 }
 
-fn good_loss(r: Row, loss: u64) -> bool
-    ensures { λ t. ⌜ t ≡ goodLoss r loss ⌝ }
+// Each loss is good, where it is known who is live.
+fn good_losses(live: &[bool; 256], count: u16, losses: &[u64]) -> bool
+    requires { ⌜ (length (now losses) ≡ count) × (count ≤ 256) ⌝ }
+    ensures { λ t. ⌜ t ≡ all count (goodIn (now (live .entry)) (now (losses .entry))) ⌝ }
 {
-    (loss <= CEILING) & (r.live | (loss == 0))
-}
-
-fn good_losses(b: Book, losses: &[u64]) -> bool
-    requires { ⌜ (length (now losses) ≡ b .count) × (b .count ≤ 256) ⌝ }
-    ensures { λ t. ⌜ t ≡ goodLosses b (now (losses .entry)) ⌝ }
-{
-    let n = b.count as usize;
+    let n = count as usize;
     let mut good = true;
     let mut i: usize = 0;
     while i < n {
-        good = good & good_loss(b.rows[i], losses[i]);
+        good = good & ((losses[i] <= CEILING) & (live[i] | (losses[i] == 0)));
         i += 1;
     }
     good
@@ -48,25 +44,34 @@ fn refused(n: u8) -> Closed
     }
 }
 
-// At a sound book.
-fn close_out_at(b: Book, losses: &[u64], room: &mut [u64]) -> Closed
-    requires { ⌜ Sound b ⌝ }
-    ensures { λ x. ⌜ x ≡ closedOf b (now (losses .entry)) (now (room .entry)) ⌝ }
-    ensures { λ _. ⌜ now (room .exit) ≡ roomOf b (now (losses .entry)) (now (room .entry)) ⌝ }
+// At the arrays of a sound book, in their places: neither the serial nor modes are looked at.
+fn close_out_at<'a>(
+    sort: &'a [u8; 256],
+    live: &'a [bool; 256],
+    tm: &'a [u16; 256],
+    w: &'a [u64; 2560],
+    needs: &'a [u64; 256],
+    count: u16,
+    losses: &[u64],
+    room: &mut [u64],
+) -> Closed
+    requires { ⌜ Sound (bookFrom count 0 (marksFrom (now sort) (now live) (now tm)) (now w) [] (now needs)) ⌝ }
+    ensures { λ x. ⌜ x ≡ closedOf (bookFrom count 0 (marksFrom (now (sort .entry)) (now (live .entry)) (now (tm .entry))) (now (w .entry)) [] (now (needs .entry))) (now (losses .entry)) (now (room .entry)) ⌝ }
+    ensures { λ _. ⌜ now (room .exit) ≡ roomOf (bookFrom count 0 (marksFrom (now (sort .entry)) (now (live .entry)) (now (tm .entry))) (now (w .entry)) [] (now (needs .entry))) (now (losses .entry)) (now (room .entry)) ⌝ }
 {
-    let n = b.count as usize;
+    let n = count as usize;
     if losses.len() != n {
         return refused(15);
     }
     if room.len() != 4 * n {
         return refused(15);
     }
-    if !good_losses(b, losses) {
+    if !good_losses(live, count, losses) {
         return refused(16);
     }
     Closed {
         refusal: 0,
-        total: pays::fill(b, losses, room),
+        total: pays::fill(sort, live, tm, w, needs, count, losses, room),
     }
 }
 
@@ -75,8 +80,26 @@ pub fn close_out(t: Table, losses: &[u64], room: &mut [u64]) -> Closed
     ensures answer { λ x. ⌜ x ≡ closedOf (turnedBack t) (now (losses .entry)) (now (room .entry)) ⌝ }
     ensures rows { λ _. ⌜ now (room .exit) ≡ roomOf (turnedBack t) (now (losses .entry)) (now (room .entry)) ⌝ }
 {
-    if !is_sound(t) {
+    let count = t.count;
+    if !table_sound(
+        &t.sort,
+        &t.live,
+        &t.tm,
+        &t.amounts,
+        &t.modes,
+        &t.needs,
+        count,
+    ) {
         return refused(1);
     }
-    close_out_at(table::turn_back(t), losses, room)
+    close_out_at(
+        &t.sort,
+        &t.live,
+        &t.tm,
+        &t.amounts,
+        &t.needs,
+        count,
+        losses,
+        room,
+    )
 }

@@ -1,19 +1,21 @@
 // What each account pays, in one rising pass over both rounds: own collateral, the TM's, the CM's, and what is left uncovered.
 ghost use mathlib.Core.Path.{_≡_};
+ghost use mathlib.Core.List.{[]};
 ghost use Prim.Native.Nat.{_+_, _≤_, min};
 ghost use lib.ListN.{length};
 ghost use Rattle.rows.specs.Rows.{accountOf, view};
 ghost use Rattle.rows.specs.Facts.{InRange};
+ghost use Rattle.table.specs.Words.{marksFrom, bookFrom};
 ghost use Rattle.closeout.specs.Columns.{four, rowsTo, total};
 ghost use Rattle.closeout.specs.Closing.{lossAt};
 ghost use Rattle.closeout.specs.Inner.{paidBy, roundsBy, afterOwn, fourOf, putAt, Checked};
-use rows::Book;
 use rows::Row;
 use rows::kept::free_with;
 use rows::kept::less;
 use rows::needs::account_of;
 use rows::needs::only_if;
 use rows::needs::zeros;
+use table::places::row_of;
 
 // What one account pays in one round, and what its purse keeps after its own part.
 pub(crate) struct Paid {
@@ -116,22 +118,31 @@ fn put(room: &mut [u64], at: usize, p: Both)
 // clients passed, free[t] what its free collateral has left in round two: a TM's row comes before its clients'. cm and cm_free are
 // the same of the CM's, after its own parts and the accounts passed. What is deemed under an account is its kept need less its margin
 // (K3): nothing is added up for it.
-pub(crate) fn fill(b: Book, losses: &[u64], room: &mut [u64]) -> u64
-    requires { ⌜ Checked b (now losses) (now room) ⌝ }
-    ensures { λ x. ⌜ (now (room .exit) ≡ rowsTo (four (view b) (lossAt (now (losses .entry)))) (b .count)) × (x ≡ total (view b) (lossAt (now (losses .entry)))) ⌝ }
+pub(crate) fn fill<'a>(
+    sort: &'a [u8; 256],
+    live: &'a [bool; 256],
+    tm: &'a [u16; 256],
+    w: &'a [u64; 2560],
+    needs: &'a [u64; 256],
+    count: u16,
+    losses: &[u64],
+    room: &mut [u64],
+) -> u64
+    requires { ⌜ Checked (bookFrom count 0 (marksFrom (now sort) (now live) (now tm)) (now w) [] (now needs)) (now losses) (now room) ⌝ }
+    ensures { λ x. ⌜ (now (room .exit) ≡ rowsTo (four (view (bookFrom count 0 (marksFrom (now (sort .entry)) (now (live .entry)) (now (tm .entry))) (now (w .entry)) [] (now (needs .entry)))) (lossAt (now (losses .entry)))) count) × (x ≡ total (view (bookFrom count 0 (marksFrom (now (sort .entry)) (now (live .entry)) (now (tm .entry))) (now (w .entry)) [] (now (needs .entry)))) (lossAt (now (losses .entry)))) ⌝ }
 {
     let mut left = zeros();
     let mut free = zeros();
-    let top = b.rows[0];
-    let start = after_own(top, losses[0], less(b.needs[0], top.margin));
+    let top = row_of(sort, live, tm, w, 0);
+    let start = after_own(top, losses[0], less(needs[0], top.margin));
     let mut cm = start.left;
     let mut cm_free = start.free;
     let mut uncovered: u64 = 0;
-    let n = b.count as usize;
+    let n = count as usize;
     let mut i: usize = 0;
     while i < n {
-        let r = b.rows[i];
-        let under = less(b.needs[i], r.margin);
+        let r = row_of(sort, live, tm, w, i);
+        let under = less(needs[i], r.margin);
         let t = r.tm as usize;
         let p = rounds(r, losses[i], under, left[t], cm, free[t], cm_free);
         put(room, 4 * i, p);

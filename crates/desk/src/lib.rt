@@ -93,7 +93,8 @@ fn step_at(t: Table, r: Record) -> Carried
     table::modes::size(was);
     table::needs::size(needs);
     let count = t.count;
-    let mut used = unders(&sort, &tm, &amounts, count, true);
+    let mut used = [0u64; 256];
+    unders(&sort, &tm, &amounts, count, true, &mut used);
     let mut modes = look_all(&sort, &tm, &amounts, count, &used, &was);
     let at = At {
         count,

@@ -120,7 +120,8 @@ pub fn day_of(piece: &[u8], telling: bool) -> Day
     table::sizes(sort, live, tm, amounts);
     table::modes::size(was);
     table::needs::size(needs);
-    let mut used = unders(&sort, &tm, &amounts, t.count, true);
+    let mut used = [0u64; 256];
+    unders(&sort, &tm, &amounts, t.count, true, &mut used);
     let mut modes = look_all(&sort, &tm, &amounts, t.count, &used, &was);
     let went = carry(
         &mut sort,
@@ -172,7 +173,8 @@ pub fn whole_day(telling: bool) -> Day
     table::sizes(sort, live, tm, amounts);
     table::modes::size(was);
     table::needs::size(needs);
-    let mut used = unders(&sort, &tm, &amounts, t.count, true);
+    let mut used = [0u64; 256];
+    unders(&sort, &tm, &amounts, t.count, true, &mut used);
     let mut modes = look_all(&sort, &tm, &amounts, t.count, &used, &was);
     let mut at = starting(t.count, t.serial);
     let mut kept: usize = 0;

@@ -42,7 +42,8 @@ fn run(t: Table, piece: &[u8], most: u64, room: &mut [u16], tell: bool) -> Ended
     table::modes::size(was);
     table::needs::size(needs);
     let count = t.count;
-    let mut used = unders(&sort, &tm, &amounts, count, true);
+    let mut used = [0u64; 256];
+    unders(&sort, &tm, &amounts, count, true, &mut used);
     let mut modes = look_all(&sort, &tm, &amounts, count, &used, &was);
     let first = At {
         count,

@@ -2,7 +2,7 @@
 // the same passes give K2's uses. Behind them the test of kept needs (K3).
 ghost use mathlib.Core.Path.{_≡_};
 ghost use Prim.Native.Nat.{_≤_, _<_};
-ghost use lib.ListN.{length};
+ghost use lib.ListN.{length, replicate};
 ghost use Rattle.rows.specs.Rows.{rowAt, accountOf, view};
 ghost use Rattle.rows.specs.Facts.{Shaped, NoneBeyond, InRange};
 ghost use Rattle.rows.specs.Under.{Under};
@@ -17,7 +17,6 @@ use rows::needs::client_due;
 use rows::needs::in_tenths;
 use rows::needs::member_due;
 use rows::needs::slot;
-use rows::needs::zeros;
 
 // What needs see of account i: its collateral is words 4 to 8 added up, its margin word 9.
 pub fn account_at<'a>(
@@ -53,18 +52,18 @@ fn account_as<'a>(
     if tenths { in_tenths(a) } else { a }
 }
 
-// What each account's clients are deemed, together.
+// What each account's clients are deemed, together, put into a list of zeros.
 fn client_sums<'a>(
     sort: &'a [u8; 256],
     tm: &'a [u16; 256],
     w: &'a [u64; 2560],
     count: u16,
     tenths: bool,
-) -> [u64; 256]
-    requires { ⌜ Ranged (seenBook count (now sort) (now tm) (now w)) ⌝ }
-    ensures { λ x. ⌜ ClientSums (viewAs tenths (view (seenBook count (now (sort .entry)) (now (tm .entry)) (now (w .entry))))) x ⌝ }
+    owed: &mut [u64; 256],
+)
+    requires { ⌜ Ranged (seenBook count (now sort) (now tm) (now w)) × (now owed ≡ replicate 256 0) ⌝ }
+    ensures { λ _. ⌜ ClientSums (viewAs tenths (view (seenBook count (now (sort .entry)) (now (tm .entry)) (now (w .entry))))) (now (owed .exit)) ⌝ }
 {
-    let mut owed = zeros();
     let n = count as usize;
     let mut i: usize = 0;
     while i < n {
@@ -74,7 +73,6 @@ fn client_sums<'a>(
         owed[t] = owed[t] + d;
         i += 1;
     }
-    owed
 }
 
 // What the TMs and CPs are deemed, together.
@@ -84,9 +82,9 @@ fn members_sum<'a>(
     w: &'a [u64; 2560],
     count: u16,
     tenths: bool,
-    owed: [u64; 256],
+    owed: &'a [u64; 256],
 ) -> u64
-    requires { ⌜ Ranged (seenBook count (now sort) (now tm) (now w)) × ClientSums (viewAs tenths (view (seenBook count (now sort) (now tm) (now w)))) owed ⌝ }
+    requires { ⌜ Ranged (seenBook count (now sort) (now tm) (now w)) × ClientSums (viewAs tenths (view (seenBook count (now sort) (now tm) (now w)))) (now owed) ⌝ }
     ensures { λ x. ⌜ x ≡ membersBelow (viewAs tenths (view (seenBook count (now (sort .entry)) (now (tm .entry)) (now (w .entry))))) count ⌝ }
 {
     let mut sum: u64 = 0;
@@ -100,21 +98,22 @@ fn members_sum<'a>(
     sum
 }
 
-// What is deemed directly under each account, or in tenths its excess: at the CM's place that of the TMs and CPs, at any other that of its clients.
+// What is deemed directly under each account, or in tenths its excess, put into a list of zeros: at the CM's place that of the TMs and CPs, at any other
+// that of its clients.
 pub fn unders<'a>(
     sort: &'a [u8; 256],
     tm: &'a [u16; 256],
     w: &'a [u64; 2560],
     count: u16,
     tenths: bool,
-) -> [u64; 256]
-    requires { ⌜ Ranged (seenBook count (now sort) (now tm) (now w)) × Shaped (view (seenBook count (now sort) (now tm) (now w))) ⌝ }
-    ensures { λ x. ⌜ Under (viewAs tenths (view (seenBook count (now (sort .entry)) (now (tm .entry)) (now (w .entry))))) x ⌝ }
+    under: &mut [u64; 256],
+)
+    requires { ⌜ Ranged (seenBook count (now sort) (now tm) (now w)) × Shaped (view (seenBook count (now sort) (now tm) (now w))) × (now under ≡ replicate 256 0) ⌝ }
+    ensures { λ _. ⌜ Under (viewAs tenths (view (seenBook count (now (sort .entry)) (now (tm .entry)) (now (w .entry))))) (now (under .exit)) ⌝ }
 {
-    let mut owed = client_sums(sort, tm, w, count, tenths);
-    let all = members_sum(sort, tm, w, count, tenths, owed);
-    owed[0] = all;
-    owed
+    client_sums(sort, tm, w, count, tenths, under);
+    let all = members_sum(sort, tm, w, count, tenths, under);
+    under[0] = all;
 }
 
 // The need to keep at place i (K3), where what is deemed under the account is given.
@@ -150,7 +149,8 @@ pub fn needs_kept<'a>(
     requires { ⌜ Ranged (seenBook count (now sort) (now tm) (now w)) × Shaped (view (seenBook count (now sort) (now tm) (now w))) × NoneBeyond (view (seenBook count (now sort) (now tm) (now w))) ⌝ }
     ensures { λ x. ⌜ x ≡ allKept (view (seenBook count (now (sort .entry)) (now (tm .entry)) (now (w .entry)))) (now (needs .entry)) ⌝ }
 {
-    let under = unders(sort, tm, w, count, false);
+    let mut under = [0u64; 256];
+    unders(sort, tm, w, count, false, &mut under);
     let mut ok = true;
     let mut i: usize = 0;
     while i < 256 {

@@ -1,15 +1,21 @@
 -- `closeout::close_out_at` meets its contract: each test says which refusal is the first.
 use mathlib.Core.Path.{_≡_, refl, sym, _∙_, ap}
 use mathlib.Core.Bool.{true}
-use mathlib.Core.List.{List}
+use mathlib.Core.List.{List, []}
 use Prim.Native.Nat.{ℕ, _*_}
+use native.Mathlib.Omega.{arith}
 use lib.Dec.{eqb}
 use lib.ListN.{length}
 use borrow.Author.Tests.{eq-eqb, ne-eqb, not-true, not-false}
+use Rattle.sums.proofs.Sums.{all-eq}
 use Rattle.rows.specs.declared.Book.{Book}
+use Rattle.rows.specs.Rows.{rowAt}
+use Rattle.table.specs.Words.{marksFrom, bookFrom}
+use Rattle.table.proofs.Gathered.{row-in}
 use Rattle.book.specs.Sound.{soundB}
 use Rattle.book.proofs.SoundTest.{sound→, sound←}
-use Rattle.closeout.specs.Closing.{goodLosses}
+use Rattle.closeout.specs.Closing.{lossAt, goodLoss, goodLosses}
+use Rattle.closeout.specs.Inner.{goodIn}
 use Rattle.closeout.proofs.Answers.{refused-losses, refused-room, refused-loss, none-refused, settled, losses-small}
 use borrow.Author.Needs.{needs}
 use Rattle.closeout.proofs.close_out_at.Statement.{statement}
@@ -20,7 +26,7 @@ abbrev In : Type 0
 In = tie.After-slice-known
 
 abbrev Bk : In → Book
-Bk c = c .before .before .args .b
+Bk c = let a = c .before .before .args in bookFrom (a .count) 0 (marksFrom (a .sort .now) (a .live .now) (a .tm .now)) (a .w .now) [] (a .needs .now)
 
 abbrev Ls : In → List ℕ
 Ls c = c .before .before .args .losses .now
@@ -31,15 +37,12 @@ Rm c = c .before .before .args .room .now
 sound : (c : In) → soundB (Bk c) ≡ true
 sound c = sound← _ (c .before .before .pre)
 
-cast-n : tie.Need-cast-n
-cast-n c = search needs
-
 refused-requires : tie.Need-refused-requires
 refused-requires c κs = search needs
 
 returns : tie.Need-returns
 returns c =
-    let at = c .before .before .before in
+    let at = c .before .before in
     settled (Bk at) (Ls at) (Rm at) 15 (refused-losses (Bk at) (Ls at) (Rm at) (sound at) (ne-eqb _ _ (c .before .if1 .taken))) (c .refused .ensures) refl
 
 mul-if2 : tie.Need-mul-if2
@@ -50,15 +53,15 @@ refused-requires-2 c κs = search needs
 
 returns-2 : tie.Need-returns-2
 returns-2 c =
-    let at = c .before .before .before .before in
+    let at = c .before .before .before in
     settled (Bk at) (Ls at) (Rm at) 15 (refused-room (Bk at) (Ls at) (Rm at) (sound at) (eq-eqb _ _ (c .before .before .if1 .left)) (ne-eqb _ _ (c .before .if2 .taken))) (c .refused2 .ensures) refl
 
 good-losses-requires : tie.Need-good-losses-requires
-good-losses-requires c κs = (c .before .if1 .left, sound→ _ (sound (c .before .before .before)) .most)
+good-losses-requires c κs = (c .before .if1 .left, sound→ _ (sound (c .before .before)) .most)
 
 -- past the tests of the lengths, and of the losses
 abbrev of : tie.Else2 → In
-of c = c .before .before .before
+of c = c .before .before
 
 each : (c : tie.Else2) → eqb (length (Ls (of c))) (Bk (of c) .count) ≡ true
 each c = eq-eqb _ _ (c .before .if1 .left)
@@ -66,8 +69,17 @@ each c = eq-eqb _ _ (c .before .if1 .left)
 wide : (c : tie.Else2) → eqb (length (Rm (of c))) (4 * Bk (of c) .count) ≡ true
 wide c = eq-eqb _ _ (c .if2 .left)
 
+-- the losses' test, as the book's
+losses-tested : (c : tie.After-good-losses) → goodLosses (Bk (of (c .before))) (Ls (of (c .before))) ≡ c .good-losses .result
+losses-tested c =
+    let at = of (c .before) in
+    let a = at .before .before .args in
+    all-eq (a .count) (λ i. goodLoss (rowAt (Bk at) i) (lossAt (Ls at) i)) (goodIn (a .live .now) (Ls at))
+    (λ i l. ap (λ r. goodLoss r (lossAt (Ls at) i)) (row-in _ _ i (omega (arith, sound→ _ (sound at) .most))))
+    ∙ sym (c .good-losses .ensures)
+
 good : (c : tie.Else3) → goodLosses (Bk (of (c .before .before))) (Ls (of (c .before .before))) ≡ true
-good c = sym (c .before .good-losses .ensures) ∙ not-false _ (c .if3 .left)
+good c = losses-tested (c .before) ∙ not-false _ (c .if3 .left)
 
 refused-requires-3 : tie.Need-refused-requires-3
 refused-requires-3 c κs = search needs
@@ -76,7 +88,7 @@ returns-3 : tie.Need-returns-3
 returns-3 c =
     let tests = c .before .before .before in
     let at = of tests in
-    settled (Bk at) (Ls at) (Rm at) 16 (refused-loss (Bk at) (Ls at) (Rm at) (sound at) (each tests) (wide tests) (sym (c .before .before .good-losses .ensures) ∙ not-true _ (c .before .if3 .taken))) (c .refused3 .ensures) refl
+    settled (Bk at) (Ls at) (Rm at) 16 (refused-loss (Bk at) (Ls at) (Rm at) (sound at) (each tests) (wide tests) (losses-tested (c .before .before) ∙ not-true _ (c .before .if3 .taken))) (c .refused3 .ensures) refl
 
 fill-requires : tie.Need-fill-requires
 fill-requires c κs =
@@ -97,7 +109,6 @@ pub close-out-at-spec : {M : Type 1} → statement M
 close-out-at-spec =
     tie.close
     (tie.spec
-    cast-n
     refused-requires
     returns
     mul-if2

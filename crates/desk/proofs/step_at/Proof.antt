@@ -1,5 +1,5 @@
 -- `desk::step_at` meets its contract.
-use mathlib.Core.Path.{_≡_, ap, _∙_}
+use mathlib.Core.Path.{_≡_, refl, ap, _∙_}
 use borrow.Author.Needs.{needs}
 use Rattle.sums.specs.Choice.{pick}
 use Rattle.table.specs.Words.{marksFrom, marksOf, bookFrom}
@@ -14,7 +14,7 @@ abbrev called : tie.After-size2 → tie.Start
 called s = s .before .before .before .before .before .before .before .before .before
 
 abbrev sized : tie.After-unders → tie.After-size2
-sized u = u .before .before .before .before
+sized u = u .before .before .before .before .before
 
 abbrev summed : tie.After-look-all → tie.After-unders
 summed l = l .before .before .before .before .before .before
@@ -33,9 +33,10 @@ size-requires-2 c κs = search needs
 
 unders-requires : tie.Need-unders-requires
 unders-requires c κs =
-    let s = called (c .before .before .before) in
+    let s = called (c .before .before .before .before) in
     let t = s .args .t in
-    adds-up (t .count) (t .serial) (marksOf t) (t .amounts) (t .modes) (t .needs) (s .pre)
+    let g = adds-up (t .count) (t .serial) (marksOf t) (t .amounts) (t .modes) (t .needs) (s .pre) in
+    (g .0, g .1, refl)
 
 look-all-requires : tie.Need-look-all-requires
 look-all-requires c κs =

@@ -1,7 +1,7 @@
 -- `feed::day_of` meets its contract.
 use mathlib.Core.Bool.{Bool}
 use mathlib.Core.List.{List}
-use mathlib.Core.Path.{_≡_, sym, ap, _∙_}
+use mathlib.Core.Path.{_≡_, refl, sym, ap, _∙_}
 use borrow.Author.Needs.{needs}
 use Rattle.sums.specs.Choice.{pick}
 use Rattle.table.specs.declared.Table.{Table}
@@ -21,7 +21,7 @@ abbrev made : tie.After-size2 → tie.After-fresh
 made s = s .before .before .before .before .before .before .before .before .before
 
 abbrev sized : tie.After-unders → tie.After-size2
-sized u = u .before .before .before .before
+sized u = u .before .before .before .before .before
 
 abbrev summed : tie.After-look-all → tie.After-unders
 summed l = l .before .before .before .before .before .before
@@ -43,9 +43,10 @@ size-requires-2 c κs = search needs
 
 unders-requires : tie.Need-unders-requires
 unders-requires c κs =
-    let f = made (c .before .before .before) .fresh in
+    let f = made (c .before .before .before .before) .fresh in
     let t = f .result in
-    adds-up (t .count) (t .serial) (marksOf t) (t .amounts) (t .modes) (t .needs) (sound-at-first t (f .ensures))
+    let g = adds-up (t .count) (t .serial) (marksOf t) (t .amounts) (t .modes) (t .needs) (sound-at-first t (f .ensures)) in
+    (g .0, g .1, refl)
 
 look-all-requires : tie.Need-look-all-requires
 look-all-requires c κs =

@@ -1,7 +1,7 @@
 -- `feed::whole_day`: the records of the pieces so far are those of what was read so far.
 use mathlib.Core.Bool.{Bool}
 use mathlib.Core.List.{List}
-use mathlib.Core.Path.{sym, ap, _∙_}
+use mathlib.Core.Path.{refl, sym, ap, _∙_}
 use Prim.Native.Nat.{_+_, _-_}
 use native.Mathlib.Omega.{arith}
 use lib.Seq.{length-take-le}
@@ -32,7 +32,7 @@ abbrev made : tie.After-size2 Inv-loop μ-loop → tie.After-fresh Inv-loop μ-l
 made s = s .before .before .before .before .before .before .before .before .before
 
 abbrev sized : tie.After-unders Inv-loop μ-loop → tie.After-size2 Inv-loop μ-loop
-sized u = u .before .before .before .before
+sized u = u .before .before .before .before .before
 
 abbrev summed : tie.After-look-all Inv-loop μ-loop → tie.After-unders Inv-loop μ-loop
 summed l = l .before .before .before .before .before .before
@@ -92,9 +92,10 @@ size-requires-2 c κs = search needs
 
 unders-requires : tie.Need-unders-requires Inv-loop μ-loop
 unders-requires c κs =
-    let f = made (c .before .before .before) .fresh in
+    let f = made (c .before .before .before .before) .fresh in
     let t = f .result in
-    adds-up (t .count) (t .serial) (marksOf t) (t .amounts) (t .modes) (t .needs) (sound-at-first t (f .ensures))
+    let g = adds-up (t .count) (t .serial) (marksOf t) (t .amounts) (t .modes) (t .needs) (sound-at-first t (f .ensures)) in
+    (g .0, g .1, refl)
 
 look-all-requires : tie.Need-look-all-requires Inv-loop μ-loop
 look-all-requires c κs =

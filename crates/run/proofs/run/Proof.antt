@@ -1,7 +1,7 @@
 -- `run::run` meets its contract.
 use mathlib.Core.Bool.{Bool}
 use mathlib.Core.List.{List}
-use mathlib.Core.Path.{_≡_, ap, _∙_}
+use mathlib.Core.Path.{_≡_, refl, ap, _∙_}
 use borrow.Author.Needs.{needs}
 use Rattle.sums.specs.Choice.{pick}
 use Rattle.table.specs.Words.{marksFrom, marksOf, bookFrom}
@@ -13,7 +13,7 @@ use Rattle.run.proofs.run.Tie as tie
 
 -- THE PLACES, each named once.
 abbrev sized : tie.After-unders → tie.After-size2
-sized u = u .before .before .before .before
+sized u = u .before .before .before .before .before
 
 abbrev summed : tie.After-look-all → tie.After-unders
 summed l = l .before .before .before .before .before .before
@@ -35,9 +35,10 @@ size-requires-2 c κs = search needs
 
 unders-requires : tie.Need-unders-requires
 unders-requires c κs =
-    let s = called (c .before .before .before) in
+    let s = called (c .before .before .before .before) in
     let t = s .args .t in
-    adds-up (t .count) (t .serial) (marksOf t) (t .amounts) (t .modes) (t .needs) (s .pre .0)
+    let g = adds-up (t .count) (t .serial) (marksOf t) (t .amounts) (t .modes) (t .needs) (s .pre .0) in
+    (g .0, g .1, refl)
 
 look-all-requires : tie.Need-look-all-requires
 look-all-requires c κs =

@@ -24,23 +24,21 @@ Inv-loop sort tm w count tenths owed₀ n i₀ owed i =
 abbrev μ-loop : tie.MeasureT-loop
 μ-loop sort tm w count tenths owed₀ n i₀ owed i = n - i
 
-zeros-requires : tie.Need-zeros-requires Inv-loop μ-loop
-zeros-requires c κs = search needs
-
 loop-holds : tie.Need-loop-holds Inv-loop μ-loop
 loop-holds c =
-    let a = c .before .args in (
+    let a = c .args in
+    let zero = c .pre .1 in (
       refl,
       omega arith,
-      ap length (c .zeros .ensures) ∙ length-replicate {A = ℕ} 256 0,
-      λ t h. rw (c .zeros .ensures) (getD-replicate 256 t 0 0 h ∙ sym (clients-none (viewAs (a .tenths) (view (seenBook (a .count) (a .sort .now) (a .tm .now) (a .w .now)))) t)),
+      ap length zero ∙ length-replicate {A = ℕ} 256 0,
+      λ t h. ap (λ l. getD l t 0) zero ∙ getD-replicate 256 t 0 0 h ∙ sym (clients-none (viewAs (a .tenths) (view (seenBook (a .count) (a .sort .now) (a .tm .now) (a .w .now)))) t),
     )
 
 account-as-requires : tie.Need-account-as-requires Inv-loop μ-loop
 account-as-requires c κs =
-    let start = c .before .before .before in
-    let most = start .pre .most in
-    (omega arith, start .pre .ranges (c .before .loop .i) (omega arith))
+    let start = c .before .before in
+    let most = start .pre .0 .most in
+    (omega arith, start .pre .0 .ranges (c .before .loop .i) (omega arith))
 
 slot-requires : tie.Need-slot-requires Inv-loop μ-loop
 slot-requires c κs = search needs
@@ -51,53 +49,55 @@ client-due-requires c κs = search needs
 mul-owed : tie.Need-mul-owed Inv-loop μ-loop
 mul-owed c = omega (arith, c .before .slot .ensures .inside)
 
-array-read-owed : tie.Need-array-read-owed Inv-loop μ-loop
-array-read-owed c = omega (arith, c .before .slot .ensures .inside)
+element-copy-out-owed : tie.Need-element-copy-out-owed Inv-loop μ-loop
+element-copy-out-owed c = omega (arith, c .before .slot .ensures .inside)
 
 add-owed : tie.Need-add-owed Inv-loop μ-loop
 add-owed c =
-    let at = c .before .before .before .before in
-    let start = at .before .before in
+    let due = c .before in
+    let at = due .before .before .before .before in
+    let start = at .before in
     let a = start .args in
     let b = seenBook (a .count) (a .sort .now) (a .tm .now) (a .w .now) in
     let i = at .loop .i in
-    let t = c .before .slot .result in
-    let most = start .pre .most in
+    let t = due .before .slot .result in
+    let most = start .pre .0 .most in
     omega (
       arith,
-      at .loop .inv .3 t (c .before .slot .ensures .inside),
-      clients-most (viewAs (a .tenths) (view b)) 100_000_000_000_000 (bounded-in (a .tenths) b (start .pre)) t i (omega arith),
-      c .client-due .ensures ∙ ap clientDue (c .before .before .account-as .ensures),
+      at .loop .inv .3 t (due .before .slot .ensures .inside),
+      clients-most (viewAs (a .tenths) (view b)) 100_000_000_000_000 (bounded-in (a .tenths) b (start .pre .0)) t i (omega arith),
+      due .client-due .ensures ∙ ap clientDue (due .before .before .account-as .ensures),
       due-most (accountAs (a .tenths) (accountOf (rowAt b i))),
-      bounded-in (a .tenths) b (start .pre) .margins i (omega arith),
+      bounded-in (a .tenths) b (start .pre .0) .margins i (omega arith),
     )
 
 mul-owed-2 : tie.Need-mul-owed-2 Inv-loop μ-loop
-mul-owed-2 c = omega (arith, c .before .slot .ensures .inside)
+mul-owed-2 c = omega (arith, c .before .before .slot .ensures .inside)
 
-array-write-owed : tie.Need-array-write-owed Inv-loop μ-loop
-array-write-owed c = omega (arith, c .before .slot .ensures .inside)
+element-write-owed : tie.Need-element-write-owed Inv-loop μ-loop
+element-write-owed c = omega (arith, c .before .before .slot .ensures .inside)
 
 add-i : tie.Need-add-i Inv-loop μ-loop
-add-i c = omega arith
+add-i c = omega (arith, c .before .before .before .before .before .before .pre .0 .most)
 
 loop-less : tie.Need-loop-less Inv-loop μ-loop
 loop-less c = omega arith
 
 loop-again : tie.Need-loop-again Inv-loop μ-loop
 loop-again c =
-    let at = c .before .before .before .before in
-    let a = at .before .before .args in
+    let due = c .before in
+    let at = due .before .before .before .before in
+    let a = at .before .args in
     let b = seenBook (a .count) (a .sort .now) (a .tm .now) (a .w .now) in
     let i = at .loop .i in
     let owed = at .loop .owed in
-    let s = c .before .slot .result in
-    let d = c .client-due .result in
-    let inside = c .before .slot .ensures .inside in
-    let is-account = c .before .before .account-as .ensures in
+    let s = due .before .slot .result in
+    let d = due .client-due .result in
+    let inside = due .before .slot .ensures .inside in
+    let is-account = due .before .before .account-as .ensures in
     let v = viewAs (a .tenths) (view b) in
-    let is-due : d ≡ clientDue (accountAt v i) = c .client-due .ensures ∙ ap clientDue is-account in
-    let is-slot : Slot (rowAt b i .tm) s = subst (λ (x : Account). Slot (x .tm) s) is-account (c .before .slot .ensures) in (
+    let is-due : d ≡ clientDue (accountAt v i) = due .client-due .ensures ∙ ap clientDue is-account in
+    let is-slot : Slot (rowAt b i .tm) s = subst (λ (x : Account). Slot (x .tm) s) is-account (due .before .slot .ensures) in (
       refl,
       omega arith,
       length-set owed s (getD owed s 0 + d) ∙ at .loop .inv .2,
@@ -109,7 +109,7 @@ loop-again c =
 
 returns : tie.Need-returns Inv-loop μ-loop
 returns c =
-    let a = c .before .before .before .args in
+    let a = c .before .before .args in
     record {
       size = c .before .loop .inv .2;
       each = λ t h. c .before .loop .inv .3 t h ∙ ap (clientsBelow (viewAs (a .tenths) (view (seenBook (a .count) (a .sort .now) (a .tm .now) (a .w .now)))) t) (omega arith);
@@ -121,16 +121,15 @@ client-sums-spec =
     (tie.spec
     Inv-loop
     μ-loop
-    zeros-requires
     loop-holds
     account-as-requires
     slot-requires
     client-due-requires
     mul-owed
-    array-read-owed
+    element-copy-out-owed
     add-owed
     mul-owed-2
-    array-write-owed
+    element-write-owed
     add-i
     loop-less
     loop-again

@@ -41,15 +41,15 @@ account-as-requires c κs =
 mul-member-due : tie.Need-mul-member-due Inv-loop μ-loop
 mul-member-due c = omega (arith, c .before .before .before .pre .0 .most)
 
-array-read-member-due : tie.Need-array-read-member-due Inv-loop μ-loop
-array-read-member-due c = omega (arith, c .before .before .before .pre .0 .most)
+element-copy-out-member-due : tie.Need-element-copy-out-member-due Inv-loop μ-loop
+element-copy-out-member-due c = omega (arith, c .before .before .before .pre .0 .most)
 
 member-due-requires : tie.Need-member-due-requires Inv-loop μ-loop
 member-due-requires c κs =
-    let start = c .before .before .before in
-    let i = c .before .before .loop .i in
+    let start = c .before .before .before .before in
+    let i = c .before .before .before .loop .i in
     let most = start .pre .0 .most in (
-      rw (c .account-as .ensures) (bounded start .margins i (omega arith)),
+      rw (c .before .account-as .ensures) (bounded start .margins i (omega arith)),
       omega (arith, start .pre .1 .each i (omega arith), clients-top (seen start) 100_000_000_000_000 (bounded start) i),
     )
 
@@ -58,18 +58,18 @@ both p q = cc
 
 -- what the account adds, by the sum of its clients
 adds : (c : tie.After-member-due Inv-loop μ-loop)
-    → c .member-due .result ≡ memberDue (accountAt (seen (c .before .before .before .before)) (c .before .before .before .loop .i)) (clientsBelow (seen (c .before .before .before .before)) (c .before .before .before .loop .i) (c .before .before .before .before .args .count))
+    → c .member-due .result ≡ memberDue (accountAt (seen (c .before .before .before .before .before)) (c .before .before .before .before .loop .i)) (clientsBelow (seen (c .before .before .before .before .before)) (c .before .before .before .before .loop .i) (c .before .before .before .before .before .args .count))
 adds c =
-    let start = c .before .before .before .before in
-    let i = c .before .before .before .loop .i in
+    let start = c .before .before .before .before .before in
+    let i = c .before .before .before .before .loop .i in
     let most = start .pre .0 .most in
-    c .member-due .ensures ∙ both (c .before .account-as .ensures) (start .pre .1 .each i (omega arith))
+    c .member-due .ensures ∙ both (c .before .before .account-as .ensures) (start .pre .1 .each i (omega arith))
 
 add-sum : tie.Need-add-sum Inv-loop μ-loop
 add-sum c =
-    let start = c .before .before .before .before in
+    let start = c .before .before .before .before .before in
     let v = seen start in
-    let i = c .before .before .before .loop .i in
+    let i = c .before .before .before .before .loop .i in
     let most = start .pre .0 .most in
     omega (
       arith,
@@ -88,7 +88,7 @@ loop-less c = omega arith
 
 loop-again : tie.Need-loop-again Inv-loop μ-loop
 loop-again c =
-    (refl, omega arith, omega (arith, adds c, members-step (seen (c .before .before .before .before)) (c .before .before .before .loop .i)))
+    (refl, omega arith, omega (arith, adds c, members-step (seen (c .before .before .before .before .before)) (c .before .before .before .before .loop .i)))
 
 returns : tie.Need-returns Inv-loop μ-loop
 returns c = c .before .loop .inv .2 ∙ ap (membersBelow (seen (c .before .before))) (omega arith)
@@ -102,7 +102,7 @@ members-sum-spec =
     loop-holds
     account-as-requires
     mul-member-due
-    array-read-member-due
+    element-copy-out-member-due
     member-due-requires
     add-sum
     add-i

@@ -1,6 +1,6 @@
 -- `table::needs::needs_kept` meets its contract.
 use mathlib.Core.Bool.{Bool, false, _&&_}
-use mathlib.Core.Path.{_≡_, sym, ap, _∙_}
+use mathlib.Core.Path.{_≡_, refl, sym, ap, _∙_}
 use Prim.Native.Nat.{ℕ, _-_, _≤_}
 use native.Mathlib.Omega.{arith}
 use lib.Dec.{eqb}
@@ -30,10 +30,10 @@ abbrev right : tie.Start Inv-loop μ-loop → ℕ → Bool
 right c j = eqb (getD (c .args .needs .now) j 0) (keptNeed (seen c) j)
 
 unders-requires : tie.Need-unders-requires Inv-loop μ-loop
-unders-requires c κs = (c .pre .0, c .pre .1)
+unders-requires c κs = (c .before .pre .0, c .before .pre .1, refl)
 
 loop-holds : tie.Need-loop-holds Inv-loop μ-loop
-loop-holds c = (omega arith, sym (all-none (right (c .before))))
+loop-holds c = (omega arith, sym (all-none (right (c .before .before))))
 
 mul-ok : tie.Need-mul-ok Inv-loop μ-loop
 mul-ok c = omega arith
@@ -50,13 +50,13 @@ array-read-kept-at c = omega arith
 kept-at-requires : tie.Need-kept-at-requires Inv-loop μ-loop
 kept-at-requires c κs =
     let added = c .before .before .before in
-    let start = added .before in
+    let start = added .before .before in
     let a = start .args in (
       start .pre .0,
       omega (
         arith,
         under-cap (seen start) ceiling (ranged-bounded (seenBook (a .count) (a .sort .now) (a .tm .now) (a .w .now)) (start .pre .0)) (start .pre .1)
-            (added .unders .result) (added .unders .ensures) (c .before .before .loop .i),
+            _ (added .unders .ensures) (c .before .before .loop .i),
       ),
     )
 
@@ -70,18 +70,18 @@ loop-again : tie.Need-loop-again Inv-loop μ-loop
 loop-again c =
     let at = c .before .before .before in
     let added = at .before in
-    let start = added .before in
+    let start = added .before .before in
     let i = at .loop .i in (
       omega arith,
       ap (λ x. x && eqb (getD (start .args .needs .now) i 0) (c .kept-at .result)) (at .loop .inv .1)
           ∙ ap (λ x. all i (right start) && eqb (getD (start .args .needs .now) i 0) x)
-          (c .kept-at .ensures ∙ kept-with (seen start) (start .pre .1) (added .unders .result) (added .unders .ensures) (start .pre .2) i)
+          (c .kept-at .ensures ∙ kept-with (seen start) (start .pre .1) _ (added .unders .ensures) (start .pre .2) i)
           ∙ sym (all-step i (right start)),
     )
 
 returns : tie.Need-returns Inv-loop μ-loop
 unfolding allKept
-returns c = c .before .loop .inv .1 ∙ ap (λ (k : ℕ). all k (right (c .before .before .before))) (omega arith)
+returns c = c .before .loop .inv .1 ∙ ap (λ (k : ℕ). all k (right (c .before .before .before .before))) (omega arith)
 
 pub needs-kept-spec : {M : Type 1} → statement M
 needs-kept-spec =

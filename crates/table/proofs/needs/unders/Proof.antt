@@ -13,23 +13,24 @@ use Rattle.table.proofs.needs.unders.Statement.{statement}
 use Rattle.table.proofs.needs.unders.Tie as tie
 
 client-sums-requires : tie.Need-client-sums-requires
-client-sums-requires c κs = search needs
+client-sums-requires c κs = (c .before .pre .0, c .before .pre .2)
 
 members-sum-requires : tie.Need-members-sum-requires
 members-sum-requires c κs = search needs
 
-array-write-owed : tie.Need-array-write-owed
-array-write-owed c = search needs
+element-write-under : tie.Need-element-write-under
+element-write-under c = search needs
 
 returns : tie.Need-returns
 returns c =
-    let start = c .before .before in
+    let sums = c .before .before in
+    let start = sums .before .before in
     let a = start .args in
     let v = viewAs (a .tenths) (view (seenBook (a .count) (a .sort .now) (a .tm .now) (a .w .now))) in
-    let owed = c .before .client-sums .result in
+    let owed = sums .client-sums .last .1 .1 .1 .1 .1 .0 in
     subst (λ (all : ℕ). Under v (set owed 0 all)) (sym (c .members-sum .ensures))
-    (under-first v (shaped-in (a .tenths) (start .pre .1)) (start .pre .0 .most) owed (c .before .client-sums .ensures))
+    (under-first v (shaped-in (a .tenths) (start .pre .1)) (start .pre .0 .most) owed (sums .client-sums .ensures))
 
 pub unders-spec : {M : Type 1} → statement M
 unders-spec =
-    tie.close (tie.spec client-sums-requires members-sum-requires array-write-owed returns)
+    tie.close (tie.spec client-sums-requires members-sum-requires element-write-under returns)
