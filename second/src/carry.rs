@@ -1,4 +1,5 @@
-//! Carrying one record out: refusals 3 to 14 in their order.
+//! Carrying one record out: refusals 3 to 14 and 17 in their order, 17 "after
+//! 11 and before 12".
 
 use crate::book::{Book, Row, Sort, CEILING, KINDS, MOST_ACCOUNTS};
 use crate::dayfile::*;
@@ -128,15 +129,25 @@ fn allocate(book: &mut Book, account: usize, kinds: [u64; KINDS]) -> Carried {
     Ok(Outcome::Done)
 }
 
+/// 17 and 12 of an amount that is there. Taking out is release and unpledge
+/// alone: hand back takes from what isn't allocated.
+fn may_take_out(book: &Book, account: usize, amount: u64) -> Result<(), Refusal> {
+    if book.keeps_in(account) {
+        return Err(Refusal::KeptIn);
+    }
+    if amount > book.free(account) {
+        return Err(Refusal::MoreThanFree);
+    }
+    Ok(())
+}
+
 /// 11 looks at each kind, 12 at "its kinds added up".
 fn release(book: &mut Book, account: usize, kinds: [u64; KINDS]) -> Carried {
     let row = &book.rows[account];
     if (0..KINDS).any(|kind| kinds[kind] > row.allocated[kind]) {
         return Err(Refusal::MoreThanThere);
     }
-    if kinds.iter().sum::<u64>() > book.free(account) {
-        return Err(Refusal::MoreThanFree);
-    }
+    may_take_out(book, account, kinds.iter().sum())?;
     book.change(account, |row| {
         (0..KINDS).for_each(|kind| row.allocated[kind] -= kinds[kind])
     });
@@ -155,9 +166,7 @@ fn unpledge(book: &mut Book, account: usize, amount: u64) -> Carried {
     if amount > book.rows[account].pledged {
         return Err(Refusal::MoreThanThere);
     }
-    if amount > book.free(account) {
-        return Err(Refusal::MoreThanFree);
-    }
+    may_take_out(book, account, amount)?;
     book.change(account, |row| row.pledged -= amount);
     Ok(Outcome::Done)
 }

@@ -6,6 +6,7 @@ use crate::closeout::close_out_bytes;
 use crate::day::Closing;
 use crate::dayfile::Reader;
 use crate::difference::settle;
+use crate::holds::Holds;
 use crate::looks::Looks;
 use crate::made::Made;
 use crate::make::{losses, make, MILLION_KIND, NO_LIMIT, ROUND};
@@ -101,6 +102,12 @@ fn all_days(options: &Options, programs: &Programs) -> Result<Tally, String> {
         };
         one_day(programs, &made, &mut tally)?;
     }
+    // A whole round has a day of every kind, and so meets whatever days are
+    // made for.
+    let missed = tally.missed();
+    if days >= ROUND.len() as u64 && !missed.is_empty() {
+        return Err(format!("not met: {}", missed.join(", ")));
+    }
     Ok(tally)
 }
 
@@ -178,10 +185,12 @@ fn kinds_met(made: &Made, looks: &Looks, moves: &Moves) -> usize {
 }
 
 /// This program's own answer, with the book's soundness asserted besides, its
-/// modes held against a look at all, and its needs against those afresh.
+/// modes held against a look at all, its needs against those afresh, and what
+/// may be taken out against the rules by the letter.
 fn own_answer(made: &Made, tally: &mut Tally) -> Result<Own, String> {
     let (mut faults, mut read) = (0, 0);
     let (mut looks, mut moves) = (Looks::fresh(), Moves::fresh());
+    let mut holds = Holds::over(&made.bytes);
     let mut stops = Vec::new();
     let checked = made.kind != MILLION_KIND.0;
     let (out, book, day) = print::day_seen(&made.bytes, |answer, book| {
@@ -190,6 +199,7 @@ fn own_answer(made: &Made, tally: &mut Tally) -> Result<Own, String> {
         let kinds = kinds_met(made, &looks, &moves);
         faults += usize::from(!looks.after(answer, book));
         faults += usize::from(!moves.after(answer, book));
+        faults += usize::from(!holds.after(answer, book));
         if kinds_met(made, &looks, &moves) > kinds {
             stops.push(read);
         }
@@ -206,6 +216,7 @@ fn own_answer(made: &Made, tally: &mut Tally) -> Result<Own, String> {
     tally.days += 1;
     tally.looks.add(&looks.met);
     tally.moves.add(&moves.met);
+    tally.holds.add(&holds.met);
     tally.refusals[Refusal::Cut as usize] += u64::from(day.closing == Closing::Cut);
     Ok(Own { out, book, stops })
 }

@@ -11,6 +11,7 @@ mod compare;
 mod day;
 mod dayfile;
 mod difference;
+mod holds;
 mod looks;
 mod made;
 mod make;
@@ -25,6 +26,7 @@ mod tally;
 mod tests;
 mod text;
 
+use holds::Holds;
 use looks::Looks;
 use moves::Moves;
 use std::ffi::OsString;
@@ -39,7 +41,7 @@ second needs < DAYFILE                   the closing line, then every account's 
 second closeouts LOSSFILE < DAYFILE      the closing line, then what each loss is paid from
 second make KIND SEED > DAYFILE          a made-up day: busy hostile bent bounds cuts serials
                                          openings retire shared spent warned wavering
-                                         moved moving mixed million
+                                         moved moving held withheld mixed million
 second losses SEED < DAYFILE > LOSSFILE  made-up losses for the book at that day's end
 second compare --day P --standings P --closeouts P --needs P
                [--days N] [--seed S] [--millions K] [--trickle]
@@ -124,20 +126,25 @@ fn day_command(words: &[String]) -> Output {
 }
 
 /// As `day`, but looks after every record whether the book is sound, its
-/// modes are as a look at all would have them, and its needs moved as they can.
+/// modes are as a look at all would have them, its needs moved as they can, and
+/// what was to be taken out got the answer of the rules.
 fn checked_day(piece: &[u8]) -> Output {
     let (mut seen, mut first_fault) = (0, None);
     let (mut looks, mut moves) = (Looks::fresh(), Moves::fresh());
+    let mut holds = Holds::over(piece);
     let (out, _, _) = print::day_seen(piece, |answer, book| {
         seen += 1;
         let agrees = looks.after(answer, book) & moves.after(answer, book);
+        let agrees = agrees & holds.after(answer, book);
         if first_fault.is_none() && !(agrees && book.is_sound() && book.uses_agree()) {
             first_fault = Some(seen);
         }
     });
     match first_fault {
         None => Ok(out),
-        Some(record) => Err(format!("the book is not sound after record {record}")),
+        Some(record) => Err(format!(
+            "record {record} is answered wrongly or leaves a book that is not sound"
+        )),
     }
 }
 

@@ -2,6 +2,7 @@
 
 mod bend;
 mod deemed;
+mod held;
 mod lengths;
 mod lives;
 pub mod losses;
@@ -19,7 +20,7 @@ type Kind = (&'static str, fn(&mut Maker));
 /// The kinds that a comparison goes round. `million` stands apart for its size.
 /// An odd number, so that days fed in small pieces (one in four) are of every
 /// kind.
-pub const ROUND: [Kind; 15] = [
+pub const ROUND: [Kind; 17] = [
     ("busy", steer::busy),
     ("hostile", bend::hostile),
     ("bent", bend::bent),
@@ -34,6 +35,8 @@ pub const ROUND: [Kind; 15] = [
     ("wavering", warned::wavering),
     ("moved", moved::moved),
     ("moving", moved::moving),
+    ("held", held::held),
+    ("withheld", held::withheld),
     ("mixed", mixed::mixed),
 ];
 

@@ -1,6 +1,6 @@
 //! Risk reduction mode, K2 of document 02.
 
-#[derive(Clone, Copy, PartialEq, Eq, Default, Debug)]
+#[derive(Clone, Copy, PartialEq, Eq, PartialOrd, Ord, Default, Debug)]
 pub enum Mode {
     /// "Off at first."
     #[default]

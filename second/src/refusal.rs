@@ -1,4 +1,4 @@
-//! Document 01's refusal numbers.
+//! The refusal numbers of documents 01 and 02.
 
 /// 1 is missing: a book changed by `carry` alone stays sound, and `--check`
 /// tests that it does.
@@ -20,4 +20,6 @@ pub enum Refusal {
     NotEmpty = 14,
     WrongLength = 15,
     BadLoss = 16,
+    /// K5; checked between 11 and 12.
+    KeptIn = 17,
 }

@@ -2,17 +2,19 @@
 
 use crate::book::Sort;
 use crate::carry::Answer;
+use crate::holds;
 use crate::looks::{self, KINDS};
-use crate::moves::{self, Kind};
+use crate::moves;
 
-/// Slots 0 to 16 count answers by refusal.
+/// Slots 0 to 17 count answers by refusal.
 #[derive(Default)]
 pub struct Tally {
     pub days: u64,
     pub records: u64,
-    pub refusals: [u64; 17],
+    pub refusals: [u64; 18],
     pub looks: looks::Met,
     pub moves: moves::Met,
+    pub holds: holds::Met,
     /// How often a day was stopped on the way to ask for standings and needs.
     pub stops: u64,
 }
@@ -24,7 +26,7 @@ impl Tally {
     }
 
     pub fn summary(&self) -> String {
-        let refusals: Vec<String> = (2..17)
+        let refusals: Vec<String> = (2..18)
             .map(|number| format!("{number}:{}", self.refusals[number]))
             .collect();
         let first = format!(
@@ -43,8 +45,29 @@ impl Tally {
             moves("TMs'", &self.moves, Sort::Tm),
             moves("clients'", &self.moves, Sort::Client),
             moves("CPs'", &self.moves, Sort::Cp),
+            holds("the CM", &self.holds, Sort::Cm),
+            holds("TMs", &self.holds, Sort::Tm),
+            holds("clients", &self.holds, Sort::Client),
+            holds("CPs", &self.holds, Sort::Cp),
         ];
         lines.join("\n")
+    }
+
+    /// The kinds of looks, moves and takings out that weren't met.
+    pub fn missed(&self) -> Vec<String> {
+        let looks = [("TMs", &self.looks.tms[..]), ("the CM", &self.looks.cm)];
+        let looks = looks.into_iter().flat_map(|(whose, met)| {
+            let kinds = KINDS.iter().zip(met).filter(|(_, &many)| many == 0);
+            kinds.map(move |(kind, _)| format!("look at {whose}: {kind}"))
+        });
+        let mut moves = moves::Kind::all();
+        moves.retain(|kind| self.moves.times(kind) == 0);
+        let mut holds = holds::Kind::all();
+        holds.retain(|kind| self.holds.times(kind) == 0);
+        looks
+            .chain(moves.iter().map(|kind| format!("{kind:?}")))
+            .chain(holds.iter().map(|kind| format!("{kind:?}")))
+            .collect()
     }
 }
 
@@ -56,10 +79,17 @@ fn looks(whose: &str, met: &[u64]) -> String {
 
 /// The needs that the records of one sort of account moved, or left.
 fn moves(whose: &str, met: &moves::Met, sort: Sort) -> String {
-    let mut kinds = Kind::all();
+    let mut kinds = moves::Kind::all();
     kinds.retain(|kind| kind.sort() == sort);
     let kinds = kinds.iter().map(|kind| (kind.words(), met.times(kind)));
     format!("needs after {whose} records, {}", counted(kinds.collect()))
+}
+
+/// What one sort of account took out, or would have.
+fn holds(who: &str, met: &holds::Met, sort: Sort) -> String {
+    let kinds = holds::Kind::of(sort);
+    let kinds = kinds.iter().map(|kind| (kind.words(), met.times(kind)));
+    format!("taken out by {who}, {}", counted(kinds.collect()))
 }
 
 fn counted(kinds: Vec<(String, u64)>) -> String {

@@ -2,7 +2,7 @@
 use mathlib.Core.List.{List}
 use mathlib.Core.Logic.{inl, inr}
 use mathlib.Core.Path.{_≡_, ap, _∙_}
-use mathlib.Core.Bool.{true}
+use mathlib.Core.Bool.{Bool, true}
 use Prim.Native.Nat.{ℕ, _≤_}
 use native.Mathlib.Omega.{arith}
 use Rattle.sums.specs.Table.{first}
@@ -35,34 +35,34 @@ last-code n k l n4 n5 n6 n7 n8 n9 n10 = by (which n k)
     by (margin e) = absurd (n10 e)
     by (retire e) = e
 
-module _ (count : ℕ) (m : Marks) (w under : List ℕ) (r : Record) where
+module _ (count : ℕ) (m : Marks) (w under : List ℕ) (on : Bool) (r : Record) where
   abbrev row : Row
   row = rowIn m w (r .account)
 
   module _ {k : ℕ} {u : List ℕ} where
-    pub receives : r .code ≡ 4 → Receives m w (r .account) (r .kinds) k u → Answered count m w under r k m u
-    receives e h = as-amended (by-receive row r e) (receive-own row count (seenIn count m w under r) r e) h
+    pub receives : r .code ≡ 4 → Receives m w (r .account) (r .kinds) k u → Answered count m w under on r k m u
+    receives e h = as-amended (by-receive row r e) (receive-own row count (seenIn count m w under on r) r e) h
 
-    pub hands-back : r .code ≡ 5 → HandsBack m w (r .account) (r .kinds) k u → Answered count m w under r k m u
-    hands-back e h = as-amended (by-hand-back row r e) (left-own row count (seenIn count m w under r) r (inl e)) h
+    pub hands-back : r .code ≡ 5 → HandsBack m w (r .account) (r .kinds) k u → Answered count m w under on r k m u
+    hands-back e h = as-amended (by-hand-back row r e) (left-own row count (seenIn count m w under on r) r (inl e)) h
 
-    pub allocates : r .code ≡ 6 → Allocates m w (r .account) (r .kinds) k u → Answered count m w under r k m u
-    allocates e h = as-amended (by-allocate row r e) (left-own row count (seenIn count m w under r) r (inr e)) h
+    pub allocates : r .code ≡ 6 → Allocates m w (r .account) (r .kinds) k u → Answered count m w under on r k m u
+    allocates e h = as-amended (by-allocate row r e) (left-own row count (seenIn count m w under on r) r (inr e)) h
 
-    pub releases : r .code ≡ 7 → Releases m w under (r .account) (r .kinds) k u → Answered count m w under r k m u
-    releases e h = as-amended (by-release row r e) (release-own row count (seenIn count m w under r) r e) h
+    pub releases : r .code ≡ 7 → Releases m w under on (r .account) (r .kinds) k u → Answered count m w under on r k m u
+    releases e h = as-amended (by-release row r e) (release-own row count (seenIn count m w under on r) r e) h
 
-    pub pledges : r .code ≡ 8 → Pledges m w (r .account) (r .pledged) k u → Answered count m w under r k m u
-    pledges e h = as-amended (by-pledge row r e) (pledge-own row count (seenIn count m w under r) r e) h
+    pub pledges : r .code ≡ 8 → Pledges m w (r .account) (r .pledged) k u → Answered count m w under on r k m u
+    pledges e h = as-amended (by-pledge row r e) (pledge-own row count (seenIn count m w under on r) r e) h
 
-    pub unpledges : r .code ≡ 9 → Unpledges m w under (r .account) (r .pledged) k u → Answered count m w under r k m u
-    unpledges e h = as-amended (by-unpledge row r e) (unpledge-own row count (seenIn count m w under r) r e) h
+    pub unpledges : r .code ≡ 9 → Unpledges m w under on (r .account) (r .pledged) k u → Answered count m w under on r k m u
+    unpledges e h = as-amended (by-unpledge row r e) (unpledge-own row count (seenIn count m w under on r) r e) h
 
-    pub sets-margin : r .code ≡ 10 → r .margin ≤ ceiling → SetsMargin m w under (r .account) (r .margin) k u → Answered count m w under r k m u
+    pub sets-margin : r .code ≡ 10 → r .margin ≤ ceiling → SetsMargin m w under (r .account) (r .margin) k u → Answered count m w under on r k m u
     sets-margin e l h =
         let q : blockedOf (r .margin) ceiling ≡ r .margin = omega arith in
         as-amended (by-margin row r e)
-        (margin-own row count (seenIn count m w under r) r e ∙ ap (λ y. first (marginLines (overIn m w under (r .account) y))) q) h
+        (margin-own row count (seenIn count m w under on r) r e ∙ ap (λ y. first (marginLines (overIn m w under (r .account) y))) q) h
 
-  pub retires : {k : ℕ} {n : Marks} → r .code ≡ 11 → Retires m w count (r .account) k n → Answered count m w under r k n w
-  retires e h = as-amended (by-retire row r e) (retire-own row count (seenIn count m w under r) r e) h
+  pub retires : {k : ℕ} {n : Marks} → r .code ≡ 11 → Retires m w count (r .account) k n → Answered count m w under on r k n w
+  retires e h = as-amended (by-retire row r e) (retire-own row count (seenIn count m w under on r) r e) h

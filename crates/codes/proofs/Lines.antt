@@ -49,7 +49,7 @@ module _ (row : Row) (count : ℕ) (seen : Seen) (r : Record) where
   left-own (inl e) = own 5 e ∙ simp or-false
   left-own (inr e) = own 6 e ∙ simp or-false
 
-  pub release-own : r .code ≡ 7 → first (from8 row count seen r) ≡ first (releaseLines row (seen .free) (r .kinds))
+  pub release-own : r .code ≡ 7 → first (from8 row count seen r) ≡ first (releaseLines row (seen .mode) (seen .free) (r .kinds))
   unfolding first pick
   release-own e = own 7 e ∙ simp or-false
 
@@ -57,7 +57,7 @@ module _ (row : Row) (count : ℕ) (seen : Seen) (r : Record) where
   unfolding first pick
   pledge-own e = own 8 e
 
-  pub unpledge-own : r .code ≡ 9 → first (from8 row count seen r) ≡ first (unpledgeLines row (seen .free) (r .pledged))
+  pub unpledge-own : r .code ≡ 9 → first (from8 row count seen r) ≡ first (unpledgeLines row (seen .mode) (seen .free) (r .pledged))
   unfolding first pick
   unpledge-own e = own 9 e
 

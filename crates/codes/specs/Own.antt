@@ -1,4 +1,4 @@
--- Each code's own lines of document 01's table of refusals, and the words that it puts: only for internal functions.
+-- Each code's own lines of the table of refusals (document 01's, and K5's 17), and the words that it puts: only for internal functions.
 use mathlib.Core.Bool.{Bool, true, false, not, _&&_, _||_}
 use mathlib.Core.List.{List, [], _∷_, _++_}
 use mathlib.Core.Path.{_≡_}
@@ -53,17 +53,21 @@ receiveLines row k = (10 when not (kindsCapped (plusKinds (row .received) k))) �
 abbrev pub leftLines : Row → Kinds → List Line
 leftLines row k = (11 when not (kindsWithin k (lessKinds (row .received) (row .allocated)))) ∷ []
 
--- "11: .. release of more than allocated"; "12: release (its kinds added up) .. of more than the account's free"
-abbrev pub releaseLines : Row → ℕ → Kinds → List Line
-releaseLines row left k = (11 when not (kindsWithin k (row .allocated))) ∷ (12 when ltb left (addedUp k)) ∷ []
+-- what release and unpledge share, x being taken out: K5's "17 .. whose mode is on, after 11 and before 12"; "12: .. of more than the account's free"
+abbrev pub takingLines : Bool → ℕ → ℕ → List Line
+takingLines on left x = (17 when on) ∷ (12 when ltb left x) ∷ []
+
+-- "11: .. release of more than allocated"; "12: release (its kinds added up) .."
+abbrev pub releaseLines : Row → Bool → ℕ → Kinds → List Line
+releaseLines row on left k = (11 when not (kindsWithin k (row .allocated))) ∷ takingLines on left (addedUp k)
 
 -- "10: .. pledge would carry an amount past the ceiling"
 abbrev pub pledgeLines : Row → ℕ → List Line
 pledgeLines row x = (10 when ltb ceiling (row .pledged + x)) ∷ []
 
--- "11: .. unpledge of more than pledged"; "12: .. unpledge of more than the account's free"
-abbrev pub unpledgeLines : Row → ℕ → ℕ → List Line
-unpledgeLines row left x = (11 when ltb (row .pledged) x) ∷ (12 when ltb left x) ∷ []
+-- "11: .. unpledge of more than pledged"
+abbrev pub unpledgeLines : Row → Bool → ℕ → ℕ → List Line
+unpledgeLines row on left x = (11 when ltb (row .pledged) x) ∷ takingLines on left x
 
 -- "13: after the new margin the CM's need would pass its collateral"
 abbrev pub marginLines : Bool → List Line
@@ -108,12 +112,12 @@ overIn m w under i x =
     ltb (accountIn m w 0 .collateral)
     (topMargin (accountIn m w i) (accountIn m w 0) x + owedIn m w under i (accountIn m w i) (atMargin (accountIn m w i) x) .cm)
 
--- what is seen of the other rows
-abbrev pub seenIn : ℕ → Marks → List ℕ → List ℕ → Record → Seen
-seenIn count m w under r =
+-- what is seen beside the row
+abbrev pub seenIn : ℕ → Marks → List ℕ → List ℕ → Bool → Record → Seen
+seenIn count m w under on r =
     let i = r .account in
     let p = getD (m .tm) i 0 in
-    seenWith (accountIn m w i) (getD under i 0) (accountIn m w p) (getD under p 0) (accountIn m w 0) (getD under 0 0) (tiedIn m count i) r
+    seenWith on (accountIn m w i) (getD under i 0) (accountIn m w p) (getD under p 0) (accountIn m w 0) (getD under 0 0) (tiedIn m count i) r
 
 -- what a code's function needs of the words at account i
 pub record Held (m : Marks) (w under : List ℕ) (i : ℕ) : Type 0 where
@@ -142,16 +146,16 @@ HandsBack m w i k x = Answers m w i (withReceived (rowIn m w i) (lessKinds (rowI
 abbrev pub Allocates : Marks → List ℕ → ℕ → Kinds → ℕ → List ℕ → Type 0
 Allocates m w i k x = Answers m w i (withAllocated (rowIn m w i) (plusKinds (rowIn m w i .allocated) k)) (leftLines (rowIn m w i) k) x m
 
-abbrev pub Releases : Marks → List ℕ → List ℕ → ℕ → Kinds → ℕ → List ℕ → Type 0
-Releases m w under i k x =
-    Answers m w i (withAllocated (rowIn m w i) (lessKinds (rowIn m w i .allocated) k)) (releaseLines (rowIn m w i) (freeIn m w under i) k) x m
+abbrev pub Releases : Marks → List ℕ → List ℕ → Bool → ℕ → Kinds → ℕ → List ℕ → Type 0
+Releases m w under on i k x =
+    Answers m w i (withAllocated (rowIn m w i) (lessKinds (rowIn m w i .allocated) k)) (releaseLines (rowIn m w i) on (freeIn m w under i) k) x m
 
 abbrev pub Pledges : Marks → List ℕ → ℕ → ℕ → ℕ → List ℕ → Type 0
 Pledges m w i y x = Answers m w i (withPledged (rowIn m w i) (rowIn m w i .pledged + y)) (pledgeLines (rowIn m w i) y) x m
 
-abbrev pub Unpledges : Marks → List ℕ → List ℕ → ℕ → ℕ → ℕ → List ℕ → Type 0
-Unpledges m w under i y x =
-    Answers m w i (withPledged (rowIn m w i) (rowIn m w i .pledged - y)) (unpledgeLines (rowIn m w i) (freeIn m w under i) y) x m
+abbrev pub Unpledges : Marks → List ℕ → List ℕ → Bool → ℕ → ℕ → ℕ → List ℕ → Type 0
+Unpledges m w under on i y x =
+    Answers m w i (withPledged (rowIn m w i) (rowIn m w i .pledged - y)) (unpledgeLines (rowIn m w i) on (freeIn m w under i) y) x m
 
 abbrev pub SetsMargin : Marks → List ℕ → List ℕ → ℕ → ℕ → ℕ → List ℕ → Type 0
 SetsMargin m w under i y x = Answers m w i (withMargin (rowIn m w i) y) (marginLines (overIn m w under i y)) x m
@@ -159,10 +163,10 @@ SetsMargin m w under i y x = Answers m w i (withMargin (rowIn m w i) y) (marginL
 abbrev pub Retires : Marks → List ℕ → ℕ → ℕ → ℕ → Marks → Type 0
 Retires m w count i x n = Answers m w i (withLive (rowIn m w i) false) (retireLines (rowIn m w i) i (tiedIn m count i)) x n w
 
--- document 01's answer to a record that is no opening and passed the lines before 8, whichever its code
-abbrev pub Answered : ℕ → Marks → List ℕ → List ℕ → Record → ℕ → Marks → List ℕ → Type 0
-Answered count m w under r =
-    Answers m w (r .account) (amended (rowIn m w (r .account)) r) (from8 (rowIn m w (r .account)) count (seenIn count m w under r) r)
+-- the table's answer to a record that is no opening and passed the lines before 8, whichever its code, where the account's mode is on or off
+abbrev pub Answered : ℕ → Marks → List ℕ → List ℕ → Bool → Record → ℕ → Marks → List ℕ → Type 0
+Answered count m w under on r =
+    Answers m w (r .account) (amended (rowIn m w (r .account)) r) (from8 (rowIn m w (r .account)) count (seenIn count m w under on r) r)
 
 -- such a record
 pub record Amending (count : ℕ) (m : Marks) (w under : List ℕ) (r : Record) : Type 0 where

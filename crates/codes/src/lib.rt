@@ -1,4 +1,4 @@
-// What each code decides on the table's words in place, by document 01's lines, and the words that it puts. A verdict reads kept needs (K3) and changes none.
+// What each code decides on the table's words in place, by the lines of the table of refusals, and the words that it puts. A verdict reads kept needs (K3) and changes none.
 ghost use mathlib.Core.Path.{_≡_};
 ghost use Prim.Native.Nat.{_≤_};
 ghost use Rattle.table.specs.Words.{marksFrom};
@@ -42,18 +42,19 @@ pub fn early(live: &[bool; 256], count: u16, serial: u16, r: Record) -> u8
     if alive(live, count, r.account) { 0 } else { 7 }
 }
 
-// The codes that change a row, 4 to 11.
+// The codes that change a row, 4 to 11; `on` is the account's mode before the record, which K5 asks for.
 pub fn amend(
     sort: &[u8; 256],
     live: &mut [bool; 256],
     tm: &[u16; 256],
     w: &mut [u64; 2560],
     needs: &[u64; 256],
+    on: bool,
     count: u16,
     r: Record,
 ) -> u8
     requires { ⌜ Amending count (marksFrom (now sort) (now live) (now tm)) (now w) (undersIn (now w) (now needs)) r ⌝ }
-    ensures { λ x. ⌜ Answered count (marksFrom (now (sort .entry)) (now (live .entry)) (now (tm .entry))) (now (w .entry)) (undersIn (now (w .entry)) (now (needs .entry))) r x (marksFrom (now (sort .entry)) (now (live .exit)) (now (tm .entry))) (now (w .exit)) ⌝ }
+    ensures { λ x. ⌜ Answered count (marksFrom (now (sort .entry)) (now (live .entry)) (now (tm .entry))) (now (w .entry)) (undersIn (now (w .entry)) (now (needs .entry))) on r x (marksFrom (now (sort .entry)) (now (live .exit)) (now (tm .entry))) (now (w .exit)) ⌝ }
 {
     let i = r.account as usize;
     let code = r.code;
@@ -61,9 +62,9 @@ pub fn amend(
         4 => receive(sort, live, tm, w, i, r.kinds),
         5 => hand_back(sort, live, tm, w, i, r.kinds),
         6 => allocate(sort, live, tm, w, i, r.kinds),
-        7 => release(sort, live, tm, w, needs, i, r.kinds),
+        7 => release(sort, live, tm, w, needs, on, i, r.kinds),
         8 => pledge(sort, live, tm, w, i, r.pledged),
-        9 => unpledge(sort, live, tm, w, needs, i, r.pledged),
+        9 => unpledge(sort, live, tm, w, needs, on, i, r.pledged),
         10 => set_margin(sort, live, tm, w, needs, i, r.margin),
         _ => retire(sort, live, tm, w, count, r.account),
     }

@@ -6,9 +6,10 @@ ghost use Rattle.rows.specs.Facts.{InRange, KindsWithin};
 ghost use Rattle.rows.specs.Ranges.{ceilings};
 ghost use Rattle.sums.specs.Choice.{pick};
 ghost use lib.Dec.{eqb};
+ghost use Rattle.sums.specs.Table.{first};
 ghost use Rattle.table.specs.Words.{marksFrom, rowIn};
 ghost use Rattle.table.specs.Facts.{Sized};
-ghost use Rattle.codes.specs.Own.{tiedIn, undersIn, Held, Opens, Receives, HandsBack, Allocates, Releases, Pledges, Unpledges, SetsMargin, Retires};
+ghost use Rattle.codes.specs.Own.{takingLines, tiedIn, undersIn, Held, Opens, Receives, HandsBack, Allocates, Releases, Pledges, Unpledges, SetsMargin, Retires};
 use crate::settling::over_with;
 use crate::settling::owed_after;
 use crate::settling::under_at;
@@ -128,6 +129,16 @@ pub(crate) fn allocate(
     0
 }
 
+// What release and unpledge ask where so much is taken out: K5's 17 before 12.
+fn taking(on: bool, free: u64, x: u64) -> u8
+    ensures { λ y. ⌜ y ≡ first (takingLines on free x) ⌝ }
+{
+    if on {
+        return 17;
+    }
+    if free < x { 12 } else { 0 }
+}
+
 // 7
 pub(crate) fn release(
     sort: &[u8; 256],
@@ -135,11 +146,12 @@ pub(crate) fn release(
     tm: &[u16; 256],
     w: &mut [u64; 2560],
     needs: &[u64; 256],
+    on: bool,
     i: usize,
     k: Kinds,
 ) -> u8
     requires { ⌜ Held (marksFrom (now sort) (now live) (now tm)) (now w) (undersIn (now w) (now needs)) i × KindsWithin k ceilings ⌝ }
-    ensures { λ x. ⌜ Releases (marksFrom (now (sort .entry)) (now (live .entry)) (now (tm .entry))) (now (w .entry)) (undersIn (now (w .entry)) (now (needs .entry))) i k x (now (w .exit)) ⌝ }
+    ensures { λ x. ⌜ Releases (marksFrom (now (sort .entry)) (now (live .entry)) (now (tm .entry))) (now (w .entry)) (undersIn (now (w .entry)) (now (needs .entry))) on i k x (now (w .exit)) ⌝ }
 {
     let row = row_at(sort, live, tm, w, i);
     if !kinds_within(k, row.allocated) {
@@ -147,8 +159,9 @@ pub(crate) fn release(
     }
     let old = account_of(row);
     let free = free_with(old, under_at(w, needs, i));
-    if free < added_up(k) {
-        return 12;
+    let n = taking(on, free, added_up(k));
+    if n != 0 {
+        return n;
     }
     let new = with_allocated(row, less_kinds(row.allocated, k));
     put_kinds(w, 4, i, new.allocated);
@@ -184,11 +197,12 @@ pub(crate) fn unpledge(
     tm: &[u16; 256],
     w: &mut [u64; 2560],
     needs: &[u64; 256],
+    on: bool,
     i: usize,
     y: u64,
 ) -> u8
     requires { ⌜ Held (marksFrom (now sort) (now live) (now tm)) (now w) (undersIn (now w) (now needs)) i ⌝ }
-    ensures { λ x. ⌜ Unpledges (marksFrom (now (sort .entry)) (now (live .entry)) (now (tm .entry))) (now (w .entry)) (undersIn (now (w .entry)) (now (needs .entry))) i y x (now (w .exit)) ⌝ }
+    ensures { λ x. ⌜ Unpledges (marksFrom (now (sort .entry)) (now (live .entry)) (now (tm .entry))) (now (w .entry)) (undersIn (now (w .entry)) (now (needs .entry))) on i y x (now (w .exit)) ⌝ }
 {
     let row = row_at(sort, live, tm, w, i);
     if row.pledged < y {
@@ -196,8 +210,9 @@ pub(crate) fn unpledge(
     }
     let old = account_of(row);
     let free = free_with(old, under_at(w, needs, i));
-    if free < y {
-        return 12;
+    let n = taking(on, free, y);
+    if n != 0 {
+        return n;
     }
     let new = with_pledged(row, row.pledged - y);
     w[256 * 8 + i] = new.pledged;

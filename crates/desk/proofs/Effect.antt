@@ -1,14 +1,15 @@
 -- What a record does to the book: nothing, the serial alone, or one row and the serial.
-use mathlib.Core.Bool.{Bool, true, false}
+use mathlib.Core.Bool.{Bool, true, false, _||_}
+use mathlib.Core.Logic.{_⊎_, inl, inr}
 use mathlib.Core.Path.{_≡_, refl, sym, ap, _∙_}
 use Prim.Native.Nat.{ℕ, zero, suc, _≤_, _<_}
 use native.Mathlib.Omega.{arith}
 use lib.Dec.{leb, eqb}
-use borrow.Author.Tests.{le-leb, lt-leb}
+use borrow.Author.Tests.{le-leb, lt-leb, leb-true, eqb-true}
 use Rattle.sums.specs.Choice.{pick, unlessRefused}
 use Rattle.sums.specs.Table.{Given, NoneHolds}
-use Rattle.sums.proofs.Choices.{pick-yes, pick-no}
-use Rattle.sums.proofs.Tables.{given-first, first-given, none-gives-0, gives-0-none, first-upto}
+use Rattle.sums.proofs.Choices.{pick-yes, pick-no, or-split}
+use Rattle.sums.proofs.Tables.{given-first, first-given, none-gives-0, gives-0-none, first-passes}
 use Rattle.rows.specs.declared.Book.{Book}
 use Rattle.rows.specs.Rows.{placeOf, openedRow}
 use Rattle.dayfile.specs.declared.Record.{Record}
@@ -58,7 +59,7 @@ module _ (b : Book) (r : Record) where
       by zero e h l = absurd (omega arith)
       by (suc n) e h l = ap (λ d. d .book) (refused-as n e) ∙ pick-yes (leb (suc n) 3) _ _ (le-leb (suc n) 3 l)
 
-  -- "Refusals 4 to 14 change the serial only"
+  -- "Refusals 4 to 14 change the serial only", and 17 (K5)
   pub later-refusal : 3 < refusalOf b r → stepOf b r .book ≡ movedOn b
   later-refusal p = by (refusalOf b r) refl p
     where
@@ -78,13 +79,17 @@ module _ (b : Book) (r : Record) where
   -- a record is carried out exactly when no test of the table holds
   pub carried-exactly : refusalOf b r ≡ 0 → NoneHolds (refusals b r)
   unfolding refusalOf
-  carried-exactly e = gives-0-none (refusals b r) (omega arith, (omega arith, (omega arith, (omega arith, (omega arith, (omega arith, (omega arith, (omega arith, (omega arith, (omega arith, (omega arith, (omega arith, (omega arith, tt))))))))))))) e
+  carried-exactly e = gives-0-none (refusals b r) (omega arith, (omega arith, (omega arith, (omega arith, (omega arith, (omega arith, (omega arith, (omega arith, (omega arith, (omega arith, (omega arith, (omega arith, (omega arith, (omega arith, tt)))))))))))))) e
 
   pub exactly-carried : NoneHolds (refusals b r) → refusalOf b r ≡ 0
   unfolding refusalOf
   exactly-carried h = none-gives-0 (refusals b r) h
 
-  -- the table ends with 14
-  pub number-most : refusalOf b r ≤ 14
+  -- the table has no other numbers than 1 to 14 and 17
+  pub number-of-table : (refusalOf b r ≤ 14) ⊎ (refusalOf b r ≡ 17)
   unfolding refusalOf
-  number-most = first-upto 14 (refusals b r) refl
+  number-of-table = by (or-split (leb (refusalOf b r) 14) (eqb (refusalOf b r) 17) (first-passes (λ n. leb n 14 || eqb n 17) (refusals b r) refl))
+    where
+      by : (leb (refusalOf b r) 14 ≡ true) ⊎ (eqb (refusalOf b r) 17 ≡ true) → (refusalOf b r ≤ 14) ⊎ (refusalOf b r ≡ 17)
+      by (inl e) = inl (leb-true _ 14 e)
+      by (inr e) = inr (eqb-true _ 17 e)

@@ -2,4 +2,5 @@ pub mod Doing
 pub mod Effect
 pub mod Lasting
 pub mod Rows
+pub mod TakingOut
 pub mod ModesAfter

@@ -1,9 +1,12 @@
 // Records handed over as values, and what is shown of the tables after them.
 use dayfile::Record;
+use desk::Outcome;
 use rows::Kinds;
 use table::Table;
 
 pub const CASH: u8 = 1;
+
+pub const PLEDGED: u8 = 16;
 
 pub const MARGIN: u8 = 32;
 
@@ -11,9 +14,10 @@ pub fn say(text: &[u8]) {
     io::write_all(1, text);
 }
 
-// A record with the table's next serial: x is its cash, or its margin.
+// A record with the table's next serial: x is its cash, what is pledged, or its margin.
 fn record(t: Table, code: u8, named: u8, account: u16, x: u64) -> Record {
     let cash = if named == CASH { x } else { 0 };
+    let pledged = if named == PLEDGED { x } else { 0 };
     let margin = if named == MARGIN { x } else { 0 };
     Record {
         serial: t.serial,
@@ -26,7 +30,7 @@ fn record(t: Table, code: u8, named: u8, account: u16, x: u64) -> Record {
             guarantees: 0,
             securities: 0,
         },
-        pledged: 0,
+        pledged,
         margin,
     }
 }
@@ -35,6 +39,29 @@ pub fn carried(t: Table, code: u8, named: u8, account: u16, x: u64) -> Table {
     let done = desk::carry_out(t, record(t, code, named, account, x));
     let after = done.table;
     after
+}
+
+fn refusal(o: Outcome) -> u64 {
+    match o {
+        Outcome::Refused(n) => n as u64,
+        _ => 0,
+    }
+}
+
+// What a record is answered, and the modes of the first three accounts after it.
+pub fn answered(text: &[u8], t: Table, code: u8, named: u8, account: u16, x: u64) {
+    let done = desk::carry_out(t, record(t, code, named, account, x));
+    say(text);
+    say(b": ");
+    let answer = done.answer;
+    let outcome = answer.outcome;
+    io::print_decimal(1, refusal(outcome));
+    let after = done.table;
+    say(b", serial ");
+    io::print_decimal(1, t.serial as u64);
+    say(b" then ");
+    io::print_decimal(1, after.serial as u64);
+    show(b",", after);
 }
 
 // Received and allocated.

@@ -9,7 +9,15 @@ fn start() -> Table {
 }
 
 fn misfit() -> Table {
-    let t = start();
+    on_with(start())
+}
+
+// The same with 10 placed.
+fn misfit_with(x: u64) -> Table {
+    on_with(asked::given(start(), 1, x))
+}
+
+fn on_with(t: Table) -> Table {
     let sort = t.sort;
     let live = t.live;
     let tm = t.tm;
@@ -67,4 +75,25 @@ pub fn lines() {
     day(b"a day of a refused record (3)", t, 9, 1);
     day(b"a day of a record carried out", t, 2, 1);
     day(b"a day of two records carried out", t, 2, 2);
+    let placed = asked::given(t, 1, 10);
+    asked::answered(
+        b"a release of the TM's after its receipts",
+        placed,
+        7,
+        CASH,
+        1,
+        1,
+    );
+    let t = misfit_with(10);
+    asked::answered(b"a release of the TM's as it is", t, 7, CASH, 1, 1);
+    asked::answered(b"its hand back", t, 5, CASH, 1, 1);
+    let after = asked::carried(t, 4, CASH, 2, 1);
+    asked::answered(
+        b"its release after a receipt of the CP's",
+        after,
+        7,
+        CASH,
+        1,
+        1,
+    );
 }

@@ -33,7 +33,9 @@ pub fn lines() {
     let t = made::carried(t, 7, CASH, 2, 10);
     shown::needs(b"the client takes 10", t);
     let t = made::carried(t, 7, CASH, 1, 5);
-    shown::needs(b"the TM takes 5", t);
+    shown::needs(b"the TM, which is on, takes 5: refused (17)", t);
     let t = made::margin(t, 1, 0);
     shown::needs(b"the TM's margin 0", t);
+    let t = made::carried(t, 7, CASH, 1, 5);
+    shown::needs(b"the TM takes 5", t);
 }

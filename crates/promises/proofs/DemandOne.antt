@@ -3,6 +3,7 @@
 -- leaves.
 use mathlib.Core.Bool.{true, false}
 use mathlib.Core.List.{List}
+use mathlib.Core.Logic.{_⊎_}
 use mathlib.Core.Path.{_≡_, refl, sym, ap, _∙_}
 use Prim.Native.Nat.{ℕ, zero, suc, _+_, _≤_, _<_}
 use lib.ListN.{length, getD}
@@ -30,7 +31,7 @@ use Rattle.desk.specs.declared.Outcome.the-variants.{Refused, End}
 use Rattle.desk.specs.Answers.{refusalIn, nobody}
 use Rattle.desk.specs.Steps.{stepOf, nextOf}
 use Rattle.desk.proofs.Doing.{unsound-next, sound-next}
-use Rattle.desk.proofs.Effect.{answer-number, early-refusal, later-refusal, number-most}
+use Rattle.desk.proofs.Effect.{answer-number, early-refusal, later-refusal, number-of-table}
 use Rattle.desk.proofs.Lasting.{refusal-keeps}
 use Rattle.records.specs.declared.Closing.the-variants.{Unsound}
 use Rattle.records.specs.Runs.{endedWith, ranOf}
@@ -44,9 +45,9 @@ use Rattle.closeout.proofs.Carried.{refused-total, refused-untouched}
 pub answer-names-the-number : (b : Book) (r : Record) → refusalIn (stepOf b r .answer .outcome) ≡ refusalOf b r
 answer-names-the-number = answer-number
 
--- That number is 0 to 14: 15 and 16 are the writer's and the close-out's.
-pub a-number-of-the-table : (b : Book) (r : Record) → refusalOf b r ≤ 14
-a-number-of-the-table = number-most
+-- That number is 0 to 14, or 17 (K5): 15 and 16 are the writer's and the close-out's.
+pub a-number-of-the-table : (b : Book) (r : Record) → (refusalOf b r ≤ 14) ⊎ (refusalOf b r ≡ 17)
+a-number-of-the-table = number-of-table
 
 -- A refused record changes no amount and no account.
 pub a-refusal-changes-no-amount : (b : Book) (r : Record) → 0 < refusalOf b r
@@ -57,7 +58,7 @@ a-refusal-changes-no-amount = refusal-keeps
 pub refusals-up-to-3-change-nothing : (b : Book) (r : Record) → 0 < refusalOf b r → refusalOf b r ≤ 3 → stepOf b r .book ≡ b
 refusals-up-to-3-change-nothing = early-refusal
 
--- Refusals 4 to 14 move the serial on by one and change nothing else.
+-- Refusals 4 to 14 and 17 move the serial on by one and change nothing else.
 pub refusals-from-4-move-the-serial : (b : Book) (r : Record) → 3 < refusalOf b r → stepOf b r .book ≡ movedOn b
 refusals-from-4-move-the-serial = later-refusal
 

@@ -3,6 +3,7 @@ pub mod DemandTwo
 pub mod DemandThree
 pub mod TurnedOver
 pub mod Modes
+pub mod NoTakingOut
 pub mod Needs
 pub mod OneResult
 pub mod Quick

@@ -33,7 +33,7 @@ use Rattle.rules.specs.Refusals.{namedRow, refusalOf}
 use Rattle.rules.specs.Effects.{changeOf, movedOn, bookAfter}
 use Rattle.rules.specs.declared.Change.{Change}
 use Rattle.rules.specs.declared.Change.the-variants.{Refuse, Put, Open}
-use Rattle.rules.proofs.ModesAside.{same-verdict, same-change}
+use Rattle.rules.proofs.ModesAside.{same-verdict, same-but-17, same-change}
 use Rattle.desk.specs.Answers.{answerOf}
 use Rattle.desk.specs.Steps.{stepOf}
 use Rattle.desk.proofs.ModesAfter.{mode-after, modes-stay, looked-after, been-looked, others-stay-in}
@@ -144,19 +144,23 @@ module _ (b : Book) (modes : List Bool) (s : soundB b ≡ true) (t : soundB (wit
   unfolding closedOf roomOf closeOutRefusal
   same-close-out losses room = (rw (s, t), rw (s, t))
 
-  -- .. each record's verdict, which is its refusal or its effect, ..
-  pub same-verdict-and-effect : (r : Record)
-      → (refusalOf (withModes b modes) r ≡ refusalOf b r) × (changeOf (withModes b modes) r ≡ changeOf b r)
-  same-verdict-and-effect r = (same-verdict b modes (sound→ b s) (sound→ (withModes b modes) t) r, same-change b modes (sound→ b s) (sound→ (withModes b modes) t) r)
+  -- .. and each record's refusal, K5's 17 excepted: it is the same where neither is 17, ..
+  pub same-verdict-but-17 : (r : Record) → (refusalOf (withModes b modes) r ≡ 17 → ⊥) → (refusalOf b r ≡ 17 → ⊥) → refusalOf (withModes b modes) r ≡ refusalOf b r
+  same-verdict-but-17 r = same-but-17 b modes (sound→ b s) (sound→ (withModes b modes) t) r
 
-  -- .. and its answer; the books after it differ in their modes alone.
-  pub same-but-for-modes : (r : Record)
-      → (stepOf (withModes b modes) r .answer ≡ stepOf b r .answer)
+  -- .. and where the account named has the same mode in both: no other account's is asked for.
+  pub only-the-named-account's-mode : (r : Record) → getD modes (r .account) false ≡ modeAt b (r .account) → refusalOf (withModes b modes) r ≡ refusalOf b r
+  only-the-named-account's-mode r = same-verdict b modes (sound→ b s) (sound→ (withModes b modes) t) r
+
+  -- Where the refusal is the same so are the effect and the answer, and the books after the record differ in their modes alone.
+  pub same-but-for-modes : (r : Record) → refusalOf (withModes b modes) r ≡ refusalOf b r
+      → (changeOf (withModes b modes) r ≡ changeOf b r)
+      × (stepOf (withModes b modes) r .answer ≡ stepOf b r .answer)
       × (stepOf (withModes b modes) r .book ≡ withModes (stepOf b r .book) (stepOf (withModes b modes) r .book .modes))
   unfolding stepOf pick
-  same-but-for-modes r =
-      let e = same-change b modes (sound→ b s) (sound→ (withModes b modes) t) r in
-      (ap (answerOf (b .count) r) e, rw e (by (changeOf b r)))
+  same-but-for-modes r same =
+      let e = same-change b modes (sound→ b s) (sound→ (withModes b modes) t) r same in
+      (e, ap (answerOf (b .count) r) e, rw e (by (changeOf b r)))
     where
       refusing : (x : Bool) (c : Book) → pick x (withModes b modes) (withModes c modes) ≡ withModes (pick x b c) (pick x (withModes b modes) (withModes c modes) .modes)
       refusing true c = refl

@@ -15,7 +15,7 @@ use Rattle.book.proofs.SoundTest.{sound←}
 use Rattle.dayfile.specs.declared.Record.{Record}
 use Rattle.rules.specs.Refusals.{namedRow}
 use Rattle.rules.specs.Inner.{SeenOf, changeBy}
-use Rattle.rules.proofs.WhatIsSeen.{toSee, change-seen}
+use Rattle.rules.proofs.WhatIsSeen.{toSee, sees-all, change-seen}
 use Rattle.records.proofs.SoundRun.{step-sound}
 use Rattle.desk.specs.declared.Done.{Done}
 use Rattle.desk.specs.Steps.{doneBy, stepOf}
@@ -23,9 +23,6 @@ use Rattle.closeout.specs.declared.Closed.{Closed}
 use Rattle.closeout.specs.Columns.{four, rowsTo, total}
 use Rattle.closeout.specs.Closing.{lossAt, noTotal, closeOutRefusals, closeOutRefusal, closedOf, roomOf}
 use Rattle.promises.specs.Sequences.{afterAll}
-
-sees-all : (b : Book) (r : Record) → SeenOf b r (toSee b r)
-sees-all b r = record { free-kinds = λ e l. refl; free-pledge = λ e l. refl; cover = λ e l m. refl; clients = λ e l. refl }
 
 abbrev pub quickStep : Book → Record → Done
 quickStep b r = doneBy b r (changeBy (namedRow b r) (b .count) (b .serial) (toSee b r) r)

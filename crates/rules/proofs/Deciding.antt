@@ -130,7 +130,7 @@ never-one b r s e =
                 omega arith,
                 (
                   omega arith,
-                  (omega arith, (omega arith, (omega arith, (omega arith, (omega arith, tt))))),
+                  (omega arith, (omega arith, (omega arith, (omega arith, (omega arith, (omega arith, tt)))))),
                 ),
               ),
             ),

@@ -16,7 +16,7 @@ use Rattle.rows.specs.declared.Row.{Row}
 use Rattle.rows.specs.declared.Account.{Account}
 use Rattle.rows.specs.declared.Book.{Book}
 use Rattle.rows.specs.View.{View, freeOf, blockedOf, needCM}
-use Rattle.rows.specs.Rows.{ceiling, rowAt, places, collateral, accountOf, view, withMargin, withRow, withNew, hasLiveClient}
+use Rattle.rows.specs.Rows.{ceiling, rowAt, modeAt, places, collateral, accountOf, view, withMargin, withRow, withNew, hasLiveClient}
 use Rattle.rows.specs.Under.{Under, accountAt, atMargin, underTM, underCM, needToKeep}
 use Rattle.rows.specs.Modes.{lookAt, looked}
 use Rattle.rows.specs.Facts.{Shaped, NeedsKept}
@@ -111,8 +111,10 @@ module _ (b : Book) (s : Sound b) (owed : List ℕ) (h : Under (view b) owed) (r
       ∙ ap (λ z. ltb z (needCM (view (newMargin b r)))) (sym (same-collateral b r s l))
 
   pub sees-kept : (t : Bool) → (r .code ≡ 11 → t ≡ hasLiveClient b (r .account))
-      → SeenOf b r (seenWith a (getD owed (r .account) 0) (accountOf (rowAt b p)) (getD owed p 0) top (getD owed 0 0) t r)
+      → SeenOf b r (seenWith (modeAt b (r .account)) a (getD owed (r .account) 0) (accountOf (rowAt b p)) (getD owed p 0) top (getD owed 0 0) t r)
   sees-kept t k = record {
+    mode-kinds = λ e l. refl;
+    mode-pledge = λ e l. refl;
     free-kinds = λ e l. sym (ap (λ n. freeOf n (collateral row)) (h .each (r .account) l));
     free-pledge = λ e l. sym (ap (λ n. freeOf n (collateral row)) (h .each (r .account) l));
     cover = λ e l m. covers l m;

@@ -6,4 +6,5 @@ pub mod Passing
 pub mod SoundChange
 pub mod Deciding
 pub mod Kept
+pub mod HeldByMode
 pub mod ModesAside

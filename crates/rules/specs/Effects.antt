@@ -42,7 +42,7 @@ nextSerial serial = (serial + 1) % 65536
 abbrev pub movedOn : Book → Book
 movedOn b = withSerial b (nextSerial (b .serial))
 
--- "Refusals 1, 2 and 3 change nothing. Refusals 4 to 14 change the serial only"; "An instruction that passes changes one row
+-- "Refusals 1, 2 and 3 change nothing. Refusals 4 to 14" (and K5's 17) "change the serial only"; "An instruction that passes changes one row
 -- and the serial, no more, except that an opening also adds one to the number of accounts". Modes and kept needs come after: bookAfter.
 abbrev pub changedBy : Book → ℕ → Change → Book
 changedBy b place (Refuse n) = pick (leb n 3) b (movedOn b)

@@ -1,4 +1,4 @@
--- Document 01, 'Refusal numbers, in order of checking': the table, for a record at a book.
+-- Document 01, 'Refusal numbers, in order of checking': the table, for a record at a book; with document 02, K5: and its 17.
 use mathlib.Core.Bool.{Bool, not, _&&_, _||_}
 use mathlib.Core.List.{List, [], _∷_, _++_}
 use Prim.Native.Nat.{ℕ, _+_}
@@ -7,7 +7,7 @@ use Rattle.sums.specs.Table.{Line, _when_, first}
 use Rattle.rows.specs.declared.Row.{Row}
 use Rattle.rows.specs.declared.Book.{Book}
 use Rattle.rows.specs.View.{View, needCM, free}
-use Rattle.rows.specs.Rows.{ceiling, rowAt, placeOf, addedUp, view, withRow, withMargin, plusKinds, lessKinds, hasLiveClient, isLive}
+use Rattle.rows.specs.Rows.{ceiling, rowAt, modeAt, placeOf, addedUp, view, withRow, withMargin, plusKinds, lessKinds, hasLiveClient, isLive}
 use Rattle.rows.specs.Ranges.{kindsCapped, kindsWithin, noAmounts}
 use Rattle.book.specs.Sound.{soundB}
 use Rattle.dayfile.specs.declared.Record.{Record}
@@ -47,6 +47,11 @@ tooMuch row r =
     || eqb (r .code) 7 && not (kindsWithin (r .kinds) (row .allocated))
     || eqb (r .code) 9 && ltb (row .pledged) (r .pledged)
 
+-- Document 02, K5: "17 (the serial moves), for release and unpledge from a TM's or the CM's account whose mode is on, after 11 and before 12":
+-- in a sound book no other account's mode is on. "Clients' own releases go on".
+abbrev pub heldByMode : Bool → Record → Bool
+heldByMode on r = (eqb (r .code) 7 || eqb (r .code) 9) && on
+
 -- "12: release (its kinds added up) or unpledge of more than the account's free"
 abbrev pub beyondFree : ℕ → Record → Bool
 beyondFree left r = eqb (r .code) 7 && ltb left (addedUp (r .kinds)) || eqb (r .code) 9 && ltb left (r .pledged)
@@ -79,6 +84,7 @@ refusals b r =
     ∷ (9 when noNumberLeft (b .count) r)
     ∷ (10 when pastCeiling (namedRow b r) r)
     ∷ (11 when tooMuch (namedRow b r) r)
+    ∷ (17 when heldByMode (modeAt b (placeOf b (r .account))) r)
     ∷ (12 when beyondFree (free (view b) (placeOf b (r .account))) r)
     ∷ (13 when losesCover (needOver (view (newMargin b r))) r)
     ∷ (14 when notRetirable (namedRow b r) (hasLiveClient b (placeOf b (r .account))) r)

@@ -10,8 +10,9 @@ pub enum Change {
     Open(Row),
 }
 
-// What a record's verdict needs of the other rows.
+// What a record's verdict needs beside the row named: its mode, and what the other rows show.
 pub struct Seen {
+    pub mode: bool,
     pub free: u64,
     pub over: bool,
     pub tied: bool,

@@ -91,76 +91,64 @@ module _ (at : At) (m : Marks) (w : List ℕ) (was modes : List Bool) (needs use
   abbrev before : List Bool
   before = modesIn (at .waiting) was modes
 
-  -- the book, and as a verdict sees it
+  -- the book
   abbrev b : Book
   b = bookAt at m w was modes needs
 
-  abbrev b₀ : Book
-  b₀ = bookFrom (at .count) (at .serial) m w [] needs
+  pub many-modes : length modes ≡ 256
+  many-modes = ap length (g .looks) ∙ looked-size (view b) before
 
-  quiet : Sound b₀
-  quiet = all-off b (g .sound)
-
-  pub decides : Ready (at .count) (at .serial) m w needs
-  decides = record { size = g .size; sound = quiet }
+  pub decides : Ready (at .count) (at .serial) m w before needs × (length was ≡ 256) × (length modes ≡ 256)
+  decides = (record { size = g .size; sound = g .sound }, g .many, many-modes)
 
   pub places-now : Placed m w
-  places-now = placed (at .count) (at .serial) m w needs (g .size) (sound-rows b₀ quiet)
+  places-now = placed (at .count) (at .serial) m w before needs (g .size) (sound-rows b (g .sound))
 
   -- what is deemed under each account, by the kept needs
   under : List ℕ
   under = undersIn w needs
 
-  deemed-under : Under (view b₀) under
+  deemed-under : Under (view b) under
   unfolding under
-  deemed-under = sound-under b₀ quiet (wordAt w 9) (λ i l. sym (ap (λ x. x .margin) (row-in m w i l)))
+  deemed-under = sound-under b (g .sound) (wordAt w 9) (λ i l. sym (ap (λ x. x .margin) (row-in m w i l)))
 
   under-in : (j : ℕ) → j < 256 → underIn w needs j ≡ getD under j 0
   unfolding under
   under-in j l = sym (under-is w needs j l)
 
   pub under-small : (j : ℕ) → j < 256 → underIn w needs j ≤ 25_600_000_000_000_000
-  under-small j l = omega (arith, under-in j l, under-most b₀ quiet under deemed-under j)
+  under-small j l = omega (arith, under-in j l, under-most b (g .sound) under deemed-under j)
 
   -- the kept needs are those worked out afresh
-  fresh-now : needs ≡ needsAfresh (view b₀)
-  fresh-now = afresh-is (view b₀) needs (g .wide) (quiet .kept)
-
-  pub many-modes : length modes ≡ 256
-  many-modes = ap length (g .looks) ∙ looked-size (view b) before
-
-  same : changeOf b r ≡ changeOf b₀ r
-  same = same-change b₀ before quiet (g .sound) r
+  fresh-now : needs ≡ needsAfresh (view b)
+  fresh-now = afresh-is (view b) needs (g .wide) ((g .sound) .kept)
 
   -- what was decided
-  module _ (x : Gone) (n : Marks) (u : List ℕ) (d : Decided (at .count) (at .serial) m w needs r x n u) where
+  module _ (x : Gone) (n : Marks) (u : List ℕ) (d : Decided (at .count) (at .serial) m w before needs r x n u) where
     abbrev after : Book
-    after = bookFrom (x .count) (x .serial) n u [] needs
+    after = bookFrom (x .count) (x .serial) n u before needs
 
     pub places-after : Placed n u
-    places-after = placed (x .count) (x .serial) n u needs (d .size) (d .rows)
+    places-after = placed (x .count) (x .serial) n u before needs (d .size) (d .rows)
 
-    module _ (c : Change) (e : changeOf b₀ r ≡ c) where
-      is-change : changeOf b r ≡ c
-      is-change = same ∙ e
-
-      is-after : after ≡ changedBy b₀ (r .account) c
-      is-after = d .book ∙ ap (changedBy b₀ (r .account)) e
+    module _ (c : Change) (e : changeOf b r ≡ c) where
+      is-after : after ≡ changedBy b (r .account) c
+      is-after = d .book ∙ ap (changedBy b (r .account)) e
 
       -- with the modes, the kept needs and the list of what is in excess after it
       module _ (modes′ : List Bool) (needs′ used′ : List ℕ) (is-book : bookAt (atAfter at x) n u was modes′ needs′ ≡ bookAfter b (r .account) c) (wide : length needs′ ≡ 256)
           (uses : Under (inTenths (view after)) used′) (looks : modes′ ≡ looked (view after) (modesIn (atAfter at x .waiting) was modes′)) where
         steps-to : Stepped at m w was modes needs r x n u modes′ needs′ used′
         steps-to = record {
-          refusal = d .refusal ∙ ap refusalShown (sym same);
-          given = d .given ∙ ap (givenShown (at .count)) (sym same);
-          carried = d .carried ∙ ap carriedShown (sym same);
-          book = is-book ∙ ap (bookAfter b (r .account)) (sym is-change);
+          refusal = d .refusal;
+          given = d .given;
+          carried = d .carried;
+          book = is-book ∙ ap (bookAfter b (r .account)) (sym e);
           ready = record {
             size = d .size;
             many = g .many;
             wide = wide;
-            sound = rw is-book (rw is-change at (change-sound b r (g .sound)));
+            sound = rw is-book (rw e at (change-sound b r (g .sound)));
             uses = uses;
             looks = looks;
           };
@@ -168,7 +156,7 @@ module _ (at : At) (m : Marks) (w : List ℕ) (was modes : List Bool) (needs use
 
       -- carried out: the modes are those that a look leaves, and the needs those worked out afresh
       went : carriedShown c ≡ 1
-          → bookAfter b (r .account) c ≡ withNeeds (withModes (changedBy b₀ (r .account) c) (looked (view (changedBy b₀ (r .account) c)) before)) (needsAfresh (view (changedBy b₀ (r .account) c)))
+          → bookAfter b (r .account) c ≡ withNeeds (withModes (changedBy b (r .account) c) (looked (view (changedBy b (r .account) c)) before)) (needsAfresh (view (changedBy b (r .account) c)))
           → (modes′ : List Bool) (needs′ used′ : List ℕ) → modes′ ≡ looked (view after) before → needs′ ≡ needsAfresh (view after) → Under (inTenths (view after)) used′
           → Stepped at m w was modes needs r x n u modes′ needs′ used′
       unfolding pick
@@ -184,7 +172,7 @@ module _ (at : At) (m : Marks) (w : List ℕ) (was modes : List Bool) (needs use
           (look ∙ sym (look-twice (view after) before) ∙ ap (looked (view after)) (sym look ∙ sym its))
 
     -- refused: all stays
-    refused : (k : ℕ) → changeOf b₀ r ≡ Refuse k → Stepped at m w was modes needs r x n u modes needs used
+    refused : (k : ℕ) → changeOf b r ≡ Refuse k → Stepped at m w was modes needs r x n u modes needs used
     unfolding pick
     refused k e =
         steps-to (Refuse k) e modes needs used
@@ -196,40 +184,40 @@ module _ (at : At) (m : Marks) (w : List ℕ) (was modes : List Bool) (needs use
         its : modesIn (atAfter at x .waiting) was modes ≡ before
         its = ap (λ t. modesIn t was modes) (ap (λ q. at .waiting && eqb q 0) (d .carried ∙ ap carriedShown e) ∙ and-true (at .waiting))
 
-        with-modes-after : (t : Bool) → withModes (pick t b₀ (movedOn b₀)) before ≡ pick t b (movedOn b)
+        with-modes-after : (t : Bool) → withModes (pick t b (movedOn b)) before ≡ pick t b (movedOn b)
         with-modes-after true = refl
         with-modes-after false = refl
 
-        unmoved : (t : Bool) → view (pick t b₀ (movedOn b₀)) ≡ view b₀
+        unmoved : (t : Bool) → view (pick t b (movedOn b)) ≡ view b
         unmoved true = refl
         unmoved false = refl
 
-        same-view : view after ≡ view b₀
+        same-view : view after ≡ view b
         same-view = ap view (is-after (Refuse k) e) ∙ unmoved (leb k 3)
 
     -- a code that moves no figure
     pub still-step : (leb (r .code) 5 || ltb 10 (r .code)) ≡ true → Stepped at m w was modes needs r x n u modes needs used
-    still-step l = by (changeOf b₀ r) refl
+    still-step l = by (changeOf b r) refl
       where
-        by : (c : Change) → changeOf b₀ r ≡ c → Stepped at m w was modes needs r x n u modes needs used
+        by : (c : Change) → changeOf b r ≡ c → Stepped at m w was modes needs r x n u modes needs used
         by (Refuse k) e = refused k e
         by (Put y) e =
-            let p = put-passes b₀ r y e .account in
-            let stays : view after ≡ view b₀ =
+            let p = put-passes b r y e .account in
+            let stays : view after ≡ view b =
             ap view (is-after (Put y) e)
-            ∙ same-figures b₀ (r .account) y (omega (arith, rows-length m w, p, quiet .most)) (ap accountOf (made-put b₀ r y e) ∙ still (namedRow b₀ r) r (never-openings b₀ r y e) (put-passes b₀ r y e .good .known) l) in
+            ∙ same-figures b (r .account) y (omega (arith, rows-length m w, p, (g .sound) .most)) (ap accountOf (made-put b r y e) ∙ still (namedRow b r) r (never-openings b r y e) (put-passes b r y e .good .known) l) in
             went (Put y) e refl refl modes needs used (g .looks ∙ ap (λ q. looked q before) (sym stays)) (fresh-now ∙ ap needsAfresh (sym stays)) (subst (λ q. Under (inTenths q) used) (sym stays) (g .uses))
         by (Open y) e =
-            let opens : view after ≡ view (changedBy b₀ (r .account) (Open y)) = ap view (is-after (Open y) e) in
-            went (Open y) e refl refl modes needs used (g .looks ∙ sym (open-looks b₀ r y quiet e before) ∙ ap (λ q. looked q before) (sym opens))
-            (fresh-now ∙ sym (open-needs b₀ r y quiet e) ∙ ap needsAfresh (sym opens))
-            (subst (λ q. Under (inTenths q) used) (sym opens) (open-keeps b₀ r y quiet e true used (g .uses)))
+            let opens : view after ≡ view (changedBy b (r .account) (Open y)) = ap view (is-after (Open y) e) in
+            went (Open y) e refl refl modes needs used (g .looks ∙ sym (open-looks b r y (g .sound) e before) ∙ ap (λ q. looked q before) (sym opens))
+            (fresh-now ∙ sym (open-needs b r y (g .sound) e) ∙ ap needsAfresh (sym opens))
+            (subst (λ q. Under (inTenths q) used) (sym opens) (open-keeps b r y (g .sound) e true used (g .uses)))
 
     -- refused, whatever its code
     pub refused-step : (x .refusal ≡ 0 → ⊥) → Stepped at m w was modes needs r x n u modes needs used
-    refused-step ne = by (changeOf b₀ r) refl
+    refused-step ne = by (changeOf b r) refl
       where
-        by : (c : Change) → changeOf b₀ r ≡ c → Stepped at m w was modes needs r x n u modes needs used
+        by : (c : Change) → changeOf b r ≡ c → Stepped at m w was modes needs r x n u modes needs used
         by (Refuse k) e = refused k e
         by (Put y) e = absurd (ne (d .refusal ∙ ap refusalShown e))
         by (Open y) e = absurd (ne (d .refusal ∙ ap refusalShown e))
@@ -238,79 +226,79 @@ module _ (at : At) (m : Marks) (w : List ℕ) (was modes : List Bool) (needs use
     module _ (past : Past) (o : PastOf m w needs (r .account) past) where
       pub moved-step : x .refusal ≡ 0 → (leb (r .code) 5 || ltb 10 (r .code)) ≡ false
           → Stepped at m w was modes needs r x n u (lookedSince n u used before modes past) (neededSince n u needs past) (usedSince n u used past)
-      moved-step z l = by (changeOf b₀ r) refl
+      moved-step z l = by (changeOf b r) refl
         where
-          by : (c : Change) → changeOf b₀ r ≡ c → Stepped at m w was modes needs r x n u (lookedSince n u used before modes past) (neededSince n u needs past) (usedSince n u used past)
-          by (Refuse k) e = absurd (refuse-some b₀ r k e (sym (d .refusal ∙ ap refusalShown e) ∙ z))
+          by : (c : Change) → changeOf b r ≡ c → Stepped at m w was modes needs r x n u (lookedSince n u used before modes past) (neededSince n u needs past) (usedSince n u used past)
+          by (Refuse k) e = absurd (refuse-some b r k e (sym (d .refusal ∙ ap refusalShown e) ∙ z))
           by (Open y) e =
-              let c = and-split (leb 1 (r .code)) (leb (r .code) 3) (only-openings b₀ r y e) .1 in
+              let c = and-split (leb 1 (r .code)) (leb (r .code) 3) (only-openings b r y e) .1 in
               absurd (omega (arith, leb-true (r .code) 3 c, leb-false (r .code) 5 (or-fails (leb (r .code) 5) (ltb 10 (r .code)) l .0)))
           by (Put y) e = went (Put y) e refl refl _ _ _ looks fresh uses
             where
               given : r .account < at .count
-              given = put-passes b₀ r y e .account
+              given = put-passes b r y e .account
 
               low : r .account < 256
-              low = omega (arith, given, quiet .most)
+              low = omega (arith, given, (g .sound) .most)
 
               its-place : past .place ≡ r .account
               its-place = o .named low
 
-              own-is : past .own ≡ accountOf (namedRow b₀ r)
+              own-is : past .own ≡ accountOf (namedRow b r)
               own-is = o .own ∙ ap (accountIn m w) its-place ∙ sym (ap accountOf (row-in m w (r .account) low))
 
               p-given : past .own .tm < at .count
-              p-given = by-sort (ℕ-discrete (namedRow b₀ r .sort) 2)
+              p-given = by-sort (ℕ-discrete (namedRow b r .sort) 2)
                 where
-                  by-sort : Dec (namedRow b₀ r .sort ≡ 2) → past .own .tm < at .count
-                  by-sort (yes q) = omega (arith, ap (λ a. a .tm) own-is, quiet .shaped .tms (r .account) given q .0, given)
-                  by-sort (no q) = omega (arith, ap (λ a. a .tm) own-is, quiet .no-tm (r .account) given q, given)
+                  by-sort : Dec (namedRow b r .sort ≡ 2) → past .own .tm < at .count
+                  by-sort (yes q) = omega (arith, ap (λ a. a .tm) own-is, (g .sound) .shaped .tms (r .account) given q .0, given)
+                  by-sort (no q) = omega (arith, ap (λ a. a .tm) own-is, (g .sound) .no-tm (r .account) given q, given)
 
               p-low : past .own .tm < 256
-              p-low = omega (arith, p-given, quiet .most)
+              p-low = omega (arith, p-given, (g .sound) .most)
 
-              tm-is : namedRow b₀ r .tm ≡ past .own .tm
+              tm-is : namedRow b r .tm ≡ past .own .tm
               tm-is = sym (ap (λ a. a .tm) own-is)
 
-              its-is : past .its ≡ accountOf (rowAt b₀ (namedRow b₀ r .tm))
-              its-is = o .its ∙ sym (ap accountOf (row-in m w (past .own .tm) p-low)) ∙ ap (λ k. accountOf (rowAt b₀ k)) (sym tm-is)
+              its-is : past .its ≡ accountOf (rowAt b (namedRow b r .tm))
+              its-is = o .its ∙ sym (ap accountOf (row-in m w (past .own .tm) p-low)) ∙ ap (λ k. accountOf (rowAt b k)) (sym tm-is)
 
-              slot : Slot (namedRow b₀ r .tm) (namedRow b₀ r .tm)
+              slot : Slot (namedRow b r .tm) (namedRow b r .tm)
               slot = record { inside = omega (arith, tm-is, p-low); named = λ q. refl }
 
-              view-is : view after ≡ view (withRow b₀ (r .account) y)
+              view-is : view after ≡ view (withRow b (r .account) y)
               view-is = ap view (is-after (Put y) e)
 
               new-is : accountIn n u (past .place) ≡ accountOf y
               new-is =
                   ap (accountIn n u) its-place ∙ sym (ap accountOf (row-in n u (r .account) low))
                   ∙ ap (λ q. accountOf (rowAt q (r .account))) (is-after (Put y) e)
-                  ∙ ap accountOf (row-same b₀ (r .account) y (omega (arith, rows-length m w, low)))
+                  ∙ ap accountOf (row-same b (r .account) y (omega (arith, rows-length m w, low)))
 
-              list-is : usedSince n u used past ≡ usedAfter used (r .account) (accountOf (namedRow b₀ r)) (accountOf y) (accountOf (rowAt b₀ (namedRow b₀ r .tm)))
+              list-is : usedSince n u used past ≡ usedAfter used (r .account) (accountOf (namedRow b r)) (accountOf y) (accountOf (rowAt b (namedRow b r .tm)))
               list-is =
                   ap (λ i. usedAfter used i (past .own) (accountIn n u (past .place)) (past .its)) its-place
                   ∙ ap (λ a. usedAfter used (r .account) a (accountIn n u (past .place)) (past .its)) own-is
-                  ∙ ap (λ a. usedAfter used (r .account) (accountOf (namedRow b₀ r)) a (past .its)) new-is
-                  ∙ ap (usedAfter used (r .account) (accountOf (namedRow b₀ r)) (accountOf y)) its-is
+                  ∙ ap (λ a. usedAfter used (r .account) (accountOf (namedRow b r)) a (past .its)) new-is
+                  ∙ ap (usedAfter used (r .account) (accountOf (namedRow b r)) (accountOf y)) its-is
 
               uses : Under (inTenths (view after)) (usedSince n u used past)
               uses =
                   subst (λ q. Under (inTenths q) (usedSince n u used past)) (sym view-is)
-                  (subst (Under (inTenths (view (withRow b₀ (r .account) y)))) (sym list-is) (put-keeps b₀ r y quiet e true used (g .uses) (namedRow b₀ r .tm) slot))
+                  (subst (Under (inTenths (view (withRow b (r .account) y)))) (sym list-is) (put-keeps b r y (g .sound) e true used (g .uses) (namedRow b r .tm) slot))
 
               -- a look by the words is a look at the view
               by-words : (j : ℕ) → j < at .count
-                  → lookIn n u (usedSince n u used past) j (getD before j false) ≡ lookAt (view (withRow b₀ (r .account) y)) before j
+                  → lookIn n u (usedSince n u used past) j (getD before j false) ≡ lookAt (view (withRow b (r .account) y)) before j
               by-words j q =
                   ap (λ (a : Account). (eqb j 0 || eqb (a .sort) 1) && modeAfter (10 * a .margin + getD (usedSince n u used past) j 0) (a .collateral) (getD before j false))
-                  (sym (ap accountOf (row-in n u j (omega (arith, q, quiet .most)))))
+                  (sym (ap accountOf (row-in n u j (omega (arith, q, (g .sound) .most)))))
                   ∙ look-by (view after) (d .rows .shaped) (usedSince n u used past) uses before j (rw (ap (λ k. k .count) (is-after (Put y) e)) q)
                   ∙ ap (λ v. lookAt v before j) view-is
 
               looks : lookedSince n u used before modes past ≡ looked (view after) before
               looks =
-                  let w′ = view (withRow b₀ (r .account) y) in
+                  let w′ = view (withRow b (r .account) y) in
                   let used′ = usedSince n u used past in
                   let i = past .place in
                   let k = past .own .tm in
@@ -319,35 +307,35 @@ module _ (at : At) (m : Marks) (w : List ℕ) (was modes : List Bool) (needs use
                   let top = lookIn n u used′ 0 (getD before 0 false) in
                   ap (λ t. set (set (set modes i t) k its) 0 top) (by-words i (rw its-place given))
                   ∙ ap (λ t. set (set (set modes i (lookAt w′ before i)) k t) 0 top) (by-words k p-given)
-                  ∙ ap (λ t. set (set (set modes i (lookAt w′ before i)) k (lookAt w′ before k)) 0 t) (by-words 0 (quiet .shaped .some))
+                  ∙ ap (λ t. set (set (set modes i (lookAt w′ before i)) k (lookAt w′ before k)) 0 t) (by-words 0 ((g .sound) .shaped .some))
                   ∙ ap (λ l. set (set (set l i (lookAt w′ before i)) k (lookAt w′ before k)) 0 (lookAt w′ before 0)) (g .looks)
-                  ∙ ap (λ j. set (set (set (looked (view b₀) before) j (lookAt w′ before j)) k (lookAt w′ before k)) 0 (lookAt w′ before 0)) its-place
-                  ∙ ap (λ j. set (set (set (looked (view b₀) before) (r .account) (lookAt w′ before (r .account))) j (lookAt w′ before j)) 0 (lookAt w′ before 0)) (sym tm-is)
-                  ∙ sym (put-looks b₀ r y quiet e before (namedRow b₀ r .tm) slot)
+                  ∙ ap (λ j. set (set (set (looked (view b) before) j (lookAt w′ before j)) k (lookAt w′ before k)) 0 (lookAt w′ before 0)) its-place
+                  ∙ ap (λ j. set (set (set (looked (view b) before) (r .account) (lookAt w′ before (r .account))) j (lookAt w′ before j)) 0 (lookAt w′ before 0)) (sym tm-is)
+                  ∙ sym (put-looks b r y (g .sound) e before (namedRow b r .tm) slot)
                   ∙ ap (λ q. looked q before) (sym view-is)
 
               -- the kept needs, in the law's words
-              top-is : accountIn n u 0 .margin ≡ rowAt (withRow b₀ (r .account) y) 0 .margin
+              top-is : accountIn n u 0 .margin ≡ rowAt (withRow b (r .account) y) 0 .margin
               top-is = sym (ap (λ q. q .margin) (row-in n u 0 (omega arith))) ∙ ap (λ q. rowAt q 0 .margin) (is-after (Put y) e)
 
               own-under : past .under ≡ getD under (r .account) 0
               own-under = o .under ∙ under-in (past .place) (o .inside) ∙ ap (λ j. getD under j 0) its-place
 
-              its-under : past .owed ≡ getD under (namedRow b₀ r .tm) 0
+              its-under : past .owed ≡ getD under (namedRow b r .tm) 0
               its-under = o .owed ∙ under-in (past .own .tm) p-low ∙ ap (λ j. getD under j 0) (sym tm-is)
 
               all-under : past .all ≡ getD under 0 0
               all-under = o .all ∙ under-in 0 (omega arith)
 
               owed-is : owedSince n u past
-                  ≡ owedBy (getD under (r .account) 0) (getD under (namedRow b₀ r .tm) 0) (getD under 0 0) (accountOf (namedRow b₀ r)) (accountOf y) (accountOf (rowAt b₀ (namedRow b₀ r .tm)))
+                  ≡ owedBy (getD under (r .account) 0) (getD under (namedRow b r .tm) 0) (getD under 0 0) (accountOf (namedRow b r)) (accountOf y) (accountOf (rowAt b (namedRow b r .tm)))
               owed-is =
                   ap (λ a. owedBy (past .under) (past .owed) (past .all) a (accountIn n u (past .place)) (past .its)) own-is
-                  ∙ ap (λ a. owedBy (past .under) (past .owed) (past .all) (accountOf (namedRow b₀ r)) a (past .its)) new-is
-                  ∙ ap (owedBy (past .under) (past .owed) (past .all) (accountOf (namedRow b₀ r)) (accountOf y)) its-is
-                  ∙ ap (λ k. owedBy k (past .owed) (past .all) (accountOf (namedRow b₀ r)) (accountOf y) (accountOf (rowAt b₀ (namedRow b₀ r .tm)))) own-under
-                  ∙ ap (λ k. owedBy (getD under (r .account) 0) k (past .all) (accountOf (namedRow b₀ r)) (accountOf y) (accountOf (rowAt b₀ (namedRow b₀ r .tm)))) its-under
-                  ∙ ap (λ k. owedBy (getD under (r .account) 0) (getD under (namedRow b₀ r .tm) 0) k (accountOf (namedRow b₀ r)) (accountOf y) (accountOf (rowAt b₀ (namedRow b₀ r .tm)))) all-under
+                  ∙ ap (λ a. owedBy (past .under) (past .owed) (past .all) (accountOf (namedRow b r)) a (past .its)) new-is
+                  ∙ ap (owedBy (past .under) (past .owed) (past .all) (accountOf (namedRow b r)) (accountOf y)) its-is
+                  ∙ ap (λ k. owedBy k (past .owed) (past .all) (accountOf (namedRow b r)) (accountOf y) (accountOf (rowAt b (namedRow b r .tm)))) own-under
+                  ∙ ap (λ k. owedBy (getD under (r .account) 0) k (past .all) (accountOf (namedRow b r)) (accountOf y) (accountOf (rowAt b (namedRow b r .tm)))) its-under
+                  ∙ ap (λ k. owedBy (getD under (r .account) 0) (getD under (namedRow b r .tm) 0) k (accountOf (namedRow b r)) (accountOf y) (accountOf (rowAt b (namedRow b r .tm)))) all-under
 
               fresh : neededSince n u needs past ≡ needsAfresh (view after)
               fresh =
@@ -357,8 +345,8 @@ module _ (at : At) (m : Marks) (w : List ℕ) (was modes : List Bool) (needs use
                   ∙ ap (λ a. set (set (set needs (r .account) (needToKeep a (past .under))) (past .own .tm) (needToKeep (past .its) (d′ .tm))) 0 (accountIn n u 0 .margin + d′ .cm)) new-is
                   ∙ ap (λ k. set (set (set needs (r .account) (needToKeep (accountOf y) k)) (past .own .tm) (needToKeep (past .its) (d′ .tm))) 0 (accountIn n u 0 .margin + d′ .cm)) own-under
                   ∙ ap (λ k. set (set (set needs (r .account) own) k (needToKeep (past .its) (d′ .tm))) 0 (accountIn n u 0 .margin + d′ .cm)) (sym tm-is)
-                  ∙ ap (λ a. set (set (set needs (r .account) own) (namedRow b₀ r .tm) (needToKeep a (d′ .tm))) 0 (accountIn n u 0 .margin + d′ .cm)) its-is
-                  ∙ ap (λ k. set (set (set needs (r .account) own) (namedRow b₀ r .tm) (needToKeep (accountOf (rowAt b₀ (namedRow b₀ r .tm))) (d′ .tm))) 0 (k + d′ .cm)) top-is
-                  ∙ ap (λ (z : Owed). set (set (set needs (r .account) own) (namedRow b₀ r .tm) (needToKeep (accountOf (rowAt b₀ (namedRow b₀ r .tm))) (z .tm))) 0 (rowAt (withRow b₀ (r .account) y) 0 .margin + z .cm)) owed-is
-                  ∙ put-needs b₀ r y quiet e needs (g .wide) (quiet .kept) under deemed-under (namedRow b₀ r .tm) slot
+                  ∙ ap (λ a. set (set (set needs (r .account) own) (namedRow b r .tm) (needToKeep a (d′ .tm))) 0 (accountIn n u 0 .margin + d′ .cm)) its-is
+                  ∙ ap (λ k. set (set (set needs (r .account) own) (namedRow b r .tm) (needToKeep (accountOf (rowAt b (namedRow b r .tm))) (d′ .tm))) 0 (k + d′ .cm)) top-is
+                  ∙ ap (λ (z : Owed). set (set (set needs (r .account) own) (namedRow b r .tm) (needToKeep (accountOf (rowAt b (namedRow b r .tm))) (z .tm))) 0 (rowAt (withRow b (r .account) y) 0 .margin + z .cm)) owed-is
+                  ∙ put-needs b r y (g .sound) e needs (g .wide) ((g .sound) .kept) under deemed-under (namedRow b r .tm) slot
                   ∙ ap needsAfresh (sym view-is)

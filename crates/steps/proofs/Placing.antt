@@ -1,5 +1,5 @@
 -- What a look needs of the words of a sound book: amounts in range, TMs with a place, sums that fit.
-use mathlib.Core.Bool.{true}
+use mathlib.Core.Bool.{Bool, true}
 use mathlib.Core.List.{List, []}
 use mathlib.Core.Path.{_≡_, ap, _∙_}
 use Prim.Native.Nat.{ℕ, _+_, _*_, _-_, _≤_, _<_}
@@ -60,9 +60,9 @@ tm-low b s j = by (decLt j (b .count)) (ℕ-discrete (rowAt b j .sort) 2)
     by (yes l) (no c) = omega (arith, s .no-tm j l c)
     by (no l) d = omega (arith, ap (λ r. r .tm) (s .blank j (omega arith)))
 
-pub placed : (count serial : ℕ) (m : Marks) (w needs : List ℕ) → Sized m w → SoundRows (bookFrom count serial m w [] needs) → Placed m w
-placed count serial m w needs z s =
-    let b = bookFrom count serial m w [] needs in
+pub placed : (count serial : ℕ) (m : Marks) (w : List ℕ) (modes : List Bool) (needs : List ℕ) → Sized m w → SoundRows (bookFrom count serial m w modes needs) → Placed m w
+placed count serial m w modes needs z s =
+    let b = bookFrom count serial m w modes needs in
     record {
       size = z;
       ranges = λ j l. rw (row-in m w j l) at (rows-ranges b s j);

@@ -1,6 +1,6 @@
 -- A record carried out on the table's words in place, against the book of the old order: only for internal functions.
 use mathlib.Core.Bool.{Bool, _&&_}
-use mathlib.Core.List.{List, []}
+use mathlib.Core.List.{List}
 use mathlib.Core.Path.{_≡_}
 use Prim.Native.Nat.{ℕ, _+_}
 use lib.Dec.{eqb, leb}
@@ -21,10 +21,10 @@ use Rattle.table.specs.Facts.{Sized}
 use Rattle.steps.specs.declared.At.{At}
 use Rattle.steps.specs.declared.Gone.{Gone}
 
--- the words and the kept needs are a sound book's; a verdict looks at no mode
-pub record Ready (count serial : ℕ) (m : Marks) (w needs : List ℕ) : Type 0 where
+-- the words, the modes and the kept needs are a sound book's
+pub record Ready (count serial : ℕ) (m : Marks) (w : List ℕ) (modes : List Bool) (needs : List ℕ) : Type 0 where
   pub size : Sized m w
-  pub sound : Sound (bookFrom count serial m w [] needs)
+  pub sound : Sound (bookFrom count serial m w modes needs)
 
 -- what a change shows of its record: the refusal or 0, the number given or 0, and 1 for one carried out
 abbrev pub refusalShown : Change → ℕ
@@ -43,13 +43,13 @@ carriedShown (Put row) = 1
 carriedShown (Open row) = 1
 
 -- a record was decided at the words w, came to x and left the words u, before needs and modes follow
-pub record Decided (count serial : ℕ) (m : Marks) (w needs : List ℕ) (r : Record) (x : Gone) (n : Marks) (u : List ℕ) : Type 0 where
-  pub refusal : x .refusal ≡ refusalShown (changeOf (bookFrom count serial m w [] needs) r)
-  pub given : x .given ≡ givenShown count (changeOf (bookFrom count serial m w [] needs) r)
-  pub carried : x .carried ≡ carriedShown (changeOf (bookFrom count serial m w [] needs) r)
-  pub book : bookFrom (x .count) (x .serial) n u [] needs ≡ changedBy (bookFrom count serial m w [] needs) (r .account) (changeOf (bookFrom count serial m w [] needs) r)
+pub record Decided (count serial : ℕ) (m : Marks) (w : List ℕ) (modes : List Bool) (needs : List ℕ) (r : Record) (x : Gone) (n : Marks) (u : List ℕ) : Type 0 where
+  pub refusal : x .refusal ≡ refusalShown (changeOf (bookFrom count serial m w modes needs) r)
+  pub given : x .given ≡ givenShown count (changeOf (bookFrom count serial m w modes needs) r)
+  pub carried : x .carried ≡ carriedShown (changeOf (bookFrom count serial m w modes needs) r)
+  pub book : bookFrom (x .count) (x .serial) n u modes needs ≡ changedBy (bookFrom count serial m w modes needs) (r .account) (changeOf (bookFrom count serial m w modes needs) r)
   pub size : Sized n u
-  pub rows : SoundRows (bookFrom (x .count) (x .serial) n u [] needs)
+  pub rows : SoundRows (bookFrom (x .count) (x .serial) n u modes needs)
 
 -- refused with the number k
 abbrev pub stayed : ℕ → ℕ → ℕ → Gone

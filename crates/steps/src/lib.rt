@@ -2,6 +2,7 @@
 ghost use mathlib.Core.Bool.{true};
 ghost use mathlib.Core.Path.{_≡_};
 ghost use Prim.Native.Nat.{_<_};
+ghost use lib.ListN.{length};
 ghost use Rattle.rules.specs.Refusals.{isOpening};
 ghost use Rattle.table.specs.Words.{marksFrom};
 ghost use Rattle.steps.specs.Steps.{Ready, Decided, modesIn, atAfter, Going, Stepped, goneWith};
@@ -10,6 +11,7 @@ use codes::early;
 use codes::own::open;
 use dayfile::Record;
 use looking::look_after;
+use looking::mode_of;
 use looking::past_of;
 use looking::settle_needs;
 
@@ -31,28 +33,30 @@ pub struct Gone {
     pub serial: u16,
 }
 
-// The refusal or 0, and the words changed.
+// The refusal or 0, and the words changed. The mode that counts is the account's in the book before the record (K5).
 fn decide(
     sort: &mut [u8; 256],
     live: &mut [bool; 256],
     tm: &mut [u16; 256],
     w: &mut [u64; 2560],
+    modes: &[bool; 256],
     needs: &[u64; 256],
-    count: u16,
-    serial: u16,
+    was: &[bool; 256],
+    at: At,
     r: Record,
 ) -> u8
-    requires { ⌜ Ready count serial (marksFrom (now sort) (now live) (now tm)) (now w) (now needs) ⌝ }
-    ensures { λ x. ⌜ Decided count serial (marksFrom (now (sort .entry)) (now (live .entry)) (now (tm .entry))) (now (w .entry)) (now (needs .entry)) r (goneWith x (isOpening r) count serial) (marksFrom (now (sort .exit)) (now (live .exit)) (now (tm .exit))) (now (w .exit)) ⌝ }
+    requires { ⌜ Ready (at .count) (at .serial) (marksFrom (now sort) (now live) (now tm)) (now w) (modesIn (at .waiting) (now was) (now modes)) (now needs) × (length (now was) ≡ 256) × (length (now modes) ≡ 256) ⌝ }
+    ensures { λ x. ⌜ Decided (at .count) (at .serial) (marksFrom (now (sort .entry)) (now (live .entry)) (now (tm .entry))) (now (w .entry)) (modesIn (at .waiting) (now (was .entry)) (now (modes .entry))) (now (needs .entry)) r (goneWith x (isOpening r) (at .count) (at .serial)) (marksFrom (now (sort .exit)) (now (live .exit)) (now (tm .exit))) (now (w .exit)) ⌝ }
 {
-    let n = early(live, count, serial, r);
+    let n = early(live, at.count, at.serial, r);
     if n != 0 {
         return n;
     }
     if r.code <= 3 {
-        return open(sort, live, tm, w, count, r.code, r.account);
+        return open(sort, live, tm, w, at.count, r.code, r.account);
     }
-    amend(sort, live, tm, w, needs, count, r)
+    let on = mode_of(was, modes, at.waiting, r.account as usize);
+    amend(sort, live, tm, w, needs, on, at.count, r)
 }
 
 fn told(n: u8, opening: bool, count: u16, serial: u16) -> Gone
@@ -93,14 +97,16 @@ fn carry(
     live: &mut [bool; 256],
     tm: &mut [u16; 256],
     w: &mut [u64; 2560],
+    modes: &[bool; 256],
     needs: &[u64; 256],
+    was: &[bool; 256],
     at: At,
     r: Record,
 ) -> Gone
-    requires { ⌜ Ready (at .count) (at .serial) (marksFrom (now sort) (now live) (now tm)) (now w) (now needs) ⌝ }
-    ensures { λ x. ⌜ Decided (at .count) (at .serial) (marksFrom (now (sort .entry)) (now (live .entry)) (now (tm .entry))) (now (w .entry)) (now (needs .entry)) r x (marksFrom (now (sort .exit)) (now (live .exit)) (now (tm .exit))) (now (w .exit)) ⌝ }
+    requires { ⌜ Ready (at .count) (at .serial) (marksFrom (now sort) (now live) (now tm)) (now w) (modesIn (at .waiting) (now was) (now modes)) (now needs) × (length (now was) ≡ 256) × (length (now modes) ≡ 256) ⌝ }
+    ensures { λ x. ⌜ Decided (at .count) (at .serial) (marksFrom (now (sort .entry)) (now (live .entry)) (now (tm .entry))) (now (w .entry)) (modesIn (at .waiting) (now (was .entry)) (now (modes .entry))) (now (needs .entry)) r x (marksFrom (now (sort .exit)) (now (live .exit)) (now (tm .exit))) (now (w .exit)) ⌝ }
 {
-    let n = decide(sort, live, tm, w, needs, at.count, at.serial, r);
+    let n = decide(sort, live, tm, w, modes, needs, was, at, r);
     told(n, (1 <= r.code) & (r.code <= 3), at.count, at.serial)
 }
 
@@ -122,10 +128,10 @@ pub fn step(
     ensures { λ x. ⌜ Stepped at (marksFrom (now (sort .entry)) (now (live .entry)) (now (tm .entry))) (now (w .entry)) (now (was .entry)) (now (modes .entry)) (now (needs .entry)) r x (marksFrom (now (sort .exit)) (now (live .exit)) (now (tm .exit))) (now (w .exit)) (now (modes .exit)) (now (needs .exit)) (now (used .exit)) ⌝ }
 {
     if (r.code <= 5) | (10 < r.code) {
-        return carry(sort, live, tm, w, needs, at, r);
+        return carry(sort, live, tm, w, modes, needs, was, at, r);
     }
     let past = past_of(sort, live, tm, w, needs, r.account);
-    let gone = carry(sort, live, tm, w, needs, at, r);
+    let gone = carry(sort, live, tm, w, modes, needs, was, at, r);
     if gone.refusal == 0 {
         settle_needs(sort, live, tm, w, needs, past);
         look_after(sort, live, tm, w, modes, used, was, at.waiting, past);

@@ -121,7 +121,7 @@ fn settle_uses(used: &mut [u64; 256], i: usize, old: Account, new: Account, its:
 }
 
 // The mode of the account at a place, in the book.
-fn mode_of(was: &[bool; 256], modes: &[bool; 256], waiting: bool, j: usize) -> bool
+pub(crate) fn mode_of(was: &[bool; 256], modes: &[bool; 256], waiting: bool, j: usize) -> bool
     requires { ⌜ (j < 256) × (length (now was) ≡ 256) × (length (now modes) ≡ 256) ⌝ }
     ensures { λ x. ⌜ x ≡ getD (modesIn waiting (now (was .entry)) (now (modes .entry))) j false ⌝ }
 {

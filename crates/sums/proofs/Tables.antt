@@ -1,16 +1,16 @@
 -- The number that a table gives: exactly when its test holds and no earlier one does.
-use mathlib.Core.Bool.{Bool, true, false, _&&_}
+use mathlib.Core.Bool.{Bool, true, false, not, _&&_}
 use mathlib.Core.List.{List, [], _∷_, _++_}
-use mathlib.Core.Path.{_≡_, refl, sym, _∙_}
+use mathlib.Core.Path.{_≡_, refl, sym, ap, _∙_}
 use mathlib.Core.Logic.{_⊎_, inl, inr}
 use Prim.Native.Nat.{ℕ, _≤_, _<_}
 use native.Mathlib.Decide.{ℕ-discrete}
 use native.Mathlib.Omega.{arith}
-use lib.Dec.{leb}
-use borrow.Author.Tests.{leb-true}
+use lib.Dec.{eqb}
+use borrow.Author.Tests.{eq-eqb}
 use Rattle.sums.specs.Choice.{pick}
 use Rattle.sums.specs.Table.{Line, _when_, first, Given, here, later, NoneHolds}
-use Rattle.sums.proofs.Choices.{pick-yes, pick-no, and-split}
+use Rattle.sums.proofs.Choices.{pick-yes, pick-no, and-split, clash}
 
 -- the first line decides where its test holds, and otherwise the rest does
 pub first-here : (n : ℕ) (t : Bool) (rest : List Line) → t ≡ true → first ((n when t) ∷ rest) ≡ n
@@ -113,16 +113,45 @@ pub gives-0-none : (table : List Line) → Numbered table → first table ≡ 0 
 gives-0-none [] n e = tt
 gives-0-none (l ∷ rest) n e = let f = first-fails (l .number) (l .test) rest (n .0) e in (f .0, gives-0-none rest (n .1) (f .1))
 
--- a table all of whose numbers are k or less gives no higher one
-abbrev pub upto : ℕ → List Line → Bool
-upto k [] = true
-upto k (l ∷ rest) = leb (l .number) k && upto k rest
+-- a table all of whose numbers pass a test, as 0 does, gives one that passes it
+abbrev pub allPass : (ℕ → Bool) → List Line → Bool
+allPass p [] = p 0
+allPass p (l ∷ rest) = p (l .number) && allPass p rest
 
-pub first-upto : (k : ℕ) (table : List Line) → upto k table ≡ true → first table ≤ k
+pub first-passes : (p : ℕ → Bool) (table : List Line) → allPass p table ≡ true → p (first table) ≡ true
 unfolding first pick
-first-upto k [] h = omega arith
-first-upto k (l ∷ rest) h = let s = and-split (leb (l .number) k) (upto k rest) h in by (l .test) (leb-true _ _ (s .0)) (first-upto k rest (s .1))
+first-passes p [] h = h
+first-passes p (l ∷ rest) h = let s = and-split (p (l .number)) (allPass p rest) h in by (l .test) (s .0) (first-passes p rest (s .1))
   where
-    by : (t : Bool) → l .number ≤ k → first rest ≤ k → pick t (l .number) (first rest) ≤ k
-    by true p q = p
-    by false p q = q
+    by : (t : Bool) → p (l .number) ≡ true → p (first rest) ≡ true → p (pick t (l .number) (first rest)) ≡ true
+    by true x y = x
+    by false x y = y
+
+-- two tables that differ in one line's test alone give the same number where neither gives that line's
+pub first-but : (k : ℕ) (xs ys : List Line) → Numbered xs → (s t : Bool) → (first (xs ++ ((k when s) ∷ ys)) ≡ k → ⊥) → (first (xs ++ ((k when t) ∷ ys)) ≡ k → ⊥)
+    → first (xs ++ ((k when s) ∷ ys)) ≡ first (xs ++ ((k when t) ∷ ys))
+first-but k xs ys n s t p q = by (ℕ-discrete (first xs) 0)
+  where
+    clear : first xs ≡ 0 → (t : Bool) → first (xs ++ ((k when t) ∷ ys)) ≡ first ((k when t) ∷ ys)
+    clear e t = first-none xs _ n e
+
+    fails : first xs ≡ 0 → (t : Bool) → (first (xs ++ ((k when t) ∷ ys)) ≡ k → ⊥) → first (xs ++ ((k when t) ∷ ys)) ≡ first ys
+    fails e true h = absurd (h (clear e true ∙ first-here k true ys refl))
+    fails e false h = clear e false ∙ first-later k false ys refl
+
+    by : Dec (first xs ≡ 0) → first (xs ++ ((k when s) ∷ ys)) ≡ first (xs ++ ((k when t) ∷ ys))
+    by (yes e) = fails e s p ∙ sym (fails e t q)
+    by (no e) = first-some xs _ e ∙ sym (first-some xs _ e)
+
+-- a number that stands in one line of a table alone is given only where that line's test holds
+pub first-names : (k : ℕ) (xs ys : List Line) → Numbered xs → allPass (λ n. not (eqb n k)) xs ≡ true → allPass (λ n. not (eqb n k)) ys ≡ true
+    → (t : Bool) → first (xs ++ ((k when t) ∷ ys)) ≡ k → t ≡ true
+first-names k xs ys n p q true e = refl
+first-names k xs ys n p q false e = absurd (by (ℕ-discrete (first xs) 0))
+  where
+    never : (table : List Line) → allPass (λ n. not (eqb n k)) table ≡ true → first table ≡ k → ⊥
+    never table h z = clash (first-passes (λ n. not (eqb n k)) table h) (ap (λ n. not (eqb n k)) z ∙ ap not (eq-eqb k k refl))
+
+    by : Dec (first xs ≡ 0) → ⊥
+    by (yes z) = never ys q (sym (first-none xs _ n z ∙ first-later k false ys refl) ∙ e)
+    by (no z) = never xs p (sym (first-some xs _ z) ∙ e)

@@ -1,5 +1,5 @@
 //! K2 of document 02: uses and excesses, in tenths of a paisa, and the look
-//! at modes. With every amount at most the ceiling no figure passes 2 ^ 60.
+//! at modes; K5: what a mode forbids. With every amount at most the ceiling no figure passes 2 ^ 60.
 
 use super::{Book, Sort};
 use crate::mode::Mode;
@@ -41,6 +41,12 @@ impl Book {
             let collateral = self.rows[account].collateral();
             self.modes[account] = self.modes[account].looked_at(self.used(account), collateral);
         }
+    }
+
+    /// "A TM's or the CM's account whose mode is on." The look comes after a
+    /// record, so while one is checked this is the mode before it.
+    pub fn keeps_in(&self, account: usize) -> bool {
+        self.is_member(account) && self.modes[account] == Mode::On
     }
 
     /// The use of every TM and the CM from present amounts only; 0 for all

@@ -69,7 +69,8 @@ fn deposit(maker: &mut Maker, account: u16, amount: u64) {
 /// About the account's own collateral: up to it, a paisa over and back again
 /// by its margin, by an allocation and by a pledge. For the CM over is 13.
 fn about(maker: &mut Maker, account: u16) {
-    let (kind, part, pledged) = (maker.rng.below(4) as usize, amount(maker), amount(maker));
+    let (kind, part) = (maker.rng.below(4) as usize, amount(maker));
+    let pledged = maker.rng.between(part / 2 + 3, part);
     allocate_new(maker, account, kind, part);
     maker.say_pledge(PLEDGE, account, pledged);
     let whole = part + pledged;
@@ -82,16 +83,25 @@ fn about(maker: &mut Maker, account: u16) {
     take_out_free(maker, account, kind, [part, pledged]);
 }
 
-/// A lower margin, and what is free then is taken out to the last paisa: of
-/// what is allocated, and of what is pledged.
+/// What a lower margin leaves free is taken out to the last paisa: of what is
+/// allocated, and of what is pledged.
 fn take_out_free(maker: &mut Maker, account: u16, kind: usize, parts: [u64; 2]) {
-    let [released, unpledged] = parts.map(|part| maker.rng.between(3, part - 1));
-    let left = own(maker, account).saturating_sub(released);
-    maker.say_margin(account, left);
+    let [allocated, pledged] = parts;
+    let released = leave_free(maker, account, allocated);
     maker.say_kinds(RELEASE, account, of_one_kind(kind, released));
     maker.say_kinds(HAND_BACK, account, of_one_kind(kind, released));
-    maker.say_margin(account, left.saturating_sub(unpledged));
+    let unpledged = leave_free(maker, account, pledged);
     maker.say_pledge(UNPLEDGE, account, unpledged);
+}
+
+/// More than an eighth of its collateral, by a margin come to from none, so
+/// that a member is not in risk reduction mode then (17).
+fn leave_free(maker: &mut Maker, account: u16, most: u64) -> u64 {
+    let own = own(maker, account);
+    let free = maker.rng.between(own / 8 + 1, most - 1);
+    maker.say_margin(account, 0);
+    maker.say_margin(account, own.saturating_sub(free));
+    free
 }
 
 /// About the TM's collateral by what the client is deemed, likewise.
@@ -133,9 +143,40 @@ pub fn moving(maker: &mut Maker) {
             0 => step(maker),
             1 => release_free(maker),
             2 => unpledge_free(maker),
-            3..=5 => lessen_deemed(maker),
+            3 => take_out_of_member(maker),
+            4 | 5 => lessen_deemed(maker),
             _ => move_margin(maker),
         }
+    }
+}
+
+/// A TM's or the CM's margin comes from none to where the mode is mostly off,
+/// and what is free then is taken out, or by one paisa more or less.
+fn take_out_of_member(maker: &mut Maker) {
+    let member = match maker.live_of(Sort::Tm) {
+        Some(tm) if !maker.rng.one_in(3) => tm,
+        _ => 0,
+    };
+    let (row, kind) = (
+        maker.book.rows[usize::from(member)],
+        maker.rng.below(4) as usize,
+    );
+    let is_release = row.allocated[kind] > 0 && maker.rng.one_in(2);
+    let there = if is_release {
+        row.allocated[kind]
+    } else {
+        row.pledged
+    };
+    maker.say_margin(member, 0);
+    let free = maker.book.free(usize::from(member));
+    let least = (row.collateral() / 8 + 1).min(there);
+    let kept = free.saturating_sub(maker.rng.between(least, there));
+    maker.say_margin(member, kept.min(CEILING));
+    let amount = maker.rng.beside(maker.book.free(usize::from(member)));
+    if is_release {
+        maker.say_kinds(RELEASE, member, of_one_kind(kind, amount));
+    } else {
+        maker.say_pledge(UNPLEDGE, member, amount);
     }
 }
 

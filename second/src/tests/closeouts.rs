@@ -207,7 +207,7 @@ fn shared_and_spent_books() {
 #[test]
 fn losses_meet_the_edges() {
     let mut met = [[0; 9]; 4];
-    for (book, answer) in &made(180).0 {
+    for (book, answer) in &made(204).0 {
         for account in (0..book.count).filter(|&account| book.rows[account].live) {
             let row = &book.rows[account];
             let (loss, own, margin) = (answer.losses[account], row.collateral(), row.margin);
@@ -241,7 +241,7 @@ fn losses_meet_the_edges() {
 #[test]
 fn purses_are_used_to_the_last_paisa() {
     let mut met = [[0; 4]; 2];
-    for (book, answer) in &made(180).0 {
+    for (book, answer) in &made(990).0 {
         let all = book.standings();
         let (of_tm, of_cm) = first_round(book, &answer.losses);
         let mut look = |slot: usize, owner: usize, one: u64, both: u64| {

@@ -6,6 +6,8 @@ use crate::bundle;
 use crate::day::Closing;
 use crate::dayfile::{Next, Reader};
 use crate::make::{kind_named, make, NO_LIMIT, ROUND};
+use crate::tally::Tally;
+use crate::{holds, moves};
 
 /// Need as the paper says it, with no walk order and nothing kept.
 fn need(book: &Book, account: usize) -> u64 {
@@ -87,7 +89,7 @@ fn one_row_at_most() {
 
 #[test]
 fn busy_days_meet_every_refusal() {
-    let mut counts = [0; 17];
+    let mut counts = [0; 18];
     for seed in 0..60 {
         let kind = kind_named("busy").unwrap();
         let bytes = make(kind, seed, NO_LIMIT);
@@ -96,7 +98,16 @@ fn busy_days_meet_every_refusal() {
         });
     }
     assert!(counts[7..=14].iter().all(|&count| count > 50), "{counts:?}");
+    assert!(counts[17] > 50, "{counts:?}");
     assert!(counts[0] * 2 > counts.iter().sum::<usize>(), "{counts:?}");
+}
+
+/// A run of a whole round fails where it misses a kind; one that has met
+/// nothing misses all.
+#[test]
+fn a_tally_knows_what_it_missed() {
+    let all = [25 + 24, moves::Kind::all().len(), holds::Kind::all().len()];
+    assert_eq!(Tally::default().missed().len(), all.iter().sum::<usize>());
 }
 
 #[test]

@@ -6,6 +6,7 @@ mod closeouts;
 mod days;
 mod figures;
 mod forms;
+mod holds;
 mod modes;
 mod needs;
 mod refusals;

@@ -123,7 +123,7 @@ fn kept_by_records_of_others() {
         ("serial 9 margin 1 0", 3),
         ("raw 0C0000050001", 4),
         ("margin 1 101", 13),
-        ("unpledge 1 14", 12),
+        ("unpledge 1 14", 17),
         ("handback 1 cash 1", 11),
         ("retire 1", 14),
         ("retire 0", 8),

@@ -115,19 +115,19 @@ fn deposits() {
 /// To the last paisa that is free, and no need moves; a paisa more is 12.
 #[test]
 fn releases() {
-    let start = format!("{BOOK}\nmargin 0 5\nmargin 1 5\nmargin 2 15\nmargin 3 4\nmargin 4 45");
+    let start = format!("{BOOK}\nmargin 0 5\nmargin 1 5\nmargin 2 15\nmargin 3 4\nmargin 4 44");
     for (most, more) in [
         ("release 0 cash 95", "release 0 cash 96"),
         ("release 1 deposits 45", "release 1 deposits 46"),
         ("release 2 cash 5", "release 2 cash 6"),
         ("unpledge 2 5", "unpledge 2 6"),
         ("unpledge 3 6", "unpledge 3 7"),
-        ("unpledge 4 5", "unpledge 4 6"),
+        ("unpledge 4 6", "unpledge 4 7"),
     ] {
         assert_eq!(after(&start, most), 0, "{most}");
         assert_eq!(after(&start, more), 12, "{more}");
         for said in [most, more] {
-            assert_eq!(needs(&format!("{start}\n{said}")), [5, 5, 15, 4, 45]);
+            assert_eq!(needs(&format!("{start}\n{said}")), [5, 5, 15, 4, 44]);
         }
     }
 }

@@ -34,7 +34,7 @@ fn three_serial() {
     );
 }
 
-/// Three changes nothing, the serial neither; four to fourteen move it.
+/// Three changes nothing, the serial neither; four to fourteen and 17 move it.
 #[test]
 fn serial_moves_after_others() {
     let said = "serial 5 tm\nserial 0 retire 0\nserial 0 tm\nserial 1 tm\nserial 2 tm";
@@ -42,6 +42,8 @@ fn serial_moves_after_others() {
     let said = "raw 0C0000000000\nraw 010100010000 0000000000000001\nserial 2 pledge 0 0
 serial 3 retire 9\nserial 4 unpledge 0 1\nserial 5 margin 0 1\nserial 6 tm";
     assert_eq!(refusals(said), [4, 5, 6, 7, 11, 13, 0]);
+    let said = "serial 0 pledge 0 9\nserial 1 margin 0 9\nserial 2 unpledge 0 1\nserial 3 tm";
+    assert_eq!(refusals(said), [0, 0, 17, 0]);
 }
 
 #[test]

@@ -8,7 +8,7 @@ decide-requires : tie.Need-decide-requires
 decide-requires c κs = c .before .before .before .before .pre
 
 told-requires : tie.Need-told-requires
-told-requires c κs = λ e o. room _ _ _ _ _ _ _ _ _ (c .before .before .decide .ensures) e o
+told-requires c κs = λ e o. room _ _ _ _ _ _ _ _ _ _ (c .before .before .decide .ensures) e o
 
 returns : tie.Need-returns
 returns c = rw (c .told .ensures) (c .before .before .before .decide .ensures)

@@ -16,7 +16,7 @@ abbrev moves : tie.After-past-of → tie.Else1
 moves p = p .before .before .before .before .before .before
 
 abbrev past : tie.After-carry2 → tie.After-past-of
-past d = d .before .before .before .before .before .before
+past d = d .before .before .before .before .before .before .before
 
 abbrev decided : tie.Then2 → tie.After-carry2
 decided t = t .before .before
@@ -28,16 +28,16 @@ abbrev settled : tie.After-look-after → tie.After-settle-needs
 settled l = l .before .before .before .before .before .before .before
 
 carry-requires : tie.Need-carry-requires
-carry-requires c κs = let s = c .before .before .before .before .before .before .before .before in decides (s .args .at) _ _ _ _ _ _ (s .pre) (s .args .r)
+carry-requires c κs = let s = c .before .before .before .before .before .before .before .before .before in decides (s .args .at) _ _ _ _ _ _ (s .pre) (s .args .r)
 
 returns : tie.Need-returns
-returns c = let s = c .before .before .before .before .before .before .before .before .before in still-step (s .args .at) _ _ _ _ _ _ (s .pre) (s .args .r) _ _ _ (c .carry .ensures) (c .before .before .before .before .before .before .if1 .taken)
+returns c = let s = c .before .before .before .before .before .before .before .before .before .before in still-step (s .args .at) _ _ _ _ _ _ (s .pre) (s .args .r) _ _ _ (c .carry .ensures) (c .before .before .before .before .before .before .before .if1 .taken)
 
 past-of-requires : tie.Need-past-of-requires
 past-of-requires c κs = let s = called (c .before .before .before .before .before) in places-now (s .args .at) _ _ _ _ _ _ (s .pre) (s .args .r)
 
 carry-requires-2 : tie.Need-carry-requires-2
-carry-requires-2 c κs = let s = called (moves (c .before .before .before .before .before)) in decides (s .args .at) _ _ _ _ _ _ (s .pre) (s .args .r)
+carry-requires-2 c κs = let s = called (moves (c .before .before .before .before .before .before)) in decides (s .args .at) _ _ _ _ _ _ (s .pre) (s .args .r)
 
 modest : (p : tie.After-past-of) → ModestPast (p .past-of .result)
 modest p =

@@ -5,14 +5,13 @@ use mathlib.Core.Path.{_≡_, sym, ap, _∙_}
 use Prim.Native.Nat.{_+_}
 use native.Mathlib.Omega.{arith}
 use lib.ListN.{getD}
-use borrow.Author.Tests.{lt-ltb, le-ltb}
-use Rattle.sums.specs.Table.{Line}
+use Rattle.sums.specs.Table.{Line, first}
 use Rattle.rows.specs.declared.Row.{Row}
 use Rattle.rows.specs.Rows.{collateral, lessKinds, withAllocated}
 use Rattle.rows.specs.Ranges.{kindsWithin}
 use Rattle.rows.specs.View.{freeOf}
 use Rattle.codes.specs.Own.{undersIn, releaseLines}
-use Rattle.codes.proofs.Made.{here, next, none, refuses, puts, ranged, under-is, allocated-anew}
+use Rattle.codes.proofs.Made.{here, next, refuses, puts, ranged, under-is, allocated-anew}
 use borrow.Author.Needs.{needs}
 use Rattle.codes.proofs.own.release.Statement.{statement}
 use Rattle.codes.proofs.own.release.Tie as tie
@@ -26,7 +25,7 @@ tests c = c .before .before .before .before .before
 
 -- the code's own lines, by the row
 abbrev own : tie.Start → Row → List Line
-own s q = releaseLines q (freeOf (q .margin + getD (undersIn (s .args .w .now) (s .args .needs .now)) (s .args .i) 0) (collateral q)) (s .args .k)
+own s q = releaseLines q (s .args .on) (freeOf (q .margin + getD (undersIn (s .args .w .now) (s .args .needs .now)) (s .args .i) 0) (collateral q)) (s .args .k)
 
 test-is : (c : tie.After-kinds-within) → not (kindsWithin (start c .args .k) (c .before .row-at .result .allocated)) ≡ not (c .kinds-within .result)
 test-is c = ap not (sym (c .kinds-within .ensures))
@@ -66,12 +65,17 @@ free-with-requires c κs =
 added-up-requires : tie.Need-added-up-requires
 added-up-requires c κs = search needs
 
-returns-2 : tie.Need-returns-2
-returns-2 c =
+taking-requires : tie.Need-taking-requires
+taking-requires c κs = search needs
+
+-- the answer to what is taken out is the first of the code's own lines
+number : (c : tie.After-taking) → (let t = tests (c .before .before) in c .taking .result ≡ first (own (start t) (t .before .row-at .result)))
+number c =
     let f = c .before .before in
-    let t = tests f in
-    refuses 12 (own (start t)) _ (t .before .row-at .ensures)
-    (next 11 _ _ 12 (test-is t ∙ f .before .before .before .before .if1 .left) (here 12 _ _ (rw (← free-is f, ← c .before .added-up .ensures) (lt-ltb _ _ (c .if2 .taken))))) (λ z. omega arith)
+    next 11 _ _ _ (test-is (tests f) ∙ f .before .before .before .before .if1 .left) (rw (← free-is f, ← c .before .added-up .ensures) (c .taking .ensures))
+
+returns-2 : tie.Need-returns-2
+returns-2 c = let t = tests (c .before .before .before) in refuses _ (own (start t)) _ (t .before .row-at .ensures) (number (c .before)) (c .if2 .taken)
 
 less-kinds-requires : tie.Need-less-kinds-requires
 less-kinds-requires c κs = search needs
@@ -80,18 +84,17 @@ with-allocated-requires : tie.Need-with-allocated-requires
 with-allocated-requires c κs = search needs
 
 put-kinds-requires : tie.Need-put-kinds-requires
-put-kinds-requires c κs = (omega arith, start (tests (c .before .before .before .before .before)) .pre .0 .inside)
+put-kinds-requires c κs = (omega arith, start (tests (c .before .before .before .before .before .before)) .pre .0 .inside)
 
 returns-3 : tie.Need-returns-3
 returns-3 c =
     let made = c .before .before in
     let passed = made .before .before in
-    let f = passed .before .before in
-    let t = tests f in
+    let t = tests (passed .before .before .before) in
     let s = start t in
     let row-at = t .before .row-at in
     puts (own s) _ (row-at .ensures)
-    (next 11 _ _ 0 (test-is t ∙ f .before .before .before .before .if1 .left) (next 12 _ _ 0 (rw (← free-is f, ← passed .before .added-up .ensures) (le-ltb _ _ (passed .if2 .left))) none))
+    (sym (passed .if2 .left) ∙ number (passed .before))
     (allocated-anew (s .pre .0 .size) (s .pre .0 .inside) _ _
     (made .with-allocated .ensures ∙ ap (withAllocated (row-at .result)) (made .before .less-kinds .ensures) ∙ ap (λ q. withAllocated q (lessKinds (q .allocated) (s .args .k))) (row-at .ensures))
     (c .put-kinds .ensures))
@@ -107,6 +110,7 @@ release-spec =
     under-at-requires
     free-with-requires
     added-up-requires
+    taking-requires
     returns-2
     less-kinds-requires
     with-allocated-requires

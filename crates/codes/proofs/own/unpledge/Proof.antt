@@ -5,12 +5,12 @@ use native.Mathlib.Omega.{arith}
 use mathlib.Core.List.{List}
 use lib.ListN.{getD}
 use borrow.Author.Tests.{lt-ltb, le-ltb}
-use Rattle.sums.specs.Table.{Line}
+use Rattle.sums.specs.Table.{Line, first}
 use Rattle.rows.specs.declared.Row.{Row}
 use Rattle.rows.specs.Rows.{collateral, withPledged}
 use Rattle.rows.specs.View.{freeOf}
 use Rattle.codes.specs.Own.{undersIn, unpledgeLines}
-use Rattle.codes.proofs.Made.{here, next, none, refuses, puts, ranged, under-is, pledged-anew}
+use Rattle.codes.proofs.Made.{here, next, refuses, puts, ranged, under-is, pledged-anew}
 use borrow.Author.Needs.{needs}
 use Rattle.codes.proofs.own.unpledge.Statement.{statement}
 use Rattle.codes.proofs.own.unpledge.Tie as tie
@@ -24,7 +24,7 @@ enough c = c .before .before .before .before
 
 -- the code's own lines, by the row
 abbrev own : tie.Start → Row → List Line
-own s q = unpledgeLines q (freeOf (q .margin + getD (undersIn (s .args .w .now) (s .args .needs .now)) (s .args .i) 0) (collateral q)) (s .args .y)
+own s q = unpledgeLines q (s .args .on) (freeOf (q .margin + getD (undersIn (s .args .w .now) (s .args .needs .now)) (s .args .i) 0) (collateral q)) (s .args .y)
 
 under-at-is : (c : tie.After-under-at) → (let s = start (c .before .before .before) in c .under-at .result ≡ getD (undersIn (s .args .w .now) (s .args .needs .now)) (s .args .i) 0)
 under-at-is c = let s = start (c .before .before .before) in c .under-at .ensures ∙ sym (under-is (s .args .w .now) (s .args .needs .now) (s .args .i) (s .pre .inside))
@@ -55,12 +55,15 @@ free-with-requires c κs =
     let s = start e in
     (rw (c .before .before .account-of .ensures) (omega (arith, ranged _ (s .pre) (e .before .before .row-at .ensures))), rw (under-at-is c) (omega (arith, s .pre .most (s .args .i))))
 
+taking-requires : tie.Need-taking-requires
+taking-requires c κs = search needs
+
+-- the answer to what is taken out is the first of the code's own lines
+number : (c : tie.After-taking) → (let e = enough (c .before) in c .taking .result ≡ first (own (start e) (e .before .before .row-at .result)))
+number c = next 11 _ _ _ (le-ltb _ _ (enough (c .before) .if1 .left)) (rw (← free-is (c .before)) (c .taking .ensures))
+
 returns-2 : tie.Need-returns-2
-returns-2 c =
-    let f = c .before in
-    let e = enough f in
-    refuses 12 (own (start e)) _ (e .before .before .row-at .ensures)
-    (next 11 _ _ 12 (le-ltb _ _ (e .if1 .left)) (here 12 _ _ (rw (← free-is f) (lt-ltb _ _ (c .if2 .taken))))) (λ z. omega arith)
+returns-2 c = let e = enough (c .before .before) in refuses _ (own (start e)) _ (e .before .before .row-at .ensures) (number (c .before)) (c .if2 .taken)
 
 with-pledged-requires : tie.Need-with-pledged-requires
 with-pledged-requires c κs = search needs
@@ -69,23 +72,22 @@ mul-w : tie.Need-mul-w
 mul-w c = search needs
 
 add-w : tie.Need-add-w
-add-w c = omega (arith, start (enough (c .before .before .before)) .pre .inside)
+add-w c = omega (arith, start (enough (c .before .before .before .before)) .pre .inside)
 
 mul-w-2 : tie.Need-mul-w-2
-mul-w-2 c = omega (arith, start (enough (c .before .before .before)) .pre .inside)
+mul-w-2 c = omega (arith, start (enough (c .before .before .before .before)) .pre .inside)
 
 element-write-w : tie.Need-element-write-w
-element-write-w c = omega (arith, start (enough (c .before .before .before)) .pre .inside)
+element-write-w c = omega (arith, start (enough (c .before .before .before .before)) .pre .inside)
 
 returns-3 : tie.Need-returns-3
 returns-3 c =
     let passed = c .before .before in
-    let f = passed .before in
-    let e = enough f in
+    let e = enough (passed .before .before) in
     let s = start e in
     let row-at = e .before .before .row-at in
     puts (own s) _ (row-at .ensures)
-    (next 11 _ _ 0 (le-ltb _ _ (e .if1 .left)) (next 12 _ _ 0 (rw (← free-is f) (le-ltb _ _ (passed .if2 .left))) none))
+    (sym (passed .if2 .left) ∙ number (passed .before))
     (pledged-anew (s .pre .size) (s .pre .inside) _ _
     (c .with-pledged .ensures ∙ ap (λ q. withPledged q (q .pledged - s .args .y)) (row-at .ensures)) refl)
 
@@ -98,6 +100,7 @@ unpledge-spec =
     account-of-requires
     under-at-requires
     free-with-requires
+    taking-requires
     returns-2
     with-pledged-requires
     mul-w

@@ -1,0 +1,63 @@
+-- K5, no taking out under risk reduction: document 02's sentences as theorems. When 17 is given, exactly: `given-exactly-when` of DemandTwo.
+use mathlib.Core.Bool.{true, _||_}
+use mathlib.Core.List.{List, [], _∷_}
+use mathlib.Core.Logic.{_⊎_, inl, inr}
+use mathlib.Core.Path.{_≡_, ap, _∙_}
+use Prim.Native.Nat.{ℕ, _+_, _≤_, _<_}
+use native.Mathlib.Omega.{arith}
+use lib.Dec.{eqb}
+use borrow.Author.Tests.{eqb-true}
+use Rattle.sums.proofs.Choices.{and-split, or-split}
+use Rattle.rows.specs.declared.Book.{Book}
+use Rattle.rows.specs.Rows.{rowAt, modeAt, collateral}
+use Rattle.book.proofs.SoundTest.{sound→}
+use Rattle.dayfile.specs.declared.Record.{Record}
+use Rattle.rules.specs.Refusals.{namedRow, refusalOf}
+use Rattle.rules.proofs.HeldByMode.{held-by-17, sound-at-17, given-at-17}
+use Rattle.desk.specs.Steps.{stepOf}
+use Rattle.desk.proofs.Lasting.{count-stays}
+use Rattle.desk.proofs.TakingOut.{nothing-out}
+use Rattle.promises.proofs.Modes.{only-a-live-TM-or-the-CM}
+use Rattle.promises.specs.Sequences.{afterAll, OnBeforeEach, NothingTakenOut}
+
+-- 17 is given for release (7) and unpledge (9) alone, from the account of the CM (0) or of a live TM (sort 1) whose mode is on before the record; so hand
+-- back never meets it.
+pub seventeen-only-for : (b : Book) (r : Record) → refusalOf b r ≡ 17
+    → ((r .code ≡ 7) ⊎ (r .code ≡ 9)) × (modeAt b (r .account) ≡ true) × ((r .account ≡ 0) ⊎ ((namedRow b r .sort ≡ 1) × (namedRow b r .live ≡ true)))
+seventeen-only-for b r e =
+    let held = and-split (eqb (r .code) 7 || eqb (r .code) 9) (modeAt b (r .account)) (held-by-17 b r e) in
+    (which (or-split (eqb (r .code) 7) (eqb (r .code) 9) (held .0)), held .1, only-a-live-TM-or-the-CM b (sound-at-17 b r e) (r .account) (omega (arith, given-at-17 b r e, sound→ b (sound-at-17 b r e) .most)) (held .1))
+  where
+    which : (eqb (r .code) 7 ≡ true) ⊎ (eqb (r .code) 9 ≡ true) → (r .code ≡ 7) ⊎ (r .code ≡ 9)
+    which (inl q) = inl (eqb-true (r .code) 7 q)
+    which (inr q) = inr (eqb-true (r .code) 9 q)
+
+-- "Clients' own releases go on: their money isn't the member's.": a record that names a client (sort 2) or a CP (sort 3) never meets 17.
+pub clients'-and-CPs'-never-meet-17 : (b : Book) (r : Record) → (namedRow b r .sort ≡ 2) ⊎ (namedRow b r .sort ≡ 3) → refusalOf b r ≡ 17 → ⊥
+clients'-and-CPs'-never-meet-17 b r c e = by c (seventeen-only-for b r e .2)
+  where
+    top : r .account ≡ 0 → namedRow b r .sort ≡ 0
+    top z = ap (λ i. rowAt b i .sort) z ∙ sound→ b (sound-at-17 b r e) .shaped .top
+
+    by : (namedRow b r .sort ≡ 2) ⊎ (namedRow b r .sort ≡ 3) → (r .account ≡ 0) ⊎ ((namedRow b r .sort ≡ 1) × (namedRow b r .live ≡ true)) → ⊥
+    by (inl q) (inl z) = omega (arith, q, top z)
+    by (inl q) (inr z) = omega (arith, q, z .0)
+    by (inr q) (inl z) = omega (arith, q, top z)
+    by (inr q) (inr z) = omega (arith, q, z .0)
+
+-- "a TM or the CM that is in the mode .. keep its own proprietary collateral in": a record takes nothing out of an account whose mode is on before it, ..
+pub a-record-takes-nothing-out : (b : Book) (r : Record) (i : ℕ) → i < b .count → modeAt b i ≡ true → NothingTakenOut (rowAt b i) (rowAt (stepOf b r .book) i)
+a-record-takes-nothing-out = nothing-out
+
+-- .. and while the mode stays on no sequence of records does, ..
+pub no-sequence-takes-anything-out : (b : Book) (rs : List Record) (i : ℕ) → i < b .count → OnBeforeEach b i rs → NothingTakenOut (rowAt b i) (rowAt (afterAll b rs) i)
+unfolding OnBeforeEach afterAll
+no-sequence-takes-anything-out b [] i l on = ((omega arith, omega arith, omega arith, omega arith), omega arith)
+no-sequence-takes-anything-out b (r ∷ rs) i l on =
+    let one = nothing-out b r i l (on .0) in
+    let more = no-sequence-takes-anything-out (stepOf b r .book) rs i (omega (arith, count-stays b r)) (on .1) in
+    ((omega (arith, one, more), omega (arith, one, more), omega (arith, one, more), omega (arith, one, more)), omega (arith, one, more))
+
+-- .. so that its collateral never falls.
+pub its-collateral-never-falls : (b : Book) (rs : List Record) (i : ℕ) → i < b .count → OnBeforeEach b i rs → collateral (rowAt b i) ≤ collateral (rowAt (afterAll b rs) i)
+its-collateral-never-falls b rs i l on = let out = no-sequence-takes-anything-out b rs i l on in omega (arith, out)
