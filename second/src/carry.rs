@@ -171,8 +171,11 @@ fn unpledge(book: &mut Book, account: usize, amount: u64) -> Carried {
     Ok(Outcome::Done)
 }
 
+/// 13 is for "a rising margin" (K6): any other leaves a sound book covered.
+/// `Margins` holds this against the line without the word.
 fn set_margin(book: &mut Book, account: usize, margin: u64) -> Carried {
-    if book.cm_need_with(account, margin) > book.rows[0].collateral() {
+    let rises = margin > book.rows[account].margin;
+    if rises && book.cm_need_with(account, margin) > book.rows[0].collateral() {
         return Err(Refusal::MarginUncovered);
     }
     book.change(account, |row| row.margin = margin);

@@ -10,6 +10,7 @@ use crate::holds::Holds;
 use crate::looks::Looks;
 use crate::made::Made;
 use crate::make::{losses, make, MILLION_KIND, NO_LIMIT, ROUND};
+use crate::margins::Margins;
 use crate::moves::Moves;
 use crate::options::Options;
 use crate::print;
@@ -185,12 +186,12 @@ fn kinds_met(made: &Made, looks: &Looks, moves: &Moves) -> usize {
 }
 
 /// This program's own answer, with the book's soundness asserted besides, its
-/// modes held against a look at all, its needs against those afresh, and what
-/// may be taken out against the rules by the letter.
+/// modes held against a look at all, its needs against those afresh, what may
+/// be taken out against the rules by the letter, and 13 against its old line.
 fn own_answer(made: &Made, tally: &mut Tally) -> Result<Own, String> {
     let (mut faults, mut read) = (0, 0);
     let (mut looks, mut moves) = (Looks::fresh(), Moves::fresh());
-    let mut holds = Holds::over(&made.bytes);
+    let (mut holds, mut margins) = (Holds::over(&made.bytes), Margins::over(&made.bytes));
     let mut stops = Vec::new();
     let checked = made.kind != MILLION_KIND.0;
     let (out, book, day) = print::day_seen(&made.bytes, |answer, book| {
@@ -200,6 +201,7 @@ fn own_answer(made: &Made, tally: &mut Tally) -> Result<Own, String> {
         faults += usize::from(!looks.after(answer, book));
         faults += usize::from(!moves.after(answer, book));
         faults += usize::from(!holds.after(answer, book));
+        faults += usize::from(!margins.after(answer, book));
         if kinds_met(made, &looks, &moves) > kinds {
             stops.push(read);
         }
@@ -217,6 +219,7 @@ fn own_answer(made: &Made, tally: &mut Tally) -> Result<Own, String> {
     tally.looks.add(&looks.met);
     tally.moves.add(&moves.met);
     tally.holds.add(&holds.met);
+    tally.margins.add(&margins.met);
     tally.refusals[Refusal::Cut as usize] += u64::from(day.closing == Closing::Cut);
     Ok(Own { out, book, stops })
 }

@@ -15,6 +15,7 @@ mod holds;
 mod looks;
 mod made;
 mod make;
+mod margins;
 mod mode;
 mod moves;
 mod options;
@@ -28,6 +29,7 @@ mod text;
 
 use holds::Holds;
 use looks::Looks;
+use margins::Margins;
 use moves::Moves;
 use std::ffi::OsString;
 use std::fs::File;
@@ -126,16 +128,16 @@ fn day_command(words: &[String]) -> Output {
 }
 
 /// As `day`, but looks after every record whether the book is sound, its
-/// modes are as a look at all would have them, its needs moved as they can, and
-/// what was to be taken out got the answer of the rules.
+/// modes are as a look at all would have them, its needs moved as they can, what
+/// was to be taken out got the answer of the rules, and 13's old line agrees.
 fn checked_day(piece: &[u8]) -> Output {
     let (mut seen, mut first_fault) = (0, None);
     let (mut looks, mut moves) = (Looks::fresh(), Moves::fresh());
-    let mut holds = Holds::over(piece);
+    let (mut holds, mut margins) = (Holds::over(piece), Margins::over(piece));
     let (out, _, _) = print::day_seen(piece, |answer, book| {
         seen += 1;
         let agrees = looks.after(answer, book) & moves.after(answer, book);
-        let agrees = agrees & holds.after(answer, book);
+        let agrees = agrees & holds.after(answer, book) & margins.after(answer, book);
         if first_fault.is_none() && !(agrees && book.is_sound() && book.uses_agree()) {
             first_fault = Some(seen);
         }

@@ -4,7 +4,7 @@ use crate::book::Sort;
 use crate::carry::Answer;
 use crate::holds;
 use crate::looks::{self, KINDS};
-use crate::moves;
+use crate::{margins, moves};
 
 /// Slots 0 to 17 count answers by refusal.
 #[derive(Default)]
@@ -15,6 +15,7 @@ pub struct Tally {
     pub looks: looks::Met,
     pub moves: moves::Met,
     pub holds: holds::Met,
+    pub margins: margins::Met,
     /// How often a day was stopped on the way to ask for standings and needs.
     pub stops: u64,
 }
@@ -49,11 +50,12 @@ impl Tally {
             holds("TMs", &self.holds, Sort::Tm),
             holds("clients", &self.holds, Sort::Client),
             holds("CPs", &self.holds, Sort::Cp),
+            margins(&self.margins),
         ];
         lines.join("\n")
     }
 
-    /// The kinds of looks, moves and takings out that weren't met.
+    /// The kinds of looks, moves, takings out and margins that weren't met.
     pub fn missed(&self) -> Vec<String> {
         let looks = [("TMs", &self.looks.tms[..]), ("the CM", &self.looks.cm)];
         let looks = looks.into_iter().flat_map(|(whose, met)| {
@@ -64,7 +66,10 @@ impl Tally {
         moves.retain(|kind| self.moves.times(kind) == 0);
         let mut holds = holds::Kind::all();
         holds.retain(|kind| self.holds.times(kind) == 0);
+        let margins = margins::KINDS.iter().zip(self.margins.0);
+        let margins = margins.filter(|(_, many)| *many == 0);
         looks
+            .chain(margins.map(|(&kind, _)| format!("at full use: {}", margins::words(kind))))
             .chain(moves.iter().map(|kind| format!("{kind:?}")))
             .chain(holds.iter().map(|kind| format!("{kind:?}")))
             .collect()
@@ -90,6 +95,12 @@ fn holds(who: &str, met: &holds::Met, sort: Sort) -> String {
     let kinds = holds::Kind::of(sort);
     let kinds = kinds.iter().map(|kind| (kind.words(), met.times(kind)));
     format!("taken out by {who}, {}", counted(kinds.collect()))
+}
+
+fn margins(met: &margins::Met) -> String {
+    let kinds = margins::KINDS.iter().zip(met.0);
+    let kinds = kinds.map(|(&kind, many)| (margins::words(kind), many));
+    format!("margins at full use, {}", counted(kinds.collect()))
 }
 
 fn counted(kinds: Vec<(String, u64)>) -> String {

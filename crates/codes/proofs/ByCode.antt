@@ -62,7 +62,7 @@ module _ (count : ℕ) (m : Marks) (w under : List ℕ) (on : Bool) (r : Record)
     sets-margin e l h =
         let q : blockedOf (r .margin) ceiling ≡ r .margin = omega arith in
         as-amended (by-margin row r e)
-        (margin-own row count (seenIn count m w under on r) r e ∙ ap (λ y. first (marginLines (overIn m w under (r .account) y))) q) h
+        (margin-own row count (seenIn count m w under on r) r e ∙ ap (λ y. first (marginLines row (r .margin) (overIn m w under (r .account) y))) q) h
 
   pub retires : {k : ℕ} {n : Marks} → r .code ≡ 11 → Retires m w count (r .account) k n → Answered count m w under on r k n w
   retires e h = as-amended (by-retire row r e) (retire-own row count (seenIn count m w under on r) r e) h

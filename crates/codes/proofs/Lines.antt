@@ -61,7 +61,7 @@ module _ (row : Row) (count : ℕ) (seen : Seen) (r : Record) where
   unfolding first pick
   unpledge-own e = own 9 e
 
-  pub margin-own : r .code ≡ 10 → first (from8 row count seen r) ≡ first (marginLines (seen .over))
+  pub margin-own : r .code ≡ 10 → first (from8 row count seen r) ≡ first (marginLines row (r .margin) (seen .over))
   unfolding first pick
   margin-own e = own 10 e
 

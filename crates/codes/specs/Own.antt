@@ -69,9 +69,9 @@ pledgeLines row x = (10 when ltb ceiling (row .pledged + x)) ∷ []
 abbrev pub unpledgeLines : Row → Bool → ℕ → ℕ → List Line
 unpledgeLines row on left x = (11 when ltb (row .pledged) x) ∷ takingLines on left x
 
--- "13: after the new margin the CM's need would pass its collateral"
-abbrev pub marginLines : Bool → List Line
-marginLines over = (13 when over) ∷ []
+-- "13: after a rising margin the CM's need would pass its collateral" (K6)
+abbrev pub marginLines : Row → ℕ → Bool → List Line
+marginLines row x over = (13 when (ltb (row .margin) x && over)) ∷ []
 
 -- "8: .. retiring: account 0"; "14: retiring an account with any amount not zero, or a TM with a live client"
 abbrev pub retireLines : Row → ℕ → Bool → List Line
@@ -158,7 +158,7 @@ Unpledges m w under on i y x =
     Answers m w i (withPledged (rowIn m w i) (rowIn m w i .pledged - y)) (unpledgeLines (rowIn m w i) on (freeIn m w under i) y) x m
 
 abbrev pub SetsMargin : Marks → List ℕ → List ℕ → ℕ → ℕ → ℕ → List ℕ → Type 0
-SetsMargin m w under i y x = Answers m w i (withMargin (rowIn m w i) y) (marginLines (overIn m w under i y)) x m
+SetsMargin m w under i y x = Answers m w i (withMargin (rowIn m w i) y) (marginLines (rowIn m w i) y (overIn m w under i y)) x m
 
 abbrev pub Retires : Marks → List ℕ → ℕ → ℕ → ℕ → Marks → Type 0
 Retires m w count i x n = Answers m w i (withLive (rowIn m w i) false) (retireLines (rowIn m w i) i (tiedIn m count i)) x n w

@@ -9,12 +9,13 @@ ghost use lib.Dec.{eqb};
 ghost use Rattle.sums.specs.Table.{first};
 ghost use Rattle.table.specs.Words.{marksFrom, rowIn};
 ghost use Rattle.table.specs.Facts.{Sized};
-ghost use Rattle.codes.specs.Own.{takingLines, tiedIn, undersIn, Held, Opens, Receives, HandsBack, Allocates, Releases, Pledges, Unpledges, SetsMargin, Retires};
+ghost use Rattle.codes.specs.Own.{takingLines, tiedIn, undersIn, overIn, Held, Opens, Receives, HandsBack, Allocates, Releases, Pledges, Unpledges, SetsMargin, Retires};
 use crate::settling::over_with;
 use crate::settling::owed_after;
 use crate::settling::under_at;
 use rows::CEILING;
 use rows::Kinds;
+use rows::Row;
 use rows::kept::free_with;
 use rows::needs::account_of;
 use rows::ranges::kinds_capped;
@@ -219,7 +220,28 @@ pub(crate) fn unpledge(
     0
 }
 
-// 10
+// The CM's need would pass its collateral after the margin y of the account at place i, whose row is given.
+fn over_after(
+    sort: &[u8; 256],
+    live: &[bool; 256],
+    tm: &[u16; 256],
+    w: &[u64; 2560],
+    needs: &[u64; 256],
+    i: usize,
+    row: Row,
+    y: u64,
+) -> bool
+    requires { ⌜ Held (marksFrom (now sort) (now live) (now tm)) (now w) (undersIn (now w) (now needs)) i × (y ≤ ceiling) × (row ≡ rowIn (marksFrom (now sort) (now live) (now tm)) (now w) i) ⌝ }
+    ensures { λ x. ⌜ x ≡ overIn (marksFrom (now (sort .entry)) (now (live .entry)) (now (tm .entry))) (now (w .entry)) (undersIn (now (w .entry)) (now (needs .entry))) i y ⌝ }
+{
+    let top = account_of(row_at(sort, live, tm, w, 0));
+    let new = with_margin(row, y);
+    let old = account_of(row);
+    let owed = owed_after(sort, live, tm, w, needs, i, old, account_of(new));
+    over_with(old, top, y, owed.cm)
+}
+
+// 10; for 13 what the CM's need would be is worked out where the margin rises, and nowhere else (K6).
 pub(crate) fn set_margin(
     sort: &[u8; 256],
     live: &[bool; 256],
@@ -233,13 +255,12 @@ pub(crate) fn set_margin(
     ensures { λ x. ⌜ SetsMargin (marksFrom (now (sort .entry)) (now (live .entry)) (now (tm .entry))) (now (w .entry)) (undersIn (now (w .entry)) (now (needs .entry))) i y x (now (w .exit)) ⌝ }
 {
     let row = row_at(sort, live, tm, w, i);
-    let top = account_of(row_at(sort, live, tm, w, 0));
-    let new = with_margin(row, y);
-    let old = account_of(row);
-    let owed = owed_after(sort, live, tm, w, needs, i, old, account_of(new));
-    if over_with(old, top, y, owed.cm) {
-        return 13;
+    if row.margin < y {
+        if over_after(sort, live, tm, w, needs, i, row, y) {
+            return 13;
+        }
     }
+    let new = with_margin(row, y);
     w[256 * 9 + i] = new.margin;
     0
 }

@@ -26,6 +26,17 @@ pub fn lines() {
     shown::needs(b"the client takes 1: refused (12)", t);
     let t = made::carried(t, 10, MARGIN, 2, 20_000);
     shown::needs(b"the client's margin 20000: refused (13)", t);
+    let full = made::margin(t, 0, 998);
+    shown::needs(b"the CM's 998: full use", full);
+    let same = made::margin(full, 2, 20);
+    shown::needs(b"at full use the client's margin as it is", same);
+    let more = made::margin(full, 3, 8);
+    shown::needs(
+        b"at full use the CP's margin rises by 1: refused (13)",
+        more,
+    );
+    let less = made::margin(full, 3, 6);
+    shown::needs(b"at full use the CP's margin falls by 1", less);
     let t = made::given(t, 3, 2);
     shown::needs(b"the CP brings 2", t);
     let t = made::margin(t, 2, 0);

@@ -4,6 +4,7 @@ pub mod DemandThree
 pub mod TurnedOver
 pub mod Modes
 pub mod NoTakingOut
+pub mod FallingMargins
 pub mod Needs
 pub mod OneResult
 pub mod Quick

@@ -35,7 +35,7 @@ module _ (b : Book) (r : Record) where
   abbrev behind : List Line
   behind =
       (12 when beyondFree (free (view b) (r .account)) r)
-      ∷ (13 when losesCover (needOver (view (newMargin b r))) r)
+      ∷ (13 when losesCover (namedRow b r) (needOver (view (newMargin b r))) r)
       ∷ (14 when notRetirable (namedRow b r) (hasLiveClient b (r .account)) r)
       ∷ []
 

@@ -7,4 +7,5 @@ pub mod SoundChange
 pub mod Deciding
 pub mod Kept
 pub mod HeldByMode
+pub mod Falls
 pub mod ModesAside

@@ -34,7 +34,7 @@ pub record Passes (b : Book) (r : Record) : Type 0 where
   pub enough : tooMuch (namedRow b r) r ≡ false
   pub notHeld : heldByMode (modeAt b (r .account)) r ≡ false
   pub isFree : beyondFree (free (view b) (r .account)) r ≡ false
-  pub covered : losesCover (needOver (view (newMargin b r))) r ≡ false
+  pub covered : losesCover (namedRow b r) (needOver (view (newMargin b r))) r ≡ false
   pub retirable : notRetirable (namedRow b r) (hasLiveClient b (r .account)) r ≡ false
 
 pub passes-all : (b : Book) (r : Record) → refusalOf b r ≡ 0 → Passes b r
@@ -50,7 +50,7 @@ passes-all b r e =
     let f₁₁ = first-fails 11 (tooMuch (namedRow b r) r) _ (omega arith) (f₁₀ .1) in
     let f₁₇ = first-fails 17 (heldByMode (modeAt b (r .account)) r) _ (omega arith) (f₁₁ .1) in
     let f₁₂ = first-fails 12 (beyondFree (free (view b) (r .account)) r) _ (omega arith) (f₁₇ .1) in
-    let f₁₃ = first-fails 13 (losesCover (needOver (view (newMargin b r))) r) _ (omega arith) (f₁₂ .1) in
+    let f₁₃ = first-fails 13 (losesCover (namedRow b r) (needOver (view (newMargin b r))) r) _ (omega arith) (f₁₂ .1) in
     let f₁₄ = first-fails 14 (notRetirable (namedRow b r) (hasLiveClient b (r .account)) r) _ (omega arith) (f₁₃ .1) in
     let there = and-split (ltb (r .account) (b .count)) (namedRow b r .live) (not-false _ (f₇ .0)) in
     record {

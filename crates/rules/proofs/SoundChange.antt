@@ -17,7 +17,7 @@ use Rattle.rows.specs.Rows.{placeOf, ceiling, addedUp, view, openedRow, withRow
 use Rattle.rows.specs.Ranges.{kindsCapped, kindsWithin, noAmounts}
 use Rattle.book.specs.Facts.{SoundRows, Sound}
 use Rattle.book.proofs.RowFacts.{within→, capped→}
-use Rattle.book.proofs.SoundAfter.{serial-rows, serial-sound, receive-sound, hand-back-sound, allocate-sound, release-sound, pledge-sound, unpledge-sound, margin-sound, retire-sound, open-sound}
+use Rattle.book.proofs.SoundAfter.{serial-rows, serial-sound, receive-sound, hand-back-sound, allocate-sound, release-sound, pledge-sound, unpledge-sound, margin-sound, margin-falls, retire-sound, open-sound}
 use Rattle.book.proofs.LiveClients.{no-live-client}
 use Rattle.book.proofs.Settled.{sound-rows, settled-sound}
 use Rattle.dayfile.specs.declared.Record.{Record}
@@ -103,10 +103,14 @@ module _ (b : Book) (r : Record) (p : Passes b r) where
       (unpledge-sound b (p .sound) (r .account) (p .account) (p .live) (r .pledged) (ltb-false _ _ h) (ltb-false _ _ f))
 
   sets-margin : r .code ≡ 10 → SoundRows (withRow b (r .account) (amended row r))
-  sets-margin e =
-      let h : needOver (view (newMargin b r)) ≡ false = rw e at (p .covered) in
-      put _ (by-margin row r e)
-      (margin-sound b (p .sound) (r .account) (p .account) (p .live) (r .margin) (amounts-in r (p .good) .margin) (ltb-false _ _ h))
+  sets-margin e = put _ (by-margin row r e) (by (ltb (row .margin) (r .margin)) refl)
+    where
+      -- a rising margin passed 13, and another lowers no cover
+      by : (t : Bool) → ltb (row .margin) (r .margin) ≡ t → SoundRows (newMargin b r)
+      by true q =
+          let h : needOver (view (newMargin b r)) ≡ false = rw (e, q) at (p .covered) in
+          margin-sound b (p .sound) (r .account) (p .account) (p .live) (r .margin) (amounts-in r (p .good) .margin) (ltb-false _ _ h)
+      by false q = margin-falls b (p .sound) (r .account) (p .account) (p .live) (r .margin) (ltb-false _ _ q)
 
   retires : r .code ≡ 11 → SoundRows (withRow b (r .account) (amended row r))
   retires e =

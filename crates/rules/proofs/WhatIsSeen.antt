@@ -1,5 +1,5 @@
 -- The table on the row named, with what was seen beside it, is the table of refusals.
-use mathlib.Core.Bool.{Bool, true, false, not, _||_}
+use mathlib.Core.Bool.{Bool, true, false, not, _&&_, _||_}
 use mathlib.Core.Logic.{_⊎_, inl, inr}
 use mathlib.Core.Path.{_≡_, refl, sym, ap, _∙_}
 use Prim.Native.Nat.{ℕ, _<_}
@@ -65,7 +65,7 @@ module _ (b : Book) (s : Sound b) (r : Record) (seen : Seen) (w : SeenOf b r see
       rw (
         mode-same r (seen .mode) (modeAt b (r .account)) (λ e. w .mode-kinds e l) (λ e. w .mode-pledge e l),
         free-same r (seen .free) (free (view b) (r .account)) (λ e. w .free-kinds e l) (λ e. w .free-pledge e l),
-        and-same (eqb (r .code) 10) (λ e. w .cover (eqb-true (r .code) 10 e) l (a .margin)),
+        and-same (eqb (r .code) 10) (λ e. ap (λ z. ltb (namedRow b r .margin) (r .margin) && z) (w .cover (eqb-true (r .code) 10 e) l (a .margin))),
         and-same (eqb (r .code) 11) (λ e. ap (λ z. not (noAmounts (namedRow b r)) || z) (w .clients (eqb-true (r .code) 11 e) l)),
       )
 

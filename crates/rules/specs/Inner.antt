@@ -39,7 +39,7 @@ from7 row count seen r =
     ∷ (11 when tooMuch row r)
     ∷ (17 when heldByMode (seen .mode) r)
     ∷ (12 when beyondFree (seen .free) r)
-    ∷ (13 when losesCover (seen .over) r)
+    ∷ (13 when losesCover row (seen .over) r)
     ∷ (14 when notRetirable row (seen .tied) r)
     ∷ []
 

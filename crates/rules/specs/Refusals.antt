@@ -64,9 +64,9 @@ needOver v = ltb (v .collateral 0) (needCM v)
 abbrev pub newMargin : Book → Record → Book
 newMargin b r = withRow b (placeOf b (r .account)) (withMargin (namedRow b r) (r .margin))
 
--- "13: after the new margin the CM's need would pass its collateral"
-abbrev pub losesCover : Bool → Record → Bool
-losesCover over r = eqb (r .code) 10 && over
+-- "13: after a rising margin the CM's need would pass its collateral" (document 02, K6: "Document 01's line for 13 reads "a rising margin" from here on.")
+abbrev pub losesCover : Row → Bool → Record → Bool
+losesCover row over r = eqb (r .code) 10 && (ltb (row .margin) (r .margin) && over)
 
 -- "14: retiring an account with any amount not zero, or a TM with a live client": in a sound book only a TM has clients
 abbrev pub notRetirable : Row → Bool → Record → Bool
@@ -86,7 +86,7 @@ refusals b r =
     ∷ (11 when tooMuch (namedRow b r) r)
     ∷ (17 when heldByMode (modeAt b (placeOf b (r .account))) r)
     ∷ (12 when beyondFree (free (view b) (placeOf b (r .account))) r)
-    ∷ (13 when losesCover (needOver (view (newMargin b r))) r)
+    ∷ (13 when losesCover (namedRow b r) (needOver (view (newMargin b r))) r)
     ∷ (14 when notRetirable (namedRow b r) (hasLiveClient b (placeOf b (r .account))) r)
     ∷ []))
 

@@ -28,6 +28,7 @@ pub fn moved(maker: &mut Maker) {
     let client = maker.opened(OPEN_CLIENT, tm);
     about(maker, client);
     about_tm(maker, tm, client);
+    at_full_use(maker, [client, tm, cp]);
     for account in [client, neighbour, tm, cp] {
         wind_down_account(maker, account);
     }
@@ -114,6 +115,36 @@ fn about_tm(maker: &mut Maker, tm: u16, client: u16) {
     allocate_new(maker, client, kind, 1);
     maker.say_margin(client, whole + 2);
     maker.say_pledge(PLEDGE, client, 1);
+}
+
+/// K6: all of the CM's collateral is needed, a part of it for each of these
+/// and the rest for itself, and nothing on the way to it is free. For each an
+/// equal margin, one a paisa more (13), a lower one, and back to full use.
+fn at_full_use(maker: &mut Maker, [client, tm, cp]: [u16; 3]) {
+    let cm_margin = maker.book.rows[0].margin;
+    for (account, part) in [(client, 6), (tm, 5), (cp, 4), (0, 1)] {
+        let more = free_below_cm(maker, account) + maker.book.free(0) / part;
+        let margin = maker.book.rows[usize::from(account)].margin;
+        maker.say_margin(account, margin + more);
+    }
+    for account in [client, tm, cp, 0] {
+        let margin = maker.book.rows[usize::from(account)].margin;
+        let lower = maker.rng.below(margin);
+        for margin in [margin, margin + 1, lower, margin] {
+            maker.say_margin(account, margin);
+        }
+    }
+    maker.say_margin(0, cm_margin);
+}
+
+/// What the account and its TM have free.
+fn free_below_cm(maker: &Maker, account: u16) -> u64 {
+    let (mut at, mut free) = (usize::from(account), 0);
+    while at != 0 {
+        free += maker.book.free(at);
+        at = maker.book.answers_for(at);
+    }
+    free
 }
 
 /// A TM with a paisa free (0), with none (1), deemed a paisa (2) or more (3).

@@ -106,7 +106,13 @@ fn busy_days_meet_every_refusal() {
 /// nothing misses all.
 #[test]
 fn a_tally_knows_what_it_missed() {
-    let all = [25 + 24, moves::Kind::all().len(), holds::Kind::all().len()];
+    let (looks, margins) = (25 + 24, 12);
+    let all = [
+        looks,
+        margins,
+        moves::Kind::all().len(),
+        holds::Kind::all().len(),
+    ];
     assert_eq!(Tally::default().missed().len(), all.iter().sum::<usize>());
 }
 

@@ -7,6 +7,7 @@ mod days;
 mod figures;
 mod forms;
 mod holds;
+mod margins;
 mod modes;
 mod needs;
 mod refusals;

@@ -224,14 +224,15 @@ fn moved_days_meet_every_kind() {
     }
 }
 
-/// Nothing that a moved day says is refused but the CM's margins a paisa over.
+/// Nothing that a moved day says is refused but margins a paisa over what the
+/// CM has: three of its own, and at full use one of each sort.
 #[test]
 fn moved_days_go_as_they_should() {
     let kind = kind_named("moved").unwrap();
     for seed in 0..400 {
         let list = refusals_of(&make(kind, seed, NO_LIMIT));
         let refused: Vec<u8> = list.into_iter().filter(|&refusal| refusal != 0).collect();
-        assert_eq!(refused, [13; 3], "seed {seed}");
+        assert_eq!(refused, [13; 7], "seed {seed}");
     }
 }
 

@@ -1,0 +1,47 @@
+-- K6, margins that fall: document 02's sentence as theorems.
+use mathlib.Core.Bool.{true, false, not, _&&_}
+use mathlib.Core.List.{[], _∷_}
+use mathlib.Core.Path.{_≡_, ap, _∙_}
+use Prim.Native.Nat.{_≤_}
+use native.Mathlib.Omega.{arith}
+use lib.Dec.{ltb, eqb}
+use borrow.Author.Tests.{ltb-true, not-false}
+use Rattle.sums.specs.Table.{_when_, first}
+use Rattle.sums.proofs.Choices.{and-split}
+use Rattle.sums.proofs.Tables.{first-on, first-beyond}
+use Rattle.rows.specs.declared.Book.{Book}
+use Rattle.rows.specs.Rows.{view, isLive, hasLiveClient}
+use Rattle.book.specs.Sound.{soundB}
+use Rattle.book.proofs.SoundTest.{sound→}
+use Rattle.dayfile.specs.declared.Record.{Record}
+use Rattle.dayfile.specs.Records.{faults}
+use Rattle.dayfile.proofs.Good.{three-numbered}
+use Rattle.rules.specs.Refusals.{namedRow, needOver, newMargin, losesCover, notRetirable, refusalOf}
+use Rattle.rules.proofs.Falls.{stays-covered, same-as-any, rises-at-13}
+use Rattle.promises.specs.Before.{asBefore}
+
+-- A live account's margin not above the present one: at a sound book the CM's need doesn't pass its collateral after it, ..
+pub a-margin-that-doesn't-rise-stays-covered : (b : Book) (r : Record) → soundB b ≡ true → isLive b (r .account) ≡ true → r .margin ≤ namedRow b r .margin
+    → needOver (view (newMargin b r)) ≡ false
+a-margin-that-doesn't-rise-stays-covered b r s live h =
+    let given = and-split (ltb (r .account) (b .count)) (namedRow b r .live) live in
+    stays-covered b (sound→ b s) r (ltb-true _ _ (given .0)) (given .1) h
+
+-- .. so that 13's line may ask for a rising margin: every record, at any book, gets the refusal that the table before K6 gives, where 13 is asked of every new
+-- margin.
+pub no-answer-moved : (b : Book) (r : Record) → refusalOf b r ≡ first (asBefore b r)
+unfolding refusalOf
+no-answer-moved b r =
+    first-on 1 _ _ _ (λ e₁. first-on 3 _ _ _ (λ e₃. first-beyond (faults r) _ _ (three-numbered r) (λ e₆. first-on 7 _ _ _ (λ e₇. first-on 8 _ _ _ (λ e₈.
+    first-on 9 _ _ _ (λ e₉. first-on 10 _ _ _ (λ e₁₀. first-on 11 _ _ _ (λ e₁₁. first-on 17 _ _ _ (λ e₁₇. first-on 12 _ _ _ (λ e₁₂. same (not-false _ e₁) (not-false _ e₇)))))))))))
+  where
+    same : soundB b ≡ true → isLive b (r .account) ≡ true
+        → first ((13 when losesCover (namedRow b r) (needOver (view (newMargin b r))) r) ∷ (14 when notRetirable (namedRow b r) (hasLiveClient b (r .account)) r) ∷ [])
+        ≡ first ((13 when (eqb (r .code) 10 && needOver (view (newMargin b r)))) ∷ (14 when notRetirable (namedRow b r) (hasLiveClient b (r .account)) r) ∷ [])
+    same s live =
+        let given = and-split (ltb (r .account) (b .count)) (namedRow b r .live) live in
+        ap (λ t. first ((13 when t) ∷ (14 when notRetirable (namedRow b r) (hasLiveClient b (r .account)) r) ∷ [])) (same-as-any b (sound→ b s) r (ltb-true _ _ (given .0)) (given .1))
+
+-- "for a sound book a margin not above the present one never meets 13": by the table before K6, and so by any book, since one that isn't sound meets 1.
+pub never-meets-13 : (b : Book) (r : Record) → r .margin ≤ namedRow b r .margin → first (asBefore b r) ≡ 13 → ⊥
+never-meets-13 b r h e = omega (arith, h, rises-at-13 b r (no-answer-moved b r ∙ e))

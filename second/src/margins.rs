@@ -1,0 +1,135 @@
+//! K6 of document 02: 13 is for "a rising margin" alone. After every margin of
+//! one day the line as document 01 first had it, for any new margin, is held
+//! against the answer given. Counts the margins set at full use.
+
+use crate::book::{Book, Sort, MOST_ACCOUNTS};
+use crate::carry::Answer;
+use crate::dayfile::*;
+use crate::refusal::Refusal;
+
+#[derive(Clone, Copy, PartialEq, Eq, Debug)]
+pub enum Change {
+    Equal,
+    Fallen,
+    /// A paisa more, refused with 13.
+    OneMore,
+}
+
+/// A margin of one sort of account while the CM has nothing free. Equal and
+/// falling ones are of more than nothing.
+pub type Kind = (Sort, Change);
+
+pub const KINDS: [Kind; 12] = [
+    (Sort::Cm, Change::Equal),
+    (Sort::Cm, Change::Fallen),
+    (Sort::Cm, Change::OneMore),
+    (Sort::Tm, Change::Equal),
+    (Sort::Tm, Change::Fallen),
+    (Sort::Tm, Change::OneMore),
+    (Sort::Client, Change::Equal),
+    (Sort::Client, Change::Fallen),
+    (Sort::Client, Change::OneMore),
+    (Sort::Cp, Change::Equal),
+    (Sort::Cp, Change::Fallen),
+    (Sort::Cp, Change::OneMore),
+];
+
+pub fn words((sort, change): Kind) -> String {
+    let whose = match sort {
+        Sort::Cm => "the CM's",
+        Sort::Tm => "a TM's",
+        Sort::Client => "a client's",
+        _ => "a CP's",
+    };
+    let change = match change {
+        Change::Equal => "equal",
+        Change::Fallen => "falling",
+        Change::OneMore => "a paisa more",
+    };
+    format!("{whose} {change}")
+}
+
+/// How often each kind was met.
+#[derive(Clone, Copy, Default)]
+pub struct Met(pub [u64; KINDS.len()]);
+
+impl Met {
+    pub fn add(&mut self, other: &Met) {
+        for (sum, more) in self.0.iter_mut().zip(other.0) {
+            *sum += more;
+        }
+    }
+}
+
+pub struct Margins<'a> {
+    /// Follows the day, since an answer doesn't have the margin.
+    reader: Reader<'a>,
+    /// After the last record: every margin, and whether the CM has collateral
+    /// and nothing of it free.
+    margins: [u64; MOST_ACCOUNTS],
+    is_full: bool,
+    pub met: Met,
+}
+
+impl<'a> Margins<'a> {
+    /// Over the whole day, from its start.
+    pub fn over(piece: &'a [u8]) -> Margins<'a> {
+        Margins {
+            reader: Reader::new(piece),
+            margins: [0; MOST_ACCOUNTS],
+            is_full: false,
+            met: Met::default(),
+        }
+    }
+
+    /// Whether the old line, for any new margin, gives the same answer, and
+    /// 13 is given to rising margins alone.
+    pub fn after(&mut self, answer: &Answer, book: &Book) -> bool {
+        let Next::Record(record) = self.reader.next() else {
+            return false;
+        };
+        let fits = match new_margin(&record, answer) {
+            Some(margin) => self.fits(answer, book, margin),
+            None => answer.refusal() != Refusal::MarginUncovered as u8,
+        };
+        if answer.refusal() == 0 {
+            self.margins = book.rows.map(|row| row.margin);
+            let cm = book.standings()[0];
+            self.is_full = cm.collateral > 0 && cm.free == 0;
+        }
+        fits
+    }
+
+    fn fits(&mut self, answer: &Answer, book: &Book, margin: u64) -> bool {
+        let account = usize::from(answer.account);
+        let (before, is_refused) = (self.margins[account], answer.refusal() != 0);
+        let change = match is_refused {
+            true if margin == before + 1 => Some(Change::OneMore),
+            false if 0 < margin && margin == before => Some(Change::Equal),
+            false if margin < before => Some(Change::Fallen),
+            _ => None,
+        };
+        let kind = change.map(|change| (book.rows[account].sort, change));
+        let slot = KINDS.iter().position(|&known| Some(known) == kind);
+        if let (Some(slot), true) = (slot, self.is_full) {
+            self.met.0[slot] += 1;
+        }
+        is_refused == passes_cover(book, account, margin) && (margin > before || !is_refused)
+    }
+}
+
+/// The margin of a record that comes as far as 13.
+fn new_margin(record: &Record, answer: &Answer) -> Option<u64> {
+    let is_judged = matches!(answer.refusal(), 0 | 13);
+    let amounts = record.checked().ok();
+    let amounts = amounts.filter(|_| is_judged && record.code == SET_MARGIN);
+    amounts.map(|amounts| amounts[MARGIN])
+}
+
+/// "After the new margin the CM's need would pass its collateral", with all
+/// needs worked out afresh. It is the same before the record and after it.
+fn passes_cover(book: &Book, account: usize, margin: u64) -> bool {
+    let mut with = book.clone();
+    with.rows[account].margin = margin;
+    with.standings()[0].deemed > 0
+}
