@@ -245,14 +245,19 @@ fn one_close_out(
     if let Some(Err(refusal)) = given.map(|bytes| close_out_bytes(book, bytes)) {
         tally.refusals[refusal as usize] += 1;
     }
+    let want = given.map_or(Vec::new(), |bytes| print::closeouts(&made.bytes, bytes));
     let got = ask(program, argument.as_deref(), &made.bytes, made.pace);
-    settle(
-        &programs.folder,
-        made,
-        "closeouts",
-        &print::closeouts(&made.bytes, given),
-        got,
-    )
+    let told = got
+        .as_ref()
+        .is_ok_and(|got| got.stderr.starts_with(print::CANNOT_READ.as_bytes()));
+    settle(&programs.folder, made, "closeouts", &want, got)?;
+    if told == given.is_some() {
+        return Err(format!(
+            "difference: program closeouts, kind {}, seed {}: standard error is wrong on whether the losses can be read",
+            made.kind, made.seed
+        ));
+    }
+    Ok(())
 }
 
 /// Now and then the file can't be read at all.

@@ -150,11 +150,13 @@ fn checked_day(piece: &[u8]) -> Output {
     }
 }
 
+/// Where the losses can't be read, that is told and the day stays unread.
 fn closeouts_command(path: Option<&OsString>) -> Output {
-    let Some(losses) = path.and_then(|path| losses_file(path).ok()) else {
-        return Ok(print::closeouts(&[], None));
-    };
-    Ok(print::closeouts(&day_file()?, Some(&losses)))
+    let cannot = print::CANNOT_READ;
+    let path = path.ok_or_else(|| format!("{cannot}: none is named"))?;
+    let losses = losses_file(path)
+        .map_err(|error| format!("{cannot}: {}: {error}", path.to_string_lossy()))?;
+    Ok(print::closeouts(&day_file()?, &losses))
 }
 
 /// One byte past the most that any book could want is refusal 15 already.

@@ -5,7 +5,8 @@ use crate::carry::Answer;
 use crate::closeout::{close_out_bytes, CloseOut};
 use crate::day::{run, run_fresh, Closing, Day, MILLION};
 
-pub const CANNOT_READ: &[u8] = b"closeouts: cannot read the file of losses\n";
+/// How the line begins that stands on standard error in place of the output.
+pub const CANNOT_READ: &str = "closeouts: cannot read the file of losses";
 
 /// Room for six of the longest numbers, each with a space or the newline.
 const LINE: usize = 6 * 21;
@@ -126,11 +127,8 @@ pub fn needs(piece: &[u8]) -> Vec<u8> {
     out
 }
 
-/// The output of `closeouts`; no losses where their file can't be read.
-pub fn closeouts(piece: &[u8], losses: Option<&[u8]>) -> Vec<u8> {
-    let Some(losses) = losses else {
-        return CANNOT_READ.to_vec();
-    };
+/// The output of `closeouts`, once the file of losses is read.
+pub fn closeouts(piece: &[u8], losses: &[u8]) -> Vec<u8> {
     let (book, day) = run_fresh(piece);
     let mut out = Vec::new();
     push_closing(&mut out, &day);

@@ -1,5 +1,6 @@
 // The close-out of the book after the day file on standard input, with the losses of the file that the argument names: the
-// closing line, then a line for each account and the total, or the refusal.
+// closing line, then a line for each account and the total, or the refusal. Where that file can't be read, a line on standard
+// error alone.
 ghost use mathlib.Core.Path.{_≡_};
 ghost use Prim.Native.Nat.{_≤_};
 ghost use lib.ListN.{length, replicate};
@@ -10,6 +11,7 @@ ghost use Rattle.closeouts.specs.Texts.{textOf};
 use libc::STDOUT_FILENO;
 use table::Table;
 
+mod file;
 mod losses;
 
 // How many accounts have a row.
@@ -53,12 +55,8 @@ fn close_out(t: Table, list: [u64; 256], count: usize)
 }
 
 fn main() {
-    let losses = losses::from_argument();
+    let losses = file::from_argument();
     if !losses.readable {
-        io::write_all(
-            STDOUT_FILENO,
-            b"closeouts: cannot read the file of losses\n",
-        );
         return;
     }
     let day = feed::whole_day(false);

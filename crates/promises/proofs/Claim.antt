@@ -1,5 +1,6 @@
--- P1 to P11, Annexure 5 and K3's list, by one claim over the list.
-use mathlib.Core.List.{List}
+-- P1 to P11, Annexure 5 and K3's list, by one claim over the list: `figures`, at the end. What stands before it makes it quick to compute: by the rules each
+-- record asks whether the book is sound, which is long to compute, and holds by theorem (Quick).
+use mathlib.Core.List.{List, [], _∷_, _++_, map}
 use mathlib.Core.Path.{_≡_, refl, sym, ap, _∙_}
 use Prim.Native.Nat.{ℕ}
 use lib.Count.{ones, onesIn}
@@ -7,8 +8,8 @@ use Rattle.sums.specs.Sum.{sum, all}
 use Rattle.sums.specs.Choice.{pick}
 use Rattle.sums.specs.Listed.{listTo}
 use Rattle.sums.specs.Table.{first}
-use Rattle.rows.specs.View.{needTM, needCM, need}
-use Rattle.rows.specs.Rows.{freshBook, hasLiveClient}
+use Rattle.rows.specs.View.{needTM, needCM, need, blocked, deemed}
+use Rattle.rows.specs.Rows.{freshBook, hasLiveClient, needAt, view}
 use Rattle.rows.specs.Modes.{useTM, useCM, useOf, modeAfter, looked}
 use Rattle.rows.specs.KeptNeeds.{needsAfresh}
 use Rattle.book.specs.NeedsListed.{allNeeds}
@@ -18,19 +19,20 @@ use Rattle.dayfile.specs.declared.Found.{Found}
 use Rattle.dayfile.specs.declared.Found.the-variants.{End as NoBytes, Cut as TooFew, Whole}
 use Rattle.dayfile.specs.Bytes.{number}
 use Rattle.dayfile.specs.Records.{faultOf}
-use Rattle.dayfile.specs.Reading.{got, past, recordOf, foundFrom, foundAt}
+use Rattle.dayfile.specs.Reading.{got, past, recordOf, foundFrom, foundAt, sizeOf}
 use Rattle.rules.specs.Effects.{amended}
 use Rattle.rules.specs.Inner.{refusalBy, changeBy}
 use Rattle.desk.specs.declared.Outcome.the-variants.{Refused, End}
 use Rattle.desk.specs.declared.Next.{Next}
-use Rattle.desk.specs.Answers.{nobody}
+use Rattle.desk.specs.Answers.{nobody, refusalIn}
 use Rattle.desk.specs.Steps.{stepOf, onFound, nextOf}
 use Rattle.desk.proofs.Doing.{sound-next}
 use Rattle.closeout.specs.Round.{fromTM, askedOfCM, fromCM, unpaid}
 use Rattle.closeout.specs.Columns.{paid₁, part₂, ownColumn, tmColumn, cmColumn, uncovered, four, rowsTo}
 use Rattle.closeout.specs.Closing.{closedOf, roomOf}
 use Rattle.promises.specs.Sequences.{afterAll}
-use Rattle.promises.specs.Figures.{cases, casesByTheRules, expected}
+use Rattle.promises.specs.Figures.{Question, blockedAfter, deemedAfter, refusalAfter, closedAfter, bytesLong, refusalRead, excessAfter, usedAfter, needsAfter}
+use Rattle.promises.specs.Figures.{cases, each, excessIn, usedIn, closedIn, zeros, byTheRules, casesByTheRules, expected}
 use Rattle.promises.proofs.Quick.{quickStep, quick-step, all-sound, quickAll, quick-all, quickClosed, quickRoom, quick-closed, quick-room}
 
 -- the ways to carry out, quickly
@@ -61,21 +63,42 @@ room-same : (rs : List Record) (losses room : List ℕ) → roomOf (afterAll fre
 room-same rs losses room =
     quick-room (afterAll freshBook rs) losses room (all-sound freshBook rs fresh-sound) ∙ ap (λ b. quickRoom b losses room) (after-same rs)
 
+-- what is said to each question, quickly
+unfoldable quickly : Question → List ℕ
+quickly (blockedAfter rs) = each (blocked (view (quickAll freshBook rs)))
+quickly (deemedAfter rs) = each (deemed (view (quickAll freshBook rs)))
+quickly (refusalAfter rs r) = refusalIn (quickStep (quickAll freshBook rs) r .answer .outcome) ∷ []
+quickly (closedAfter rs losses) =
+    closedIn (quickAll freshBook rs) losses (quickClosed (quickAll freshBook rs) losses zeros) (quickRoom (quickAll freshBook rs) losses zeros)
+quickly (bytesLong named) = sizeOf named ∷ []
+quickly (refusalRead s) = refusalIn (quickRead (foundAt s 0) .answer .outcome) ∷ []
+quickly (excessAfter rs) = excessIn (quickAll freshBook rs)
+quickly (usedAfter rs i) = usedIn (quickAll freshBook rs) i
+quickly (needsAfter rs) = allNeeds (quickAll freshBook rs) ++ each (needAt (quickAll freshBook rs))
+
+same : (q : Question) → byTheRules q ≡ quickly q
+unfolding byTheRules quickly
+same (blockedAfter rs) = ap (λ b. each (blocked (view b))) (after-same rs)
+same (deemedAfter rs) = ap (λ b. each (deemed (view b))) (after-same rs)
+same (refusalAfter rs r) = ap (λ d. refusalIn (d .answer .outcome) ∷ []) (more-same rs r)
+same (closedAfter rs losses) = λ i. closedIn (after-same rs i) losses (closed-same rs losses zeros i) (room-same rs losses zeros i)
+same (bytesLong named) = refl
+same (refusalRead s) = ap (λ n. refusalIn (n .answer .outcome) ∷ []) (read-same s)
+same (excessAfter rs) = ap excessIn (after-same rs)
+same (usedAfter rs i) = ap (λ b. usedIn b i) (after-same rs)
+same (needsAfter rs) = ap (λ b. allNeeds b ++ each (needAt b)) (after-same rs)
+
 casesQuickly : List (List ℕ)
-casesQuickly =
-    cases (quickAll freshBook) (λ rs r. quickStep (quickAll freshBook rs) r) (λ s. quickRead (foundAt s 0))
-    (λ rs losses room. quickClosed (quickAll freshBook rs) losses room) (λ rs losses room. quickRoom (quickAll freshBook rs) losses room)
+casesQuickly = map (λ c. quickly (c .asked)) cases
 
 same-cases : casesByTheRules ≡ casesQuickly
 unfolding casesByTheRules casesQuickly
-same-cases i =
-    cases (λ rs. after-same rs i) (λ rs r. more-same rs r i) (λ s. read-same s i) (λ rs losses room. closed-same rs losses room i)
-    (λ rs losses room. room-same rs losses room i)
+same-cases i = map (λ c. same (c .asked) i) cases
 
-quickly : casesQuickly ≡ expected
-unfolding casesQuickly cases expected quickAll changeBy amended refusalBy first pick sum all needTM needCM need hasLiveClient freshBook faultOf foundAt foundFrom recordOf number got past ones onesIn rowsTo four paid₁ part₂ ownColumn tmColumn cmColumn uncovered fromTM askedOfCM fromCM unpaid looked listTo useOf useTM useCM modeAfter allNeeds needsAfresh
-quickly = refl
+computed : casesQuickly ≡ expected
+unfolding casesQuickly quickly cases expected quickAll changeBy amended refusalBy first pick sum all needTM needCM need hasLiveClient freshBook faultOf foundAt foundFrom recordOf number got past ones onesIn rowsTo four paid₁ part₂ ownColumn tmColumn cmColumn uncovered fromTM askedOfCM fromCM unpaid looked listTo useOf useTM useCM modeAfter allNeeds needsAfresh
+computed = refl
 
 -- document 01's figures, Annexure 5's and K3's list, by the rules
 pub figures : casesByTheRules ≡ expected
-figures = same-cases ∙ quickly
+figures = same-cases ∙ computed

@@ -66,8 +66,8 @@ module _ (b : Book) (losses room : List ℕ) (carried : closeOutRefusal b losses
   each-at-most-its-own = carried-each b losses room carried
 
   -- Nobody else's loss is paid from the collateral of a client (sort 2) or a CP (sort 3): losses of others are paid from a TM's,
-  -- where they are its clients' (the second amount, stated here), and from the CM's (the third, by `leftCM` out of account 0's). So
-  -- a client or CP pays exactly that lesser and nothing else.
+  -- where they are its clients' (the second amount, stated here), and from the CM's. That a client or CP pays exactly that lesser and nothing else, added up
+  -- over all losses: WhoPays.
   pub nobody-takes-from-a-client-or-CP : (i : ℕ) → (rowAt b i .sort ≡ 2) ⊎ (rowAt b i .sort ≡ 3)
       → ofClients (view b) i (tmColumn (view b) (lossAt losses)) ≡ 0
   nobody-takes-from-a-client-or-CP i s =

@@ -1,6 +1,8 @@
 pub mod DemandOne
 pub mod DemandTwo
 pub mod DemandThree
+pub mod Payments
+pub mod WhoPays
 pub mod TurnedOver
 pub mod Modes
 pub mod NoTakingOut

@@ -1,6 +1,234 @@
--- "Show that it admits one result only": a promise that is an equation does.
-use mathlib.Core.Path.{_≡_, sym, _∙_}
+-- "Show that it admits one result only": for each public call, under its name, `OneResultOnly` of its own promise. No clause is copied:
+-- `book.needs.Reads.Learnt` is what the check itself makes of the `ensures` clauses of `book::needs` in crates/book/src, and what the proof
+-- of each caller is given as `.ensures`; `book.needs.ended` is the call's signature. `needs-word-for-word` shows it for one call. The check makes
+-- no `Learnt` of the reader's three calls: their clauses are written out below, and held to the source's.
+use mathlib.Core.List.{List}
+use mathlib.Core.Path.{_≡_, refl, sym, ap, _∙_}
+use Prim.Native.Nat.{ℕ}
+use base.Logic.{sep}
+use contract.Lifetimes.{Lfts}
+use contract.Monad.{fact}
+use denote.Ref.{RefT, now}
+use denote.Triple.Entry.{Args, Res}
+use denote.Triple.Clauses.{AtExit, atExit}
+use borrow.Fn.World.{World}
+use Rattle.table.specs.declared.Table.{Table}
+use Rattle.table.specs.Words.{turnedBack}
+use Rattle.book.specs.NeedsListed.{needsRefusal, needsRoom}
+use Rattle.dayfile.specs.Files.{Bytes}
+use Rattle.dayfile.specs.Reading.{placeAfter}
+use Rattle.dayfile.specs.Reader.{startOf, seenBy, movedTo}
+use Rattle.feed.specs.Fed.{wholeDay}
+use Rattle.table.proofs as table
+use Rattle.book.proofs as book
+use Rattle.dayfile.proofs as dayfile
+use Rattle.desk.proofs as desk
+use Rattle.run.proofs as run
+use Rattle.lines.proofs as lines
+use Rattle.closeout.proofs as closeout
+use Rattle.feed.proofs as feed
+use Rattle.report.proofs as report
+use Rattle.promises.specs.OneResult.{Promise, OneResultOnly}
 
 -- two results, of which each is what the promise says, are the same; so are two rooms
-pub one-result : {A : Type 0} (said x y : A) → x ≡ said → y ≡ said → x ≡ y
-one-result said x y p q = p ∙ sym q
+one-result : {A : Type 0} {said x y : A} → x ≡ said → y ≡ said → x ≡ y
+one-result p q = p ∙ sym q
+
+-- What `Learnt` is: the two clauses of `book::needs`, word for word. x comes back, and `after` is in the room then.
+pub needs-word-for-word :
+    (κs : Lfts 1) (t : Table) (room : RefT (List ℕ)) (x : ℕ) (after : List ℕ) →
+    book.needs.Reads.Learnt κs (t, (room, tt)) x (atExit book.needs.ended κs (t, (room, tt)) (tt, (after, tt))) ≡
+    ((x ≡ needsRefusal (turnedBack t) (now room)) × (after ≡ needsRoom (turnedBack t) (now room)))
+needs-word-for-word κs t room x after = refl
+
+-- ---- table: the two of an internal crate that take anything
+
+-- a book turned over
+pub of-table-turn : OneResultOnly table.turn.ended table.turn.Reads.Learnt
+of-table-turn κs a x y u v p q = (one-result p q, refl)
+
+-- and turned back
+pub of-table-turn-back : OneResultOnly table.turn_back.ended table.turn_back.Reads.Learnt
+of-table-turn-back κs a x y u v p q = (one-result p q, refl)
+
+-- ---- book
+
+-- the fresh book
+pub of-book-fresh : OneResultOnly book.fresh.ended book.fresh.Reads.Learnt
+of-book-fresh κs a x y u v p q = (one-result p q, refl)
+
+-- whether a book is sound
+pub of-book-is-sound : OneResultOnly book.is_sound.ended book.is_sound.Reads.Learnt
+of-book-is-sound κs a x y u v p q = (one-result p q, refl)
+
+-- the same, of a table's arrays where they are
+pub of-book-sound-table-sound : OneResultOnly book.sound.table_sound.ended book.sound.table_sound.Reads.Learnt
+of-book-sound-table-sound κs a x y u v p q = (one-result p q, refl)
+
+-- an account's standing
+pub of-book-standing : OneResultOnly book.standing.ended book.standing.Reads.Learnt
+of-book-standing κs a x y u v p q = (one-result p q, refl)
+
+-- all needs: the refusal or 0, and the room
+pub of-book-needs : OneResultOnly book.needs.ended book.needs.Reads.Learnt
+of-book-needs κs a x y u v p q = (one-result (p .0) (q .0), ap (λ room. (tt, (room, tt))) (one-result (p .1) (q .1)))
+
+-- an evening sum
+pub of-book-amount-sum : OneResultOnly book.amount_sum.ended book.amount_sum.Reads.Learnt
+of-book-amount-sum κs a x y u v p q = (one-result p q, refl)
+
+-- ---- dayfile
+
+-- a record's length
+pub of-dayfile-size : OneResultOnly dayfile.size.ended dayfile.size.Reads.Learnt
+of-dayfile-size κs a x y u v p q = (one-result p q, refl)
+
+-- a record's first fault, or 0
+pub of-dayfile-fault-of : OneResultOnly dayfile.fault_of.ended dayfile.fault_of.Reads.Learnt
+of-dayfile-fault-of κs a x y u v p q = (one-result p q, refl)
+
+-- what stands at a place
+pub of-dayfile-found-at : OneResultOnly dayfile.found_at.ended dayfile.found_at.Reads.Learnt
+of-dayfile-found-at κs a x y u v p q = (one-result p q, refl)
+
+-- what is read there
+pub of-dayfile-read-at : OneResultOnly dayfile.read_at.ended dayfile.read_at.Reads.Learnt
+of-dayfile-read-at κs a x y u v p q = (one-result p q, refl)
+
+-- how many bytes were written or the refusal, and the room
+pub of-dayfile-write : OneResultOnly dayfile.write.ended dayfile.write.Reads.Learnt
+of-dayfile-write κs a x y u v p q = (one-result (p .0) (q .0), ap (λ room. (tt, (room, tt))) (one-result (p .1) (q .1)))
+
+-- The reader's three calls: their clauses, as crates/dayfile/src/reader.rt has them. x is what comes back, and `after` the reader then.
+abbrev newSays : Promise dayfile.reader.new.ended
+newSays κs (piece, _) x e = x ≡ startOf piece
+
+abbrev peekSays : Promise dayfile.reader.peek.ended
+peekSays κs (r, _) x e = x ≡ seenBy r
+
+abbrev nextAnswer : Promise dayfile.reader.next.ended
+nextAnswer κs (r, _) x e = x ≡ seenBy (now r)
+
+abbrev nextReader : Promise dayfile.reader.next.ended
+nextReader κs (r, _) x (after, _) = now after ≡ movedTo (now r) (placeAfter x (now r .place))
+
+abbrev nextSays : Promise dayfile.reader.next.ended
+nextSays κs a x e = nextAnswer κs a x e × nextReader κs a x e
+
+-- in every model of the logic the calls' clauses are those facts and nothing else
+module _ (w : World) where
+  new-clause :
+      (κs : Lfts 1) (a : Args dayfile.reader.new.signature κs) (x : Res dayfile.reader.new.signature κs) (e : AtExit dayfile.reader.new.ended κs) →
+      dayfile.reader.new.clauses (w .𝓤) (w .H) (w .𝓖 .A) (w .𝓜 .mem) (w .𝓡 .run) κs a .ensures tt x e ≡ fact (w .𝓤) (newSays κs a x e)
+  new-clause κs a x e = refl
+
+  peek-clause :
+      (κs : Lfts 1) (a : Args dayfile.reader.peek.signature κs) (x : Res dayfile.reader.peek.signature κs) (e : AtExit dayfile.reader.peek.ended κs) →
+      dayfile.reader.peek.clauses (w .𝓤) (w .H) (w .𝓖 .A) (w .𝓜 .mem) (w .𝓡 .run) κs a .ensures tt x e ≡ fact (w .𝓤) (peekSays κs a x e)
+  peek-clause κs a x e = refl
+
+  next-clauses :
+      (κs : Lfts 2) (a : Args dayfile.reader.next.signature κs) (x : Res dayfile.reader.next.signature κs) (e : AtExit dayfile.reader.next.ended κs) →
+      dayfile.reader.next.clauses (w .𝓤) (w .H) (w .𝓖 .A) (w .𝓜 .mem) (w .𝓡 .run) κs a .ensures tt x e ≡
+      sep (w .𝓤) (fact (w .𝓤) (nextAnswer κs a x e)) (fact (w .𝓤) (nextReader κs a x e))
+  next-clauses κs a x e = refl
+
+-- the reader that is made
+pub of-dayfile-reader-new : OneResultOnly dayfile.reader.new.ended newSays
+of-dayfile-reader-new κs a x y u v p q = (one-result p q, refl)
+
+-- what stands at its place
+pub of-dayfile-reader-peek : OneResultOnly dayfile.reader.peek.ended peekSays
+of-dayfile-reader-peek κs a x y u v p q = (one-result p q, refl)
+
+-- the same and the reader after it, whose place the answer says
+pub of-dayfile-reader-next : OneResultOnly dayfile.reader.next.ended nextSays
+of-dayfile-reader-next κs a x y u v p q =
+    let same : x ≡ y = one-result (p .0) (q .0) in
+    (same, ap (λ r. (r, tt)) (p .1 ∙ ap (λ z. movedTo (now (a .0)) (placeAfter z (now (a .0) .place))) same ∙ sym (q .1)))
+
+-- ---- desk
+
+-- the answer to a record, and the book after it
+pub of-desk-carry-out : OneResultOnly desk.carry_out.ended desk.carry_out.Reads.Learnt
+of-desk-carry-out κs a x y u v p q = (one-result p q, refl)
+
+-- the answer to what stands at a place, the book and the place after it
+pub of-desk-carry-out-next : OneResultOnly desk.carry_out_next.ended desk.carry_out_next.Reads.Learnt
+of-desk-carry-out-next κs a x y u v p q = (one-result p q, refl)
+
+-- ---- run
+
+-- the book after a piece, the place, the closing word and the counts
+pub of-run-day : OneResultOnly run.day.ended run.day.Reads.Learnt
+of-run-day κs a x y u v p q = (one-result p q, refl)
+
+-- the same, and the room with each record's numbers
+pub of-run-day-told : OneResultOnly run.day_told.ended run.day_told.Reads.Learnt
+of-run-day-told κs a x y u v p q = (one-result (p .0) (q .0), ap (λ room. (tt, (tt, (tt, (room, tt))))) (one-result (p .1) (q .1)))
+
+-- ---- lines
+
+-- what a day gives and how long the text is, and the room with the records' lines
+pub of-lines-lines : OneResultOnly lines.lines.ended lines.lines.Reads.Learnt
+of-lines-lines κs a x y u v p q = (one-result (p .0) (q .0), ap (λ room. (tt, (tt, (tt, (room, tt))))) (one-result (p .1) (q .1)))
+
+-- how long the lines are, and the room with them
+pub of-lines-told-lines : OneResultOnly lines.told_lines.ended lines.told_lines.Reads.Learnt
+of-lines-told-lines κs a x y u v p q = (one-result (p .0) (q .0), ap (λ room. (tt, (tt, (room, tt)))) (one-result (p .1) (q .1)))
+
+-- how long the closing line is, and the room with it
+pub of-lines-closing-line : OneResultOnly lines.closing_line.ended lines.closing_line.Reads.Learnt
+of-lines-closing-line κs a x y u v p q = (one-result (p .0) (q .0), ap (λ room. (tt, (tt, (tt, (room, tt))))) (one-result (p .1) (q .1)))
+
+-- ---- closeout
+
+-- the refusal or 0 with the total, and the room with each account's four amounts
+pub of-closeout-close-out : OneResultOnly closeout.close_out.ended closeout.close_out.Reads.Learnt
+of-closeout-close-out κs a x y u v p q = (one-result (p .0) (q .0), ap (λ room. (tt, (tt, (room, tt)))) (one-result (p .1) (q .1)))
+
+-- ---- report. The last three also print the text whose length they give: no promise can say what standard output holds.
+
+-- how long the standings' lines are, and the room with them
+pub of-report-standings-text : OneResultOnly report.standings_text.ended report.standings_text.Reads.Learnt
+of-report-standings-text κs a x y u v p q = (one-result (p .0) (q .0), ap (λ room. (tt, (room, tt))) (one-result (p .1) (q .1)))
+
+-- how long the needs' lines are, and the room with them
+pub of-report-needs-text : OneResultOnly report.needs_text.ended report.needs_text.Reads.Learnt
+of-report-needs-text κs a x y u v p q = (one-result (p .0) (q .0), ap (λ room. (tt, (room, tt))) (one-result (p .1) (q .1)))
+
+-- how long the close-out's lines are, and the room with them
+pub of-report-close-out-text : OneResultOnly report.close_out_text.ended report.close_out_text.Reads.Learnt
+of-report-close-out-text κs a x y u v p q = (one-result (p .0) (q .0), ap (λ room. (tt, (tt, (tt, (tt, (room, tt)))))) (one-result (p .1) (q .1)))
+
+-- the closing line's length
+pub of-report-closing : OneResultOnly report.closing.ended report.closing.Reads.Learnt
+of-report-closing κs a x y u v p q = (one-result p q, refl)
+
+-- the length of the standings' lines
+pub of-report-standings : OneResultOnly report.standings.ended report.standings.Reads.Learnt
+of-report-standings κs a x y u v p q = (one-result p q, refl)
+
+-- the length of the needs' lines
+pub of-report-needs : OneResultOnly report.needs.ended report.needs.Reads.Learnt
+of-report-needs κs a x y u v p q = (one-result p q, refl)
+
+-- ---- feed. Both print the records' lines where that is asked for: of this too no promise can speak.
+
+-- the day of a piece that is held whole
+pub of-feed-day-of : OneResultOnly feed.day_of.ended feed.day_of.Reads.Learnt
+of-feed-day-of κs a x y u v p q = (one-result p q, refl)
+
+-- The day of standard input, the one exception: its promise is that some bytes came, of which this is the day. Where the bytes that came are
+-- the same, so are the results,
+pub of-feed-whole-day :
+    (κs : Lfts 0) (a : Args feed.whole_day.signature κs) (x y : Res feed.whole_day.signature κs) (e : AtExit feed.whole_day.ended κs)
+    (p : feed.whole_day.Reads.Learnt κs a x e) (q : feed.whole_day.Reads.Learnt κs a y e) →
+    p .input ≡ q .input → x ≡ y
+of-feed-whole-day κs a x y e p q same = p .is ∙ ap wholeDay same ∙ sym (q .is)
+
+-- and which bytes came is all that it leaves open: the day of any bytes meets it.
+pub whatever-bytes-came :
+    (κs : Lfts 0) (a : Args feed.whole_day.signature κs) (e : AtExit feed.whole_day.ended κs) (s : List ℕ) →
+    Bytes s → feed.whole_day.Reads.Learnt κs a (wholeDay s) e
+whatever-bytes-came κs a e s bytes = record { input = s; bytes = bytes; is = refl }

@@ -1,6 +1,6 @@
--- Document 01, 'Figures to hold against it': P1 to P11, P8 as K1 of document 02 has it; K2's case, the table of 004 Annexure 5; and K3's list of needs at P4. In paise,
--- by records carried out from a fresh book.
-use mathlib.Core.List.{List, [], _∷_, _++_}
+-- Document 01, 'Figures to hold against it': P1 to P11, P8 as K1 of document 02 has it; K2's case, the table of 004 Annexure 5; and K3's list of needs at P4. In paise.
+-- First the records of each case; then `cases`, the list of what is asked and the figures that the documents give; then what the rules say to it.
+use mathlib.Core.List.{List, [], _∷_, _++_, map}
 use Prim.Native.Nat.{ℕ, _+_, _*_}
 use lib.ListN.{replicate, take, drop}
 use Rattle.rows.specs.declared.Book.{Book}
@@ -11,8 +11,6 @@ use Rattle.book.specs.NeedsListed.{allNeeds}
 use Rattle.dayfile.specs.declared.Record.{Record}
 use Rattle.dayfile.specs.Reading.{sizeOf}
 use Rattle.desk.specs.Answers.{refusalIn}
-use Rattle.desk.specs.declared.Done.{Done}
-use Rattle.desk.specs.declared.Next.{Next}
 use Rattle.desk.specs.Steps.{stepOf, nextOf}
 use Rattle.closeout.specs.declared.Closed.{Closed}
 use Rattle.closeout.specs.Bound.{beyond}
@@ -20,7 +18,8 @@ use Rattle.closeout.specs.Closing.{lossAt, closedOf, roomOf}
 use Rattle.sums.specs.Sum.{sum, only}
 use Rattle.promises.specs.Sequences.{afterAll}
 
--- records: openings name the CM or the TM; receive, allocate and release of cash; a margin
+-- Records, by serial, code, account named and amount: an opening (1 a TM, 2 a client), which names the CM or the TM; cash received (4), allocated (6)
+-- or released (7); a margin that is set.
 abbrev opening : ℕ → ℕ → ℕ → Record
 opening serial code account = record { serial = serial; code = code; named = 0; account = account; kinds = noKinds; pledged = 0; margin = 0 }
 
@@ -41,16 +40,16 @@ margin serial account amount = record { serial = serial; code = 10; named = 32; 
 -- "CM 1000, TM-1 500, its clients A 300 and B 300", "all of it allocated cash": accounts 0, 1, 2, 3
 abbrev start : List Record
 start =
-    opening 0 1 0
-    ∷ opening 1 2 1
-    ∷ opening 2 2 1
-    ∷ cash 3 4 0 100000
-    ∷ cash 4 6 0 100000
-    ∷ cash 5 4 1 50000
+    opening 0 1 0  -- TM-1
+    ∷ opening 1 2 1  -- A
+    ∷ opening 2 2 1  -- B
+    ∷ cash 3 4 0 100000  -- CM 1000: received
+    ∷ cash 4 6 0 100000  -- and allocated
+    ∷ cash 5 4 1 50000  -- TM-1 500
     ∷ cash 6 6 1 50000
-    ∷ cash 7 4 2 30000
+    ∷ cash 7 4 2 30000  -- A 300
     ∷ cash 8 6 2 30000
-    ∷ cash 9 4 3 30000
+    ∷ cash 9 4 3 30000  -- B 300
     ∷ cash 10 6 3 30000
     ∷ []
 
@@ -108,117 +107,116 @@ atA5Less = atA5 ++ (margin 31 1 35000 ∷ [])
 abbrev atA5Never : List Record
 atA5Never = annexure5 35000
 
--- f of CM, TM-1, A and B
-abbrev each : (ℕ → ℕ) → List ℕ
-each f = f 0 ∷ f 1 ∷ f 2 ∷ f 3 ∷ []
-
 -- code 4, second mark byte 0xFF, serial 0, and zeros: n + 2 bytes
 abbrev full : ℕ → List ℕ
 full n = 4 ∷ 255 ∷ replicate n 0
 
--- by a way to carry out: the book after records from a fresh book; one record more after them; what stands at the start of some
--- bytes at a fresh book; and of a close-out after those records, with losses and a room, the answer and the room then
-module _
-    (after : List Record → Book) (more : List Record → Record → Done) (read : List ℕ → Next)
-    (closed : List Record → List ℕ → List ℕ → Closed) (filled : List Record → List ℕ → List ℕ → List ℕ)
-  where
-    abbrev blockedAfter : List Record → List ℕ
-    blockedAfter rs = each (blocked (view (after rs)))
+-- What is asked, after records that were carried out from a fresh book:
+pub data Question : Type 0 where
+  -- what is blocked of CM, TM-1, A and B, and what each is deemed
+  blockedAfter : List Record → Question
+  deemedAfter : List Record → Question
+  -- the refusal of one record more, 0 where it is carried out
+  refusalAfter : List Record → Record → Question
+  -- a close-out with these losses of the four: its refusal, or 0; the four amounts of A, and of B; the total left uncovered; and the bound, the losses beyond margins
+  closedAfter : List Record → List ℕ → Question
+  -- how many bytes a record is long, by its second mark byte
+  bytesLong : ℕ → Question
+  -- the refusal of what stands at the start of these bytes, at a fresh book
+  refusalRead : List ℕ → Question
+  -- K2, in tenths of a paisa: the excess of Annexure 5's five clients, and of its two TMs
+  excessAfter : List Record → Question
+  -- K2, of a TM or the CM: its use, ten collaterals, and its mode, 1 for on
+  usedAfter : List Record → ℕ → Question
+  -- K3: the list of needs, and what is kept of them at the four accounts' places
+  needsAfter : List Record → Question
 
-    abbrev deemedAfter : List Record → List ℕ
-    deemedAfter rs = each (deemed (view (after rs)))
+-- what is asked, and the figures that a document gives for it
+pub record Case : Type 0 where
+  pub asked : Question
+  pub figures : List ℕ
 
-    -- the refusal, or 0, of one record more
-    abbrev refusalAfter : List Record → Record → List ℕ
-    refusalAfter rs r = refusalIn (more rs r .answer .outcome) ∷ []
+infix 20 _gives_
+abbrev _gives_ : Question → List ℕ → Case
+q gives l = record { asked = q; figures = l }
 
-    -- a close-out of the four accounts into a room of 16 zeros: its refusal, or 0; out of the room the four amounts of A and of B,
-    -- accounts 2 and 3; the total; and the losses beyond margins
-    abbrev closedAfter : List Record → List ℕ → List ℕ
-    closedAfter rs losses =
-        closed rs losses (replicate 16 0) .refusal
-        ∷ (take 8 (drop 8 (filled rs losses (replicate 16 0)))
-        ++ (closed rs losses (replicate 16 0) .total ∷ sum (after rs .count) (beyond (view (after rs)) (lossAt losses)) ∷ []))
+-- P1 to P11, Annexure 5 and K3, in one list
+unfoldable pub cases : List Case
+cases =
+    (blockedAfter atP1 gives (0 ∷ 0 ∷ 0 ∷ 10000 ∷ []))  -- P1: B blocked 100, TM-1 0, CM 0
+    ∷ (blockedAfter atP2 gives (0 ∷ 30000 ∷ 30000 ∷ 10000 ∷ []))  -- P2: A 300, TM-1 300, CM 0
+    ∷ (blockedAfter atP3 gives (10000 ∷ 50000 ∷ 30000 ∷ 30000 ∷ []))  -- P3: TM-1 500, CM 100
+    ∷ (blockedAfter atP4 gives (40000 ∷ 50000 ∷ 30000 ∷ 30000 ∷ []))  -- P4: TM-1 500, CM 400;
+    ∷ (deemedAfter atP4 gives (0 ∷ 40000 ∷ 30000 ∷ 60000 ∷ []))  -- P4: A deemed 300, B 600, TM-1 400
+    ∷ (refusalAfter atP4 (margin 15 3 150000) gives (0 ∷ []))  -- P5: carried out,
+    ∷ (blockedAfter atP5 gives (100000 ∷ 50000 ∷ 30000 ∷ 30000 ∷ []))  -- P5: CM blocked 1000
+    ∷ (refusalAfter atP4 (margin 15 3 150001) gives (13 ∷ []))  -- P6: B's 1500.01 instead: 13
+    -- P7: losses A 600, B 900: not refused; A 300, 300, 0, 0; B 300, 200, 400, 0; nothing uncovered, and no loss beyond its margin
+    ∷ (closedAfter atP4 (0 ∷ 0 ∷ 60000 ∷ 90000 ∷ []) gives (0 ∷ 30000 ∷ 30000 ∷ 0 ∷ 0 ∷ 30000 ∷ 20000 ∷ 40000 ∷ 0 ∷ 0 ∷ 0 ∷ []))
+    -- P8: losses A 1200, B 1200: not refused; A 300, 300, 600, 0; B 300, 200, 400, 300; uncovered 300; the bound is 600 + 300 = 900
+    ∷ (closedAfter atP4 (0 ∷ 0 ∷ 120000 ∷ 120000 ∷ []) gives (0 ∷ 30000 ∷ 30000 ∷ 60000 ∷ 0 ∷ 30000 ∷ 20000 ∷ 40000 ∷ 30000 ∷ 30000 ∷ 90000 ∷ []))
+    ∷ (refusalAfter atP1 (cash 12 7 3 20000) gives (0 ∷ []))  -- P9: B may release 200
+    ∷ (refusalAfter atP1 (cash 12 7 3 20001) gives (12 ∷ []))  -- P9: and not 200.01 (12)
+    ∷ (refusalAfter atP1 (margin 12 2 0) gives (0 ∷ []))  -- P10: margin 0 where it is 0 already: carried out
+    ∷ (bytesLong 255 gives (70 ∷ []))  -- P11: second mark byte 0xFF: 70 bytes long;
+    ∷ (refusalRead (full 67) gives (2 ∷ []))  -- P11: 69 bytes give 2,
+    ∷ (refusalRead (full 68) gives (5 ∷ []))  -- P11: 70 with the right serial and code 4 give 5
+    ∷ (excessAfter atA5 gives (60000 ∷ 0 ∷ 20000 ∷ 20000 ∷ 0 ∷ 30000 ∷ 0 ∷ []))  -- Annexure 5: CliMrgn>90% is 60, 0, 20, 20, 0; TMMrgn>90% is 30, 0
+    ∷ (usedAfter atA5 1 gives (480000 ∷ 500000 ∷ 1 ∷ []))  -- Annexure 5: TM1 480 of 500, 96%, on
+    ∷ (usedAfter atA5 5 gives (220000 ∷ 500000 ∷ 0 ∷ []))  -- Annexure 5: TM2 220 of 500, 44%, off
+    ∷ (usedAfter atA5 0 gives (830000 ∷ 1200000 ∷ 0 ∷ []))  -- Annexure 5: CM 830 of 1200, 69.1%, off
+    ∷ (usedAfter atA5Less 1 gives (430000 ∷ 500000 ∷ 1 ∷ []))  -- K2: then TM1 430 of 500, 86%, still on
+    ∷ (usedAfter atA5Never 1 gives (430000 ∷ 500000 ∷ 0 ∷ []))  -- K2: TM1 430 of 500 from the first, 86%, off
+    ∷ (needsAfter atP4 gives (40000 ∷ 90000 ∷ 60000 ∷ 90000 ∷ 40000 ∷ 90000 ∷ 0 ∷ 0 ∷ []))  -- K3: 400, 900, 600, 900; kept are the CM's and the TM's
+    ∷ []
 
-    -- K3's list of needs, and what is kept of them at the four accounts' places
-    abbrev needsAfter : List Record → List ℕ
-    needsAfter rs = allNeeds (after rs) ++ each (needAt (after rs))
+-- What the rules say to a question. Of the book after the records, f of CM, TM-1, A and B,
+abbrev pub each : (ℕ → ℕ) → List ℕ
+each f = f 0 ∷ f 1 ∷ f 2 ∷ f 3 ∷ []
 
-    -- K2's figures in tenths of a paisa: the excess of Annexure 5's five clients, and of its two TMs
-    abbrev excessAfter : List Record → List ℕ
-    excessAfter rs =
-        ownExcess (view (after rs)) 2
-        ∷ ownExcess (view (after rs)) 3
-        ∷ ownExcess (view (after rs)) 4
-        ∷ ownExcess (view (after rs)) 6
-        ∷ ownExcess (view (after rs)) 7
-        ∷ excessTM (view (after rs)) 1
-        ∷ excessTM (view (after rs)) 5
-        ∷ []
+-- the excess of Annexure 5's clients and TMs,
+abbrev pub excessIn : Book → List ℕ
+excessIn b =
+    ownExcess (view b) 2
+    ∷ ownExcess (view b) 3
+    ∷ ownExcess (view b) 4
+    ∷ ownExcess (view b) 6
+    ∷ ownExcess (view b) 7
+    ∷ excessTM (view b) 1
+    ∷ excessTM (view b) 5
+    ∷ []
 
-    -- of a TM or the CM: its use, ten collaterals, and its mode, 1 for on
-    abbrev usedAfter : List Record → ℕ → List ℕ
-    usedAfter rs i = useOf (view (after rs)) i ∷ 10 * view (after rs) .collateral i ∷ only (modeAt (after rs) i) 1 ∷ []
+-- and account i's use;
+abbrev pub usedIn : Book → ℕ → List ℕ
+usedIn b i = useOf (view b) i ∷ 10 * view b .collateral i ∷ only (modeAt b i) 1 ∷ []
 
-    abbrev refusalRead : List ℕ → List ℕ
-    refusalRead s = refusalIn (read s .answer .outcome) ∷ []
+-- of a close-out its answer and, out of the room after it, what A and B have there, accounts 2 and 3, four amounts each.
+abbrev pub closedIn : Book → List ℕ → Closed → List ℕ → List ℕ
+closedIn b losses closed room =
+    closed .refusal ∷ (take 8 (drop 8 room) ++ (closed .total ∷ sum (b .count) (beyond (view b) (lossAt losses)) ∷ []))
 
-    unfoldable pub cases : List (List ℕ)
-    cases =
-        blockedAfter atP1  -- P1
-        ∷ blockedAfter atP2  -- P2
-        ∷ blockedAfter atP3  -- P3
-        ∷ blockedAfter atP4  -- P4
-        ∷ deemedAfter atP4  -- P4
-        ∷ refusalAfter atP4 (margin 15 3 150000)  -- P5
-        ∷ blockedAfter atP5  -- P5
-        ∷ refusalAfter atP4 (margin 15 3 150001)  -- P6
-        ∷ closedAfter atP4 (0 ∷ 0 ∷ 60000 ∷ 90000 ∷ [])  -- P7
-        ∷ closedAfter atP4 (0 ∷ 0 ∷ 120000 ∷ 120000 ∷ [])  -- P8
-        ∷ refusalAfter atP1 (cash 12 7 3 20000)  -- P9
-        ∷ refusalAfter atP1 (cash 12 7 3 20001)  -- P9
-        ∷ refusalAfter atP1 (margin 12 2 0)  -- P10
-        ∷ (sizeOf 255 ∷ [])  -- P11
-        ∷ refusalRead (full 67)  -- P11
-        ∷ refusalRead (full 68)  -- P11
-        ∷ excessAfter atA5  -- Annexure 5
-        ∷ usedAfter atA5 1  -- Annexure 5
-        ∷ usedAfter atA5 5  -- Annexure 5
-        ∷ usedAfter atA5 0  -- Annexure 5
-        ∷ usedAfter atA5Less 1  -- K2
-        ∷ usedAfter atA5Never 1  -- K2
-        ∷ needsAfter atP4  -- K3
-        ∷ []
+-- the room is lent with 16 zeros
+abbrev pub zeros : List ℕ
+zeros = replicate 16 0
 
--- the way of the rules
+-- the book after records from a fresh book
+abbrev after : List Record → Book
+after rs = afterAll freshBook rs
+
+unfoldable pub byTheRules : Question → List ℕ
+byTheRules (blockedAfter rs) = each (blocked (view (after rs)))
+byTheRules (deemedAfter rs) = each (deemed (view (after rs)))
+byTheRules (refusalAfter rs r) = refusalIn (stepOf (after rs) r .answer .outcome) ∷ []
+byTheRules (closedAfter rs losses) = closedIn (after rs) losses (closedOf (after rs) losses zeros) (roomOf (after rs) losses zeros)
+byTheRules (bytesLong named) = sizeOf named ∷ []
+byTheRules (refusalRead s) = refusalIn (nextOf freshBook s 0 .answer .outcome) ∷ []
+byTheRules (excessAfter rs) = excessIn (after rs)
+byTheRules (usedAfter rs i) = usedIn (after rs) i
+byTheRules (needsAfter rs) = allNeeds (after rs) ++ each (needAt (after rs))
+
+-- The one claim (`promises.Claim.figures`) is that these two lists are the same: what the rules say to each question, and the documents' figures.
 unfoldable pub casesByTheRules : List (List ℕ)
-casesByTheRules =
-    cases (afterAll freshBook) (λ rs r. stepOf (afterAll freshBook rs) r) (λ s. nextOf freshBook s 0)
-    (λ rs losses room. closedOf (afterAll freshBook rs) losses room) (λ rs losses room. roomOf (afterAll freshBook rs) losses room)
+casesByTheRules = map (λ c. byTheRules (c .asked)) cases
 
 unfoldable pub expected : List (List ℕ)
-expected =
-    (0 ∷ 0 ∷ 0 ∷ 10000 ∷ [])  -- P1: B blocked 100, TM-1 0, CM 0
-    ∷ (0 ∷ 30000 ∷ 30000 ∷ 10000 ∷ [])  -- P2: A 300, TM-1 300, CM 0
-    ∷ (10000 ∷ 50000 ∷ 30000 ∷ 30000 ∷ [])  -- P3: TM-1 500, CM 100
-    ∷ (40000 ∷ 50000 ∷ 30000 ∷ 30000 ∷ [])  -- P4: TM-1 500, CM 400
-    ∷ (0 ∷ 40000 ∷ 30000 ∷ 60000 ∷ [])  -- P4: A deemed 300, B 600, TM-1 400
-    ∷ (0 ∷ [])  -- P5: carried out
-    ∷ (100000 ∷ 50000 ∷ 30000 ∷ 30000 ∷ [])  -- P5: CM blocked 1000
-    ∷ (13 ∷ [])  -- P6: B's 1500.01 instead: 13
-    ∷ (0 ∷ 30000 ∷ 30000 ∷ 0 ∷ 0 ∷ 30000 ∷ 20000 ∷ 40000 ∷ 0 ∷ 0 ∷ 0 ∷ [])  -- P7: not refused; A 300, 300, 0, 0; B 300, 200, 400, 0
-    ∷ (0 ∷ 30000 ∷ 30000 ∷ 60000 ∷ 0 ∷ 30000 ∷ 20000 ∷ 40000 ∷ 30000 ∷ 30000 ∷ 90000 ∷ [])  -- P8: A 300, 300, 600, 0; B 300, 200, 400, 300; total 300, bound 900
-    ∷ (0 ∷ [])  -- P9: B may release 200
-    ∷ (12 ∷ [])  -- P9: and not 200.01
-    ∷ (0 ∷ [])  -- P10: margin 0 where it is 0 already: carried out
-    ∷ (70 ∷ [])  -- P11: 70 bytes long
-    ∷ (2 ∷ [])  -- P11: 69 bytes give 2
-    ∷ (5 ∷ [])  -- P11: 70 with the right serial and code 4 give 5
-    ∷ (60000 ∷ 0 ∷ 20000 ∷ 20000 ∷ 0 ∷ 30000 ∷ 0 ∷ [])  -- Annexure 5: CliMrgn>90% is 60, 0, 20, 20, 0; TMMrgn>90% is 30, 0
-    ∷ (480000 ∷ 500000 ∷ 1 ∷ [])  -- Annexure 5: TM1 480 of 500, 96%, on
-    ∷ (220000 ∷ 500000 ∷ 0 ∷ [])  -- Annexure 5: TM2 220 of 500, 44%, off
-    ∷ (830000 ∷ 1200000 ∷ 0 ∷ [])  -- Annexure 5: CM 830 of 1200, 69.1%, off
-    ∷ (430000 ∷ 500000 ∷ 1 ∷ [])  -- K2: then TM1 430 of 500, 86%, still on
-    ∷ (430000 ∷ 500000 ∷ 0 ∷ [])  -- K2: TM1 430 of 500 from the first, 86%, off
-    ∷ (40000 ∷ 90000 ∷ 60000 ∷ 90000 ∷ 40000 ∷ 90000 ∷ 0 ∷ 0 ∷ [])  -- K3: 400, 900, 600, 900; kept are the CM's and the TM's
-    ∷ []
+expected = map (λ c. c .figures) cases

@@ -1,1 +1,1 @@
-// The three demands as theorems, with K2's and K12's, and the documents' figures: all of it is in specs/ and proofs/.
+// The three demands as theorems, with those of the change requests, one result only for each call, and the documents' figures: all of it is in specs/ and proofs/.

@@ -78,10 +78,23 @@ fn closeouts_lines() {
         .collect();
     let shown = |losses| String::from_utf8(print::closeouts(&day, losses)).unwrap();
     assert_eq!(
-        shown(Some(&losses)),
+        shown(&losses),
         "end 3 3\n0 4 4 0 0 0\n1 20 3 0 6 11\ntotal 11\n"
     );
-    assert_eq!(shown(Some(&losses[..15])), "end 3 3\nrefused 15\n");
-    assert_eq!(shown(Some(&[255; 16])), "end 3 3\nrefused 16\n");
-    assert_eq!(shown(None), "closeouts: cannot read the file of losses\n");
+    assert_eq!(shown(&losses[..15]), "end 3 3\nrefused 15\n");
+    assert_eq!(shown(&[255; 16]), "end 3 3\nrefused 16\n");
+}
+
+/// Nothing for standard output, and the day isn't even asked for.
+#[test]
+fn losses_that_cannot_be_read() {
+    let said = |path: Option<&str>| {
+        let path = path.map(std::ffi::OsString::from);
+        crate::closeouts_command(path.as_ref()).unwrap_err()
+    };
+    let cannot = "closeouts: cannot read the file of losses";
+    assert_eq!(said(None), format!("{cannot}: none is named"));
+    for path in ["no-such-file", "."] {
+        assert!(said(Some(path)).starts_with(&format!("{cannot}: {path}: ")));
+    }
 }

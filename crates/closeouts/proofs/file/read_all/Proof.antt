@@ -1,11 +1,11 @@
--- `closeouts::losses::read_all` is safe and ends: each turn leaves less room.
+-- `closeouts::file::read_all` is safe and ends: each turn leaves less room.
 use Prim.Native.Nat.{_-_, _≤_}
 use mathlib.Core.Path.{_≡_}
 use lib.ListN.{length}
 use native.Mathlib.Omega.{arith}
 use borrow.Author.Needs.{needs}
-use Rattle.closeouts.proofs.losses.read_all.Statement.{statement}
-use Rattle.closeouts.proofs.losses.read_all.Tie as tie
+use Rattle.closeouts.proofs.file.read_all.Statement.{statement}
+use Rattle.closeouts.proofs.file.read_all.Tie as tie
 
 abbrev Inv-loop : tie.InvT-loop
 Inv-loop fd room₀ n₀ room n = (n ≤ length room) × (length room ≡ length room₀)
