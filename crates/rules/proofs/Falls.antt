@@ -1,6 +1,6 @@
 -- K6: at a sound book a live account's margin that does not rise never makes the CM's need pass its collateral, so that 13 for a rising margin and document
 -- 01's 13, for any, are the same test there.
-use mathlib.Core.Bool.{Bool, true, false, not, _&&_}
+use mathlib.Core.Bool.{Bool, true, false, _&&_}
 use mathlib.Core.List.{[], _∷_, _++_}
 use mathlib.Core.Path.{_≡_, refl, sym, ap, _∙_}
 use Prim.Native.Nat.{_≤_, _<_}
@@ -12,13 +12,12 @@ use Rattle.sums.proofs.Choices.{and-split}
 use Rattle.sums.proofs.Tables.{first-names}
 use Rattle.rows.specs.declared.Book.{Book}
 use Rattle.rows.specs.View.{free}
-use Rattle.rows.specs.Rows.{modeAt, view, hasLiveClient, isLive}
-use Rattle.book.specs.Sound.{soundB}
+use Rattle.rows.specs.Rows.{modeAt, view, hasLiveClient}
 use Rattle.book.specs.Facts.{Sound}
 use Rattle.book.proofs.SoundAfter.{margin-falls}
 use Rattle.dayfile.specs.declared.Record.{Record}
-use Rattle.dayfile.specs.Records.{faults}
-use Rattle.rules.specs.Refusals.{namedRow, wrongSort, noNumberLeft, pastCeiling, tooMuch, heldByMode, beyondFree, needOver, newMargin, losesCover, notRetirable, refusalOf}
+use Rattle.rules.specs.Refusals.{namedRow, heldByMode, beyondFree, needOver, newMargin, losesCover, notRetirable, refusalOf}
+use Rattle.rules.proofs.HeldByMode.{ahead}
 
 module _ (b : Book) (s : Sound b) (r : Record) (l : r .account < b .count) (live : namedRow b r .live ≡ true) where
   pub stays-covered : r .margin ≤ namedRow b r .margin → needOver (view (newMargin b r)) ≡ false
@@ -36,17 +35,7 @@ pub rises-at-13 : (b : Book) (r : Record) → refusalOf b r ≡ 13 → namedRow 
 unfolding refusalOf
 rises-at-13 b r e =
     let lost = first-names 13
-    ((1 when not (soundB b))
-    ∷ (3 when not (eqb (r .serial) (b .serial)))
-    ∷ (faults r
-    ++ ((7 when not (isLive b (r .account)))
-    ∷ (8 when wrongSort (namedRow b r) r)
-    ∷ (9 when noNumberLeft (b .count) r)
-    ∷ (10 when pastCeiling (namedRow b r) r)
-    ∷ (11 when tooMuch (namedRow b r) r)
-    ∷ (17 when heldByMode (modeAt b (r .account)) r)
-    ∷ (12 when beyondFree (free (view b) (r .account)) r)
-    ∷ [])))
+    (ahead b r ++ ((17 when heldByMode (modeAt b (r .account)) r) ∷ (12 when beyondFree (free (view b) (r .account)) r) ∷ []))
     ((14 when notRetirable (namedRow b r) (hasLiveClient b (r .account)) r) ∷ [])
     (omega arith, (omega arith, (omega arith, (omega arith, (omega arith, (omega arith, (omega arith, (omega arith, (omega arith, (omega arith, (omega arith, (omega arith, tt)))))))))))) refl refl
     (losesCover (namedRow b r) (needOver (view (newMargin b r))) r) e in

@@ -19,7 +19,7 @@ use Rattle.rules.specs.Refusals.{namedRow, wrongSort, noNumberLeft, past
 
 module _ (b : Book) (r : Record) where
   -- the lines ahead of 17
-  abbrev ahead : List Line
+  abbrev pub ahead : List Line
   ahead =
       (1 when not (soundB b))
       ∷ (3 when not (eqb (r .serial) (b .serial)))
