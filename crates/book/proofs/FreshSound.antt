@@ -1,4 +1,4 @@
--- A fresh book is sound.
+-- A fresh book is sound: where every sequence of records starts.
 use mathlib.Core.Path.{_≡_, refl, sym, ap, _∙_}
 use mathlib.Core.Bool.{true, false}
 use Prim.Native.Nat.{ℕ, zero, suc, _≤_, _<_}
@@ -15,7 +15,7 @@ use Rattle.rows.specs.Ranges.{noAmounts}
 use Rattle.rows.specs.Facts.{InRange}
 use Rattle.book.specs.Sound.{soundB}
 use Rattle.book.specs.Facts.{Sound}
-use Rattle.sums.proofs.Choices.{clash}
+use Rattle.sums.proofs.Choices.{test-clash}
 use Rattle.sums.proofs.Lists.{getD-same}
 use Rattle.book.proofs.SoundTest.{sound←}
 
@@ -42,7 +42,7 @@ fresh-sound = record {
   retired = alone (λ i. rowAt freshBook i .live ≡ false → noAmounts (rowAt freshBook i) ≡ true) (λ e. refl);
   ranges = alone (λ i. InRange (rowAt freshBook i)) (omega arith);
   covered = omega arith;
-  modes = λ i l e. clash e (getD-same 256 i false);
+  modes = λ i l e. test-clash e (getD-same 256 i false);
   kept = λ i l. getD-same {A = ℕ} 256 i 0 ∙ sym (none i (ℕ-discrete i 0));
 }
   where

@@ -1,7 +1,7 @@
 pub mod Differences
-pub mod EveningTold
+pub mod EveningAnswers
 pub mod FreshSound
-pub mod Keeps
+pub mod NoWorse
 pub mod UnderPut
 pub mod UnderOpen
 pub mod UnderMost
@@ -18,4 +18,4 @@ pub mod SoundAfter
 pub mod SoundInPlace
 pub mod SoundTest
 pub mod StandingRefusals
-pub mod NeedsTold
+pub mod NeedsAnswers

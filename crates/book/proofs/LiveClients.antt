@@ -1,11 +1,11 @@
--- Who has no live client.
+-- Who has no live client: nobody for whom the test fails, and in a sound book nobody but a TM. Retiring asks for it.
 use mathlib.Core.Path.{_≡_, refl, ap, _∙_, sym}
 use mathlib.Core.Bool.{Bool, true, false, _&&_}
 use Prim.Native.Nat.{ℕ, _<_}
 use lib.Dec.{eqb}
 use borrow.Author.Tests.{eq-eqb, eqb-true}
 use Rattle.sums.proofs.Sums.{any-fails, any-from-none}
-use Rattle.sums.proofs.Choices.{and-join, and-split, clash}
+use Rattle.sums.proofs.Choices.{and-join, and-split, test-clash}
 use Rattle.rows.specs.declared.Book.{Book}
 use Rattle.rows.specs.Rows.{rowAt, hasLiveClient}
 use Rattle.book.specs.Facts.{Sound}
@@ -18,7 +18,7 @@ pub no-live-client : (b : Book) (t : ℕ) → hasLiveClient b t ≡ false
     → (j : ℕ) → j < b .count → rowAt b j .sort ≡ 2 → rowAt b j .tm ≡ t → rowAt b j .live ≡ true → ⊥
 unfolding hasLiveClient
 no-live-client b t h j l c e p =
-    clash (and-join (and-join (eq-eqb _ _ c) (eq-eqb _ _ e)) p)
+    test-clash (and-join (and-join (eq-eqb _ _ c) (eq-eqb _ _ e)) p)
     (any-fails (b .count) (liveClient b t) h j l)
 
 -- an account that is no TM, in a sound book

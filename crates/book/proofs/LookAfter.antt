@@ -20,8 +20,8 @@ use Rattle.book.proofs.Opens.{Opened, opened-in, needTM-same, needTM-ne
 -- row k changes, and p is the place of the TM that it names
 module _ (v w : View) (k : ℕ) (o : RowChanged v w k) (s : Shaped v) (most : v .count ≤ 256) (p : ℕ) (sl : Slot (v .tm k) p) where
   -- row k is no client of an account that is not at p
-  pub apart : (i : ℕ) → (i ≡ p → ⊥) → isClientOf v i k ≡ false
-  apart i n = by (isClientOf v i k) refl
+  pub client-apart : (i : ℕ) → (i ≡ p → ⊥) → isClientOf v i k ≡ false
+  client-apart i n = by (isClientOf v i k) refl
     where
       by : (x : Bool) → isClientOf v i k ≡ x → isClientOf v i k ≡ false
       by true e =
@@ -30,7 +30,7 @@ module _ (v w : View) (k : ℕ) (o : RowChanged v w k) (s : Shaped v) (most : v 
       by false e = e
 
   pub use-aside : (i : ℕ) → (i ≡ k → ⊥) → (i ≡ p → ⊥) → (i ≡ 0 → ⊥) → useOf w i ≡ useOf v i
-  use-aside i n m z = use-TM w i z ∙ needTM-aside (inTenths v) (inTenths w) k (changed-in true o) i n (apart i m) ∙ sym (use-TM v i z)
+  use-aside i n m z = use-TM w i z ∙ needTM-aside (inTenths v) (inTenths w) k (changed-in true o) i n (client-apart i m) ∙ sym (use-TM v i z)
 
   pub look-aside : (modes : List Bool) (i : ℕ) → (i ≡ k → ⊥) → (i ≡ p → ⊥) → (i ≡ 0 → ⊥) → lookAt w modes i ≡ lookAt v modes i
   look-aside modes i n m z = rw (o .sort i, use-aside i n m z, o .collateral i n)

@@ -18,7 +18,7 @@ use Rattle.rows.specs.Inner.{Slot}
 use Rattle.rows.specs.KeptNeeds.{keptNeed, needsAfresh}
 use Rattle.rows.proofs.KeptNeeds.{kept-CM, kept-TM, kept-none, needs-same}
 use Rattle.book.proofs.Differences.{RowChanged, needTM-aside}
-use Rattle.book.proofs.LookAfter.{apart}
+use Rattle.book.proofs.LookAfter.{client-apart}
 use Rattle.book.proofs.Opens.{Opened, needTM-same, needTM-new, needCM-same}
 
 -- row k changes, and p is the place of the TM that it names
@@ -26,7 +26,7 @@ module _ (v w : View) (k : ℕ) (o : RowChanged v w k) (s : Shaped v) (most : v 
   pub kept-aside : (i : ℕ) → (i ≡ k → ⊥) → (i ≡ p → ⊥) → (i ≡ 0 → ⊥) → keptNeed w i ≡ keptNeed v i
   kept-aside i n m z =
       pick-no (eqb i 0) _ _ (ne-eqb i 0 z) ∙ ap (λ t. only (eqb t 1) (needTM w i)) (o .sort i)
-      ∙ ap (only (isTM v i)) (needTM-aside v w k o i n (apart v w k o s most p sl i m)) ∙ sym (pick-no (eqb i 0) _ _ (ne-eqb i 0 z))
+      ∙ ap (only (isTM v i)) (needTM-aside v w k o i n (client-apart v w k o s most p sl i m)) ∙ sym (pick-no (eqb i 0) _ _ (ne-eqb i 0 z))
 
   -- so with those three put anew the kept needs are those worked out afresh
   pub needs-put : (needs : List ℕ) → length needs ≡ 256 → NeedsKept v needs → (own its top : ℕ) → ((k ≡ p → ⊥) → (k ≡ 0 → ⊥) → own ≡ keptNeed w k)

@@ -9,8 +9,8 @@ use Rattle.rows.specs.declared.Book.{Book}
 use Rattle.rows.specs.View.{blocked}
 use Rattle.rows.specs.Facts.{Shaped}
 use Rattle.rows.specs.Rows.{rowAt, places, collateral, view, withRow, withNew}
-use Rattle.rows.proofs.RowPut.{row-same, row-other, new, below}
-use Rattle.book.proofs.Keeps.{Kept}
+use Rattle.rows.proofs.RowPut.{row-same, row-other, opened-new, opened-below}
+use Rattle.book.proofs.NoWorse.{NoWorse}
 use Rattle.book.proofs.Opens.{Opened}
 
 -- what holds of the new row and the old, and of any row and itself, holds of all rows of the two books
@@ -30,8 +30,8 @@ module _ (b : Book) (i : ℕ) (r : Row) (l : i < places b) (ec : r .sort ≡ row
   same-tm = at-all (λ j x y. x .tm ≡ y .tm) b i r l et (λ j. refl)
 
   -- the margin doesn't rise, and collateral stays no lower than blocked
-  pub row-kept : r .margin ≤ rowAt b i .margin → blocked (view b) i ≤ collateral r → Kept (view b) (view (withRow b i r))
-  row-kept m c = record {
+  pub row-no-worse : r .margin ≤ rowAt b i .margin → blocked (view b) i ≤ collateral r → NoWorse (view b) (view (withRow b i r))
+  row-no-worse m c = record {
     count = refl;
     sort = same-sort;
     tm = same-tm;
@@ -54,11 +54,11 @@ module _ (b : Book) (r : Row) (room : b .count < places b) where
       → (r .sort ≡ 2 → (r .tm < b .count) × (rowAt b (r .tm) .sort ≡ 1)) → Opened (view b) (view (withNew b r))
   row-opened m k t = record {
     count = refl;
-    sort = λ i q. ap (λ x. x .sort) (below b r room i q);
-    tm = λ i q. ap (λ x. x .tm) (below b r room i q);
-    margin = λ i q. ap (λ x. x .margin) (below b r room i q);
-    collateral = λ i q. ap collateral (below b r room i q);
-    no-margin = rw (new b r room) m;
-    new-sort = rw (new b r room) k;
-    its-tm = rw (new b r room) t;
+    sort = λ i q. ap (λ x. x .sort) (opened-below b r room i q);
+    tm = λ i q. ap (λ x. x .tm) (opened-below b r room i q);
+    margin = λ i q. ap (λ x. x .margin) (opened-below b r room i q);
+    collateral = λ i q. ap collateral (opened-below b r room i q);
+    no-margin = rw (opened-new b r room) m;
+    new-sort = rw (opened-new b r room) k;
+    its-tm = rw (opened-new b r room) t;
   }

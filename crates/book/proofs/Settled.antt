@@ -10,13 +10,13 @@ use lib.Dec.{eqb}
 use borrow.Author.Tests.{eqb-true, ne-eqb}
 use Rattle.sums.specs.Sum.{only}
 use Rattle.sums.proofs.Sums.{sum-zero, only-zero}
-use Rattle.sums.proofs.Choices.{and-left, clash, pick-no}
+use Rattle.sums.proofs.Choices.{and-left, test-clash, pick-no}
 use Rattle.rows.specs.declared.Book.{Book}
 use Rattle.rows.specs.View.{isTM, isClientOf, ownDeemed, needTM, need}
 use Rattle.rows.specs.Facts.{NoneBeyond, NeedsKept}
 use Rattle.rows.specs.Rows.{rowAt, modeAt, view, withModes}
 use Rattle.rows.specs.Modes.{useTM, useCM, hasMode, useOf, lookAt, looked}
-use Rattle.rows.specs.Under.{Under, undersBy}
+use Rattle.rows.specs.DeemedUnder.{DeemedUnder, deemedUnderBy}
 use Rattle.rows.specs.Inner.{viewAs}
 use Rattle.rows.specs.KeptNeeds.{needsAfresh, settled}
 use Rattle.rows.proofs.BySort.{Sort, cm, tm, client, cp, sort-of, client-sort, client-tm, need-TM, need-client, need-CP}
@@ -74,7 +74,7 @@ with-rest b s modes kept = record {
 
 -- a sound book is sound with no mode on
 pub all-off : (b : Book) → Sound b → Sound (withModes b [])
-all-off b s = with-rest (withModes b []) (rows-alone b (b .serial) [] (b .needs) (sound-rows b s)) (λ i l e. clash e refl) (s .kept)
+all-off b s = with-rest (withModes b []) (rows-alone b (b .serial) [] (b .needs) (sound-rows b s)) (λ i l e. test-clash e refl) (s .kept)
 
 module _ (b : Book) (s : SoundRows b) where
   pub none-beyond : NoneBeyond (view b)
@@ -91,7 +91,7 @@ module _ (b : Book) (s : SoundRows b) where
     client-gone i m e = by (rowAt b i .live) refl
       where
         by : (x : Bool) → rowAt b i .live ≡ x → rowAt b i .live ≡ false
-        by true q = clash (s .tm-live i m (client-sort (view b) t i e) q) (ap (λ j. rowAt b j .live) (client-tm (view b) t i e) ∙ gone)
+        by true q = test-clash (s .tm-live i m (client-sort (view b) t i e) q) (ap (λ j. rowAt b j .live) (client-tm (view b) t i e) ∙ gone)
         by false q = q
 
     its-margin : (tenths : Bool) → viewAs tenths (view b) .margin t ≡ 0
@@ -116,7 +116,7 @@ module _ (b : Book) (s : SoundRows b) where
     retired-need = by (sort-of (view b) (s .shaped) t l)
       where
         by : Sort (view b) t → need (view b) t ≡ 0
-        by (cm e c) = clash (ap (λ j. rowAt b j .live) e ∙ s .top-live) gone
+        by (cm e c) = test-clash (ap (λ j. rowAt b j .live) e ∙ s .top-live) gone
         by (tm g c) = need-TM (view b) t c ∙ retired-TM false
         by (client g c) = need-client (view b) t c ∙ its-margin false
         by (cp g c) = need-CP (view b) t c ∙ its-margin false
@@ -133,8 +133,8 @@ module _ (b : Book) (s : SoundRows b) where
       by (yes z) d x y = inl z
       by (no n) (yes l) true y = inr (eqb-true _ _ (its-sort n), y)
       by (no n) (yes l) false y =
-          clash e (no-use (view b) modes i (λ h. pick-no (eqb i 0) (useCM (view b)) (useTM (view b) i) (ne-eqb i 0 n) ∙ retired-use i l y))
-      by (no n) (no l) x y = clash (its-sort n) (none-beyond i (omega arith))
+          test-clash e (no-use (view b) modes i (λ h. pick-no (eqb i 0) (useCM (view b)) (useTM (view b) i) (ne-eqb i 0 n) ∙ retired-use i l y))
+      by (no n) (no l) x y = test-clash (its-sort n) (none-beyond i (omega arith))
 
   -- "It is looked at after every record carried out."; "bring it up to date"
   pub settled-sound : Sound (settled b)
@@ -143,5 +143,5 @@ module _ (b : Book) (s : SoundRows b) where
       (λ i l e. looked-good (b .modes) i (sym (looked-at (view b) (b .modes) i l) ∙ e)) (afresh-at (view b))
 
 -- what is deemed under each account of a sound book, by its kept needs
-pub sound-under : (b : Book) → Sound b → (margin : ℕ → ℕ) → ((i : ℕ) → i < 256 → margin i ≡ rowAt b i .margin) → Under (view b) (undersBy margin (b .needs))
+pub sound-under : (b : Book) → Sound b → (margin : ℕ → ℕ) → ((i : ℕ) → i < 256 → margin i ≡ rowAt b i .margin) → DeemedUnder (view b) (deemedUnderBy margin (b .needs))
 sound-under b s margin same = kept-under (view b) (s .shaped) (none-beyond b (sound-rows b s)) margin same (b .needs) (s .kept) (s .most)

@@ -6,7 +6,7 @@ use mathlib.Core.Logic.{_⊎_}
 use Prim.Native.Nat.{ℕ, _+_, _-_, _≤_, _<_}
 use native.Mathlib.Omega.{arith}
 use native.Mathlib.Decide.{ℕ-discrete}
-use Rattle.sums.proofs.Choices.{clash}
+use Rattle.sums.proofs.Choices.{test-clash}
 use Rattle.rows.specs.declared.Kinds.{Kinds}
 use Rattle.rows.specs.declared.Row.{Row}
 use Rattle.rows.specs.declared.Book.{Book}
@@ -16,10 +16,10 @@ use Rattle.rows.specs.Ranges.{ceilings, noAmounts}
 use Rattle.rows.specs.Rows.{ceiling, rowAt, addedUp, collateral, view, openedRow, plusKinds, lessKinds, withReceived, withAllocated, withPledged, withMargin, withLive, places, withSerial, withRow, withNew}
 use Rattle.book.specs.Facts.{SoundRows, Sound}
 use Rattle.book.proofs.Settled.{sound-rows, rows-alone, with-rest}
-use Rattle.rows.proofs.RowPut.{row-other, row-places, new-places, new, below, above}
-use Rattle.book.proofs.Keeps.{kept-covered}
+use Rattle.rows.proofs.RowPut.{row-other, row-places, new-places, opened-new, opened-below, opened-above}
+use Rattle.book.proofs.NoWorse.{no-worse-covered}
 use Rattle.book.proofs.Opens.{Opened, opened-covered, opened-shaped}
-use Rattle.book.proofs.OneRow.{at-all, same-sort, same-tm, row-kept, row-shaped, row-opened}
+use Rattle.book.proofs.OneRow.{at-all, same-sort, same-tm, row-no-worse, row-shaped, row-opened}
 
 -- soundness doesn't look at the serial
 pub serial-rows : (b : Book) (n : ℕ) → SoundRows b → SoundRows (withSerial b n)
@@ -65,45 +65,45 @@ module _ (b : Book) (s : Sound b) (i : ℕ) (m : i < b .count) (live : rowAt b i
   pub amounts-sound : (r : Row) → r .sort ≡ rowAt b i .sort → r .tm ≡ rowAt b i .tm → r .live ≡ true → InRange r
       → Covered (view (withRow b i r)) → SoundRows (withRow b i r)
   amounts-sound r ec et el f c =
-      row-sound b s i m r ec et f (clash el) (lives 0 ∙ s .top-live)
+      row-sound b s i m r ec et f (test-clash el) (lives 0 ∙ s .top-live)
       (λ j h e p. lives (rowAt b j .tm) ∙ s .tm-live j h e (sym (lives j) ∙ p)) c
     where
       lives : (j : ℕ) → rowAt (withRow b i r) j .live ≡ rowAt b j .live
       lives = at-all (λ j x y. x .live ≡ y .live) b i r (in-table b s i m) (el ∙ sym live) (λ j. refl)
 
   -- the margin doesn't rise, and collateral stays no lower than blocked
-  pub kept-sound : (r : Row) → r .sort ≡ rowAt b i .sort → r .tm ≡ rowAt b i .tm → r .live ≡ true → InRange r
+  pub no-worse-sound : (r : Row) → r .sort ≡ rowAt b i .sort → r .tm ≡ rowAt b i .tm → r .live ≡ true → InRange r
       → r .margin ≤ rowAt b i .margin → blocked (view b) i ≤ collateral r → SoundRows (withRow b i r)
-  kept-sound r ec et el f hm hb =
+  no-worse-sound r ec et el f hm hb =
       amounts-sound r ec et el f
-      (kept-covered (view b) (view (withRow b i r)) (row-kept b i r (in-table b s i m) ec et hm hb) (s .shaped .top) (s .covered))
+      (no-worse-covered (view b) (view (withRow b i r)) (row-no-worse b i r (in-table b s i m) ec et hm hb) (s .shaped .top) (s .covered))
 
   -- 10 does not apply
   pub receive-sound : (k : Kinds) → KindsWithin (plusKinds (rowAt b i .received) k) ceilings
       → SoundRows (withRow b i (withReceived (rowAt b i) (plusKinds (rowAt b i .received) k)))
-  receive-sound k h = kept-sound _ refl refl live (omega (arith, s .ranges i m)) (omega arith) (omega arith)
+  receive-sound k h = no-worse-sound _ refl refl live (omega (arith, s .ranges i m)) (omega arith) (omega arith)
 
   -- 11 does not apply
   pub hand-back-sound : (k : Kinds) → KindsWithin k (lessKinds (rowAt b i .received) (rowAt b i .allocated))
       → SoundRows (withRow b i (withReceived (rowAt b i) (lessKinds (rowAt b i .received) k)))
-  hand-back-sound k h = kept-sound _ refl refl live (omega (arith, s .ranges i m)) (omega arith) (omega arith)
+  hand-back-sound k h = no-worse-sound _ refl refl live (omega (arith, s .ranges i m)) (omega arith) (omega arith)
 
   pub allocate-sound : (k : Kinds) → KindsWithin k (lessKinds (rowAt b i .received) (rowAt b i .allocated))
       → SoundRows (withRow b i (withAllocated (rowAt b i) (plusKinds (rowAt b i .allocated) k)))
-  allocate-sound k h = kept-sound _ refl refl live (omega (arith, s .ranges i m)) (omega arith) (omega arith)
+  allocate-sound k h = no-worse-sound _ refl refl live (omega (arith, s .ranges i m)) (omega arith) (omega arith)
 
   -- 11 and 12 do not apply
   pub release-sound : (k : Kinds) → KindsWithin k (rowAt b i .allocated) → addedUp k ≤ free (view b) i
       → SoundRows (withRow b i (withAllocated (rowAt b i) (lessKinds (rowAt b i .allocated) k)))
-  release-sound k h f = kept-sound _ refl refl live (omega (arith, s .ranges i m)) (omega arith) (omega arith)
+  release-sound k h f = no-worse-sound _ refl refl live (omega (arith, s .ranges i m)) (omega arith) (omega arith)
 
   -- 10 does not apply
   pub pledge-sound : (y : ℕ) → rowAt b i .pledged + y ≤ ceiling → SoundRows (withRow b i (withPledged (rowAt b i) (rowAt b i .pledged + y)))
-  pledge-sound y h = kept-sound _ refl refl live (omega (arith, s .ranges i m)) (omega arith) (omega arith)
+  pledge-sound y h = no-worse-sound _ refl refl live (omega (arith, s .ranges i m)) (omega arith) (omega arith)
 
   -- 11 and 12 do not apply
   pub unpledge-sound : (y : ℕ) → y ≤ rowAt b i .pledged → y ≤ free (view b) i → SoundRows (withRow b i (withPledged (rowAt b i) (rowAt b i .pledged - y)))
-  unpledge-sound y h f = kept-sound _ refl refl live (omega (arith, s .ranges i m)) (omega arith) (omega arith)
+  unpledge-sound y h f = no-worse-sound _ refl refl live (omega (arith, s .ranges i m)) (omega arith) (omega arith)
 
   -- 13 does not apply
   pub margin-sound : (y : ℕ) → y ≤ ceiling → Covered (view (withRow b i (withMargin (rowAt b i) y))) → SoundRows (withRow b i (withMargin (rowAt b i) y))
@@ -111,7 +111,7 @@ module _ (b : Book) (s : Sound b) (i : ℕ) (m : i < b .count) (live : rowAt b i
 
   -- 13 never applies to a margin that doesn't rise
   pub margin-falls : (y : ℕ) → y ≤ rowAt b i .margin → SoundRows (withRow b i (withMargin (rowAt b i) y))
-  margin-falls y h = kept-sound _ refl refl live (omega (arith, s .ranges i m)) h (omega arith)
+  margin-falls y h = no-worse-sound _ refl refl live (omega (arith, s .ranges i m)) h (omega arith)
 
 -- 7, 8 and 14 do not apply
 module _ (b : Book) (s : Sound b) (i : ℕ) (m : i < b .count) (ne : i ≡ 0 → ⊥) (none : noAmounts (rowAt b i) ≡ true)
@@ -123,9 +123,9 @@ module _ (b : Book) (s : Sound b) (i : ℕ) (m : i < b .count) (ne : i ≡ 0 →
   retire-sound =
       row-sound b s i m gone refl refl (same-range (s .ranges i m)) (λ q. none)
       (ap (λ r. r .live) (row-other b i 0 gone (λ e. ne (sym e))) ∙ s .top-live)
-      (λ j h e p. tms j h e (at-all (λ j x y. x .live ≡ true → y .live ≡ true) b i gone (in-table b s i m) (λ q. clash q refl) (λ j q. q) j p)
+      (λ j h e p. tms j h e (at-all (λ j x y. x .live ≡ true → y .live ≡ true) b i gone (in-table b s i m) (λ q. test-clash q refl) (λ j q. q) j p)
       (ℕ-discrete (rowAt b j .tm) i))
-      (kept-covered (view b) (view (withRow b i gone)) (row-kept b i gone (in-table b s i m) refl refl (omega arith) (omega arith)) (s .shaped .top) (s .covered))
+      (no-worse-covered (view b) (view (withRow b i gone)) (row-no-worse b i gone (in-table b s i m) refl refl (omega arith) (omega arith)) (s .shaped .top) (s .covered))
     where
       same-range : InRange (rowAt b i) → InRange gone
       same-range f = record { received = f .received; allocated = f .allocated; pledged = f .pledged; margin = f .margin }
@@ -152,18 +152,18 @@ module _ (b : Book) (s : Sound b) (c t : ℕ) (room : b .count < 256) (sort : (c
   each P p q j l = by (ℕ-discrete j (b .count))
     where
       by : Dec (j ≡ b .count) → P (rowAt opened j)
-      by (yes e) = rw e (rw (new b (openedRow c t) space) p)
-      by (no e) = rw (below b (openedRow c t) space j (omega arith)) (q j (omega arith))
+      by (yes e) = rw e (rw (opened-new b (openedRow c t) space) p)
+      by (no e) = rw (opened-below b (openedRow c t) space j (omega arith)) (q j (omega arith))
 
   still-live : (j : ℕ) → j < b .count → rowAt b j .live ≡ true → rowAt opened j .live ≡ true
-  still-live j l p = ap (λ r. r .live) (below b (openedRow c t) space j l) ∙ p
+  still-live j l p = ap (λ r. r .live) (opened-below b (openedRow c t) space j l) ∙ p
 
   pub open-sound : SoundRows (withNew b (openedRow c t))
   open-sound = record {
     table = new-places b (openedRow c t) ∙ s .table;
     most = omega arith;
     top-live = still-live 0 (s .shaped .some) (s .top-live);
-    blank = λ j h. above b (openedRow c t) space j (omega arith) ∙ s .blank j (omega arith);
+    blank = λ j h. opened-above b (openedRow c t) space j (omega arith) ∙ s .blank j (omega arith);
     shaped = opened-shaped (view b) (view opened) one-more (s .shaped);
     no-tm = each (λ r. (r .sort ≡ 2 → ⊥) → r .tm ≡ 0) no-tm (s .no-tm);
     tm-live = each (λ r. r .sort ≡ 2 → r .live ≡ true → rowAt opened (r .tm) .live ≡ true) (λ e p. still-live t (tm e .0) (tm e .2))

@@ -1,4 +1,4 @@
--- Every row of a sound book is in range.
+-- Every row of a sound book is in range, so that no sum over the book passes a word.
 use Prim.Native.Nat.{ℕ, _<_}
 use native.Mathlib.Decide.{decLt}
 use native.Mathlib.Omega.{arith}

@@ -8,13 +8,13 @@ use native.Mathlib.Decide.{ℕ-discrete}
 use lib.ListN.{getD}
 use Rattle.rows.specs.View.{View, need}
 use Rattle.rows.specs.Facts.{Shaped}
-use Rattle.rows.specs.Under.{Under}
+use Rattle.rows.specs.DeemedUnder.{DeemedUnder}
 use Rattle.rows.proofs.BySort.{Sort, cm, tm, client, cp, sort-of, need-CM, need-TM, need-client, need-CP}
-use Rattle.rows.proofs.Unders.{cm-is, tm-is, none-under}
+use Rattle.rows.proofs.DeemedUnder.{cm-is, tm-is, none-under}
 use Rattle.book.proofs.Opens.{Opened, needTM-same, needTM-new, needCM-same}
 
-module _ (v w : View) (o : Opened v w) (s : Shaped v) (under : List ℕ) (h : Under v under) where
-  pub under-open : Under w under
+module _ (v w : View) (o : Opened v w) (s : Shaped v) (under : List ℕ) (h : DeemedUnder v under) where
+  pub under-open : DeemedUnder w under
   under-open = record {
     size = h .size;
     each = λ i l. by i (omega (arith, o .count)) (ℕ-discrete i (v .count));

@@ -12,10 +12,10 @@ use borrow.Author.Tests.{ne-eqb, lt-ltb}
 use Rattle.rows.specs.declared.Account.{Account}
 use Rattle.rows.specs.View.{View, isClientOf, deemedOf, ownDeemed, needTM, deemedTM, needCM, need}
 use Rattle.rows.specs.Facts.{Shaped, NoTM}
-use Rattle.rows.specs.Under.{Under, accountAt, clientDue, memberDue, underTM, underCM}
+use Rattle.rows.specs.DeemedUnder.{DeemedUnder, accountAt, clientDue, memberDue, deemedUnderTM, deemedUnderCM}
 use Rattle.rows.specs.Inner.{Slot}
 use Rattle.rows.proofs.BySort.{Sort, cm, tm, client, cp, sort-of, need-CM, need-TM, need-client, need-CP}
-use Rattle.rows.proofs.Unders.{cm-is, tm-is, none-under}
+use Rattle.rows.proofs.DeemedUnder.{cm-is, tm-is, none-under}
 use Rattle.book.proofs.Differences.{RowChanged, needTM-aside, needTM-client, needTM-own, needCM-client, needCM-TM, needCM-CP, needCM-own}
 
 needTM-least : (v : View) (t : ℕ) → v .margin t ≤ needTM v t
@@ -51,13 +51,13 @@ counts-zero : (a : Account) (d : ℕ) → a .sort ≡ 0 → memberDue a d ≡ 0
 counts-zero a d e = rw e
 
 -- p is the place of the TM that row k names
-module _ (v w : View) (k : ℕ) (o : RowChanged v w k) (s : Shaped v) (z : NoTM v) (most : v .count ≤ 256) (under : List ℕ) (h : Under v under)
+module _ (v w : View) (k : ℕ) (o : RowChanged v w k) (s : Shaped v) (z : NoTM v) (most : v .count ≤ 256) (under : List ℕ) (h : DeemedUnder v under)
     (p : ℕ) (sl : Slot (v .tm k) p) where
   abbrev x : ℕ
-  x = underTM (accountAt v k) (accountAt w k) (getD under p 0)
+  x = deemedUnderTM (accountAt v k) (accountAt w k) (getD under p 0)
 
   abbrev y : ℕ
-  y = underCM (accountAt v k) (accountAt w k) (getD under k 0) (accountAt v p) (getD under p 0) (getD under 0 0)
+  y = deemedUnderCM (accountAt v k) (accountAt w k) (getD under k 0) (accountAt v p) (getD under p 0) (getD under 0 0)
 
   sort-w : {n : ℕ} → v .sort k ≡ n → w .sort k ≡ n
   sort-w e = o .sort k ∙ e
@@ -202,8 +202,8 @@ module _ (v w : View) (k : ℕ) (o : RowChanged v w k) (s : Shaped v) (z : NoTM 
       by (client g c) = omega (arith, need-client w i (o .sort i ∙ c), none-under v s under h i l (inl c), stays i n m)
       by (cp g c) = omega (arith, need-CP w i (o .sort i ∙ c), none-under v s under h i l (inr c), stays i n m)
 
-  pub under-put : Under w (set (set under p (underTM (accountAt v k) (accountAt w k) (getD under p 0))) 0
-      (underCM (accountAt v k) (accountAt w k) (getD under k 0) (accountAt v p) (getD under p 0) (getD under 0 0)))
+  pub under-put : DeemedUnder w (set (set under p (deemedUnderTM (accountAt v k) (accountAt w k) (getD under p 0))) 0
+      (deemedUnderCM (accountAt v k) (accountAt w k) (getD under k 0) (accountAt v p) (getD under p 0) (getD under 0 0)))
   under-put = record {
     size = length-set (set under p x) 0 y ∙ length-set under p x ∙ h .size;
     each = λ i l. by i (rw (o .count) at l) (ℕ-discrete i 0) (ℕ-discrete i p);

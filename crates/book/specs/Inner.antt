@@ -35,14 +35,14 @@ unfoldable pub modesAt : List ℕ → List Bool → List Bool → Bool
 modesAt sort live modes = all 256 (λ i. goodMode i (getD sort i 0) (getD live i false) (getD modes i false))
 
 -- the run of words that an amount has
-abbrev pub runOf : Amount → ℕ
-runOf ReceivedCash = 0
-runOf ReceivedDeposits = 1
-runOf ReceivedGuarantees = 2
-runOf ReceivedSecurities = 3
-runOf AllocatedCash = 4
-runOf AllocatedDeposits = 5
-runOf AllocatedGuarantees = 6
-runOf AllocatedSecurities = 7
-runOf Pledged = 8
-runOf Margin = 9
+abbrev pub amountNumber : Amount → ℕ
+amountNumber ReceivedCash = 0
+amountNumber ReceivedDeposits = 1
+amountNumber ReceivedGuarantees = 2
+amountNumber ReceivedSecurities = 3
+amountNumber AllocatedCash = 4
+amountNumber AllocatedDeposits = 5
+amountNumber AllocatedGuarantees = 6
+amountNumber AllocatedSecurities = 7
+amountNumber Pledged = 8
+amountNumber Margin = 9

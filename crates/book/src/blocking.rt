@@ -11,7 +11,7 @@ ghost use Rattle.rows.specs.Inner.{Ranged};
 ghost use Rattle.table.specs.Facts.{seenBook};
 ghost use Rattle.book.specs.Asked.{figuresOf, noFigures};
 use super::Figures;
-use rows::kept::need_by;
+use rows::deemed::need_by;
 use rows::needs::blocked_of;
 use table::needs::account_at;
 

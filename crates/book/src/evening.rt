@@ -1,10 +1,10 @@
 // Which run of words an evening sum reads.
 ghost use mathlib.Core.Path.{_≡_};
-ghost use Rattle.book.specs.Inner.{runOf};
+ghost use Rattle.book.specs.Inner.{amountNumber};
 use super::Amount;
 
-pub(crate) fn run_of(amount: Amount) -> usize
-    ensures { λ x. ⌜ x ≡ runOf amount ⌝ }
+pub(crate) fn amount_number(amount: Amount) -> usize
+    ensures { λ x. ⌜ x ≡ amountNumber amount ⌝ }
 {
     match amount {
         Amount::ReceivedCash => 0,

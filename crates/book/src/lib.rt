@@ -11,8 +11,9 @@ mod blocking;
 mod evening;
 pub mod sound;
 
+pub use rows::CEILING;
 use sound::table_sound;
-use table::Table;
+pub use table::Table;
 
 // A standing's five figures and the account's mode, behind the refusal number or 0.
 pub struct Figures {
@@ -148,7 +149,7 @@ pub fn amount_sum(t: Table, amount: Amount) -> Summed
         };
     }
     let n = count as usize;
-    let k = evening::run_of(amount);
+    let k = evening::amount_number(amount);
     let total = table::evening::amount_sum(&t.amounts, k, n);
     Summed { refusal: 0, total }
 }

@@ -1,137 +1,120 @@
-// Books to ask about, made as values of the old order, row by row; each is turned over to be asked.
-use rows::Book;
-use rows::Kinds;
-use rows::Row;
-use rows::words;
-use table::turn_back;
+// Books to ask about, each a table with some words put anew.
+use book::Table;
 
-// The amount in one kind: 0 cash, 1 fixed deposits, 2 bank guarantees, 3 government securities.
-pub fn kinds(kind: u8, n: u64) -> Kinds {
-    match kind {
-        0 => Kinds {
-            cash: n,
-            deposits: 0,
-            guarantees: 0,
-            securities: 0,
-        },
-        1 => Kinds {
-            cash: 0,
-            deposits: n,
-            guarantees: 0,
-            securities: 0,
-        },
-        2 => Kinds {
-            cash: 0,
-            deposits: 0,
-            guarantees: n,
-            securities: 0,
-        },
-        _ => Kinds {
-            cash: 0,
-            deposits: 0,
-            guarantees: 0,
-            securities: n,
-        },
+// Amounts by number. Of kind k, from 0 to 3, amount k is received and amount 4 + k allocated.
+pub const PLEDGED: u8 = 8;
+
+pub const MARGIN: u8 = 9;
+
+// The table with amount k of account i.
+pub fn with_amount(t: Table, k: u8, i: u8, x: u64) -> Table {
+    let at = i as usize;
+    let mut w = t;
+    if k < 10 {
+        w.amounts[k as usize * 256 + at] = x;
     }
+    w
 }
 
-pub fn with_kinds(r: Row, kind: u8, received: u64, allocated: u64) -> Row {
-    let full = words::with_received(r, kinds(kind, received));
-    words::with_allocated(full, kinds(kind, allocated))
-}
-
-// A live account with all of its collateral in allocated cash.
-fn account(sort: u8, tm: u16, amount: u64, margin: u64) -> Row {
-    let r = with_kinds(words::opened_row(sort, tm), 0, amount, amount);
-    words::with_margin(r, margin)
-}
-
-pub fn retired(sort: u8, tm: u16) -> Row {
-    words::with_live(words::opened_row(sort, tm), false)
-}
-
-// A fresh book in the old order.
-pub fn fresh() -> Book {
-    turn_back(book::fresh())
-}
-
-// The book with row i put anew.
-pub fn with(book: Book, i: u8, r: Row) -> Book {
-    let mut b = book;
+// The table with the live account i, the last one.
+pub fn opened(t: Table, i: u8, sort: u8, tm: u16) -> Table {
     let at = i as usize;
-    b.rows[at] = r;
-    b
+    let mut w = t;
+    w.count = i as u16 + 1;
+    w.sort[at] = sort;
+    w.live[at] = true;
+    w.tm[at] = tm;
+    w
 }
 
-// The book with the account i, the last one.
-pub fn with_last(book: Book, i: u8, r: Row) -> Book {
-    let mut b = with(book, i, r);
-    b.count = i as u16 + 1;
-    b
-}
-
-// The book with the account at place i in risk reduction mode.
-pub fn in_mode(book: Book, i: u8) -> Book {
-    let mut b = book;
+pub fn retired(t: Table, i: u8) -> Table {
     let at = i as usize;
-    b.modes[at] = true;
-    b
+    let mut w = t;
+    w.live[at] = false;
+    w
 }
 
-// The book with this need kept at place i.
-pub fn keeping(book: Book, i: u8, need: u64) -> Book {
-    let mut b = book;
+// The table with the account at place i in risk reduction mode.
+pub fn in_mode(t: Table, i: u8) -> Table {
     let at = i as usize;
-    b.needs[at] = need;
-    b
+    let mut w = t;
+    w.modes[at] = true;
+    w
+}
+
+// The table with this need kept at place i.
+pub fn keeping(t: Table, i: u8, need: u64) -> Table {
+    let at = i as usize;
+    let mut w = t;
+    w.needs[at] = need;
+    w
+}
+
+// All of account i's collateral in allocated cash.
+fn placed(t: Table, i: u8, amount: u64, margin: u64) -> Table {
+    let full = with_amount(with_amount(t, 0, i, amount), 4, i, amount);
+    with_amount(full, MARGIN, i, margin)
+}
+
+// A TM and a client of it.
+pub fn family() -> Table {
+    opened(opened(book::fresh(), 1, 1, 0), 2, 2, 1)
 }
 
 // Annexure 4: CM 1000, TM-1 500, its clients A 300 and B 300, in rupees; A's margin is a and B's is b. The needs kept are TM-1's, tm, and
 // the CM's, all: each is worked out by hand, and nothing here adds one up.
-pub fn annexure(a: u64, b: u64, tm: u64, all: u64) -> Book {
-    let cm = with_last(fresh(), 0, account(0, 0, 100_000, 0));
-    let member = with_last(cm, 1, account(1, 0, 50_000, 0));
-    let first = with_last(member, 2, account(2, 1, 30_000, a));
-    let last = with_last(first, 3, account(2, 1, 30_000, b));
-    keeping(keeping(last, 1, tm), 0, all)
+fn annexure(a: u64, b: u64, tm: u64, all: u64) -> Table {
+    let t = opened(family(), 3, 2, 1);
+    let t = placed(t, 0, 100_000, 0);
+    let t = placed(t, 1, 50_000, 0);
+    let t = placed(t, 2, 30_000, a);
+    let t = placed(t, 3, 30_000, b);
+    keeping(keeping(t, 1, tm), 0, all)
 }
 
 // P1: B's margin 100.
-pub fn p1() -> Book {
+pub fn p1() -> Table {
     annexure(0, 10_000, 0, 0)
 }
 
 // P4: A's margin 600, B's 900; TM-1 needs 300 and 600, the CM 400.
-pub fn p4() -> Book {
+pub fn p4() -> Table {
     annexure(60_000, 90_000, 90_000, 40_000)
 }
 
+// P5: B's margin 1500. The CM needs all of its collateral.
+pub fn p5() -> Table {
+    annexure(60_000, 150_000, 150_000, 100_000)
+}
+
 // B's margin 1500.01: the CM needs a paisa more than its collateral. Nothing else is wrong with it.
-pub fn uncovered() -> Book {
+pub fn uncovered() -> Table {
     annexure(60_000, 150_001, 150_001, 100_001)
 }
 
-// CM 100 with margin 10, a TM 50 with 20, a retired client of it, one 10 with 25, a CP 20 with 30, a retired TM. The client is deemed 15
-// and the CP 10: the TM needs 35, which its 50 meets, and the CM 20.
-pub fn mixed() -> Book {
-    let cm = with_last(fresh(), 0, account(0, 0, 100, 10));
-    let tm = with_last(cm, 1, account(1, 0, 50, 20));
-    let gone = with_last(tm, 2, retired(2, 1));
-    let client = with_last(gone, 3, account(2, 1, 10, 25));
-    let cp = with_last(client, 4, account(3, 0, 20, 30));
-    let last = with_last(cp, 5, retired(1, 0));
-    keeping(keeping(last, 1, 35), 0, 20)
+// CM 100 with margin 10, a TM 50 with 20, its client 10 with 25, a CP 20 with 30, a retired TM. The client is deemed 15 and the CP 10: the
+// TM needs 35, which its 50 meets, and the CM 20.
+pub fn mixed() -> Table {
+    let t = opened(opened(family(), 3, 3, 0), 4, 1, 0);
+    let t = placed(retired(t, 4), 0, 100, 10);
+    let t = placed(t, 1, 50, 20);
+    let t = placed(t, 2, 10, 25);
+    let t = placed(t, 3, 20, 30);
+    keeping(keeping(t, 1, 35), 0, 20)
 }
 
 // 255 TMs under the CM.
-pub fn full() -> Book {
-    let tm = words::opened_row(1, 0);
-    let mut b = fresh();
-    b.count = 256;
-    let mut i: usize = 1;
-    while i < 256 {
-        b.rows[i] = tm;
-        i += 1;
+pub fn full() -> Table {
+    let mut sort = [1u8; 256];
+    sort[0] = 0;
+    Table {
+        count: 256,
+        serial: 0,
+        sort,
+        live: [true; 256],
+        tm: [0u16; 256],
+        modes: [false; 256],
+        needs: [0u64; 256],
+        amounts: [0u64; 2560],
     }
-    b
 }

@@ -2,70 +2,71 @@
 use crate::books;
 use crate::print;
 use book::Amount;
-use rows::Book;
+use book::Table;
 use rows::Kinds;
 use rows::Row;
 use rows::words;
 use table::turn;
+use table::turn_back;
 
-fn sum(name: &[u8], b: Book, amount: Amount) {
-    let s = book::amount_sum(turn(b), amount);
-    print::text(name);
-    print::word(b": refusal ", s.refusal as u64);
-    print::word(b" total ", s.total);
-    print::end();
+fn total(t: Table, amount: Amount) {
+    let s = book::amount_sum(t, amount);
+    print::item(s.total);
 }
 
-fn in_hundreds(n: u8) -> Kinds {
+// An account of the old order with a number of its own in each amount; what is received goes by n.
+fn each(sort: u8, n: u8) -> Row {
     let k = n as u64;
-    Kinds {
+    let received = Kinds {
         cash: k * 100,
         deposits: k * 200,
         guarantees: k * 300,
         securities: k * 400,
-    }
+    };
+    let allocated = Kinds {
+        cash: 1,
+        deposits: 2,
+        guarantees: 3,
+        securities: 4,
+    };
+    let r = words::with_received(words::opened_row(sort, 0), received);
+    let r = words::with_allocated(r, allocated);
+    words::with_margin(words::with_pledged(r, 50), 6)
 }
 
-// An account with a number of its own in each amount; what is received goes by n.
-fn each(sort: u8, n: u8) -> Row {
-    let r = words::with_received(words::opened_row(sort, 0), in_hundreds(n));
-    let a = words::with_allocated(
-        r,
-        Kinds {
-            cash: 1,
-            deposits: 2,
-            guarantees: 3,
-            securities: 4,
-        },
-    );
-    words::with_margin(words::with_pledged(a, 50), 6)
+// The CM and a CP whose collateral, 60, meets its margin: the CM needs its own margin, 6. The book of the old order, turned over.
+fn two() -> Table {
+    let mut b = turn_back(book::fresh());
+    b.rows[0] = each(0, 1);
+    b.rows[1] = each(3, 10);
+    b.count = 2;
+    b.needs[0] = 6;
+    turn(b)
 }
 
-// The CM and a CP whose collateral, 60, meets its margin: the CM needs its own margin, 6.
-fn ten() {
-    let cm = books::with_last(books::fresh(), 0, each(0, 1));
-    let b = books::keeping(books::with_last(cm, 1, each(3, 10)), 0, 6);
-    sum(b"received cash", b, Amount::ReceivedCash);
-    sum(b"received deposits", b, Amount::ReceivedDeposits);
-    sum(b"received guarantees", b, Amount::ReceivedGuarantees);
-    sum(b"received securities", b, Amount::ReceivedSecurities);
-    sum(b"allocated cash", b, Amount::AllocatedCash);
-    sum(b"allocated deposits", b, Amount::AllocatedDeposits);
-    sum(b"allocated guarantees", b, Amount::AllocatedGuarantees);
-    sum(b"allocated securities", b, Amount::AllocatedSecurities);
-    sum(b"pledged", b, Amount::Pledged);
-    sum(b"margin", b, Amount::Margin);
+fn ten(t: Table) {
+    print::text(b"evening sums of the ten amounts:");
+    total(t, Amount::ReceivedCash);
+    total(t, Amount::ReceivedDeposits);
+    total(t, Amount::ReceivedGuarantees);
+    total(t, Amount::ReceivedSecurities);
+    total(t, Amount::AllocatedCash);
+    total(t, Amount::AllocatedDeposits);
+    total(t, Amount::AllocatedGuarantees);
+    total(t, Amount::AllocatedSecurities);
+    total(t, Amount::Pledged);
+    total(t, Amount::Margin);
+    print::end();
 }
 
 pub fn all() {
-    let b = books::p4();
-    sum(b"P4, allocated cash", b, Amount::AllocatedCash);
-    sum(b"P4, margin", b, Amount::Margin);
-    sum(b"P4, pledged", b, Amount::Pledged);
-    ten();
-    sum(
-        b"of a book that is not sound, margin",
-        books::uncovered(),
-        Amount::Margin,
+    ten(books::p4());
+    ten(two());
+    let s = book::amount_sum(books::uncovered(), Amount::Margin);
+    print::word(
+        b"margins of a book that is not sound: refusal ",
+        s.refusal as u64,
     );
+    print::word(b" total ", s.total);
+    print::end();
 }

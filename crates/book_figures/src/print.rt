@@ -1,5 +1,4 @@
 // Lines of words and decimal numbers.
-use book::Figures;
 use libc::STDOUT_FILENO;
 
 pub fn text(s: &[u8]) {
@@ -15,7 +14,7 @@ pub fn end() {
     text(b"\n");
 }
 
-fn item(n: u64) {
+pub fn item(n: u64) {
     word(b" ", n);
 }
 
@@ -29,28 +28,4 @@ pub fn list(amounts: &[u64]) {
 
 pub fn bit(t: bool) -> u64 {
     if t { 1 } else { 0 }
-}
-
-fn five(collateral: u64, need: u64, blocked: u64, deemed: u64, free: u64) {
-    word(b" collateral ", collateral);
-    word(b" need ", need);
-    word(b" blocked ", blocked);
-    word(b" deemed ", deemed);
-    word(b" free ", free);
-}
-
-fn mode(on: bool) {
-    if on {
-        text(b" mode on");
-    } else {
-        text(b" mode off");
-    }
-}
-
-pub fn figures(name: &[u8], f: Figures) {
-    text(name);
-    word(b": refusal ", f.refusal as u64);
-    five(f.collateral, f.need, f.blocked, f.deemed, f.free);
-    mode(f.mode);
-    end();
 }

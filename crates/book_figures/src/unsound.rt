@@ -1,242 +1,198 @@
-// Books that break one sentence of 'A sound book' each, beside the nearest sound ones.
+// Books that break one sentence of 'A sound book' each, beside the nearest sound ones. Sorts: 0 the CM, 1 a TM, 2 a client, 3 a CP.
 use crate::books;
-use crate::print;
-use rows::Book;
-use rows::CEILING;
-use rows::Row;
-use rows::words;
-use table::turn;
+use crate::books::MARGIN;
+use crate::books::PLEDGED;
+use crate::books::in_mode;
+use crate::books::opened;
+use crate::books::retired;
+use crate::books::with_amount;
+use crate::print::bit;
+use crate::print::end;
+use crate::print::text;
+use crate::print::word;
+use book::CEILING;
+use book::Table;
 
-fn sound(name: &[u8], b: Book) {
-    print::text(name);
-    print::word(b": sound ", print::bit(book::is_sound(turn(b))));
-    print::end();
+fn verdict(t: Table) {
+    word(b": sound ", bit(book::is_sound(t)));
+    end();
 }
 
-// Annexure 4's book with B's margin 100, and row 4 beyond its accounts.
-fn beyond(name: &[u8], r: Row) {
-    sound(name, books::with(books::p1(), 4, r));
+fn sound(name: &[u8], t: Table) {
+    text(name);
+    verdict(t);
 }
 
-// The same book with account 4.
-fn fifth(name: &[u8], r: Row) {
-    sound(name, books::with_last(books::p1(), 4, r));
-}
-
-fn count(name: &[u8], n: u16) {
-    let mut b = books::full();
-    b.count = n;
-    sound(name, b);
-}
-
-// "The number of accounts is 1 to 256"
-fn counts() {
-    count(b"count 0", 0);
-    count(b"count 1, and rows that are not zero beyond it", 1);
-    count(b"count 256", 256);
-    count(b"count 257", 257);
-    count(b"count 65535", 65535);
-}
-
-fn top(name: &[u8], r: Row) {
-    sound(name, books::with(books::fresh(), 0, r));
+// "The number of accounts is 1 to 256": 255 TMs, and this number of accounts.
+fn count(n: u16) {
+    let mut t = books::full();
+    t.count = n;
+    word(b"count ", n as u64);
+    verdict(t);
 }
 
 // "account 0 is the CM and live"
-fn tops() {
-    top(b"account 0 the CM", words::opened_row(0, 0));
-    top(b"account 0 a TM", words::opened_row(1, 0));
-    top(b"account 0 with a TM word", words::opened_row(0, 1));
-    top(b"account 0 retired", books::retired(0, 0));
+fn tops(t: Table) {
+    sound(b"account 0 the CM", t);
+    sound(b"account 0 a TM", opened(t, 0, 1, 0));
+    sound(b"account 0 with a TM word", opened(t, 0, 0, 1));
+    sound(b"account 0 retired", retired(t, 0));
 }
 
-// "rows beyond the number are all zero"
+// "rows beyond the number are all zero": Annexure 4's book with B's margin 100, and row 4 beyond its accounts.
+fn beyond(sort: u8, tm: u16, live: bool) {
+    let mut t = books::p1();
+    t.sort[4] = sort;
+    t.tm[4] = tm;
+    t.live[4] = live;
+    word(b"row 4 of 4, sort ", sort as u64);
+    word(b", TM word ", tm as u64);
+    word(b", live ", bit(live));
+    verdict(t);
+}
+
+fn beyond_with(k: u8) {
+    word(b"row 4 of 4 with 1 as amount ", k as u64);
+    verdict(with_amount(books::p1(), k, 4, 1));
+}
+
 fn spare() {
-    beyond(b"row 4 of 4 all zero", words::no_row());
-    beyond(b"row 4 of 4 live", words::opened_row(0, 0));
-    beyond(b"row 4 of 4 a TM", books::retired(1, 0));
-    beyond(b"row 4 of 4 with a TM word", books::retired(0, 1));
+    beyond(0, 0, false);
+    beyond(0, 0, true);
+    beyond(1, 0, false);
+    beyond(0, 1, false);
+    beyond_with(0);
+    beyond_with(3);
+    beyond_with(4);
+    beyond_with(7);
+    beyond_with(PLEDGED);
+    beyond_with(MARGIN);
 }
 
-fn spare_amounts() {
-    let zero = words::no_row();
-    beyond(
-        b"row 4 of 4 with received 1",
-        books::with_kinds(zero, 3, 1, 0),
-    );
-    beyond(
-        b"row 4 of 4 with allocated 1",
-        books::with_kinds(zero, 0, 0, 1),
-    );
-    beyond(b"row 4 of 4 with pledged 1", words::with_pledged(zero, 1));
-    beyond(b"row 4 of 4 with margin 1", words::with_margin(zero, 1));
+// "Every other account is a TM, a CP, or a client whose TM is a lower-numbered TM row.": the same book with account 4.
+fn fifth(sort: u8, tm: u16) {
+    word(b"account 4 of sort ", sort as u64);
+    word(b", TM word ", tm as u64);
+    verdict(opened(books::p1(), 4, sort, tm));
 }
 
-fn of_sort(name: &[u8], sort: u8, tm: u16) {
-    fifth(name, words::opened_row(sort, tm));
-}
-
-// "Every other account is a TM, a CP, or a client"
 fn sorts() {
-    of_sort(b"account 4 a TM", 1, 0);
-    of_sort(b"account 4 a CP", 3, 0);
-    of_sort(b"account 4 of sort 4", 4, 0);
-    of_sort(b"account 4 of sort 255", 255, 0);
-    of_sort(b"account 4 a second CM", 0, 0);
-    of_sort(b"account 4 a TM with a TM word", 1, 1);
-    of_sort(b"account 4 a CP with a TM word", 3, 1);
+    fifth(1, 0);
+    fifth(3, 0);
+    fifth(4, 0);
+    fifth(255, 0);
+    fifth(0, 0);
+    fifth(1, 1);
+    fifth(3, 1);
+    fifth(2, 1);
+    fifth(2, 0);
+    fifth(2, 2);
+    fifth(2, 4);
+    fifth(2, 255);
+    fifth(2, 65535);
 }
 
-// "a client whose TM is a lower-numbered TM row"
-fn clients() {
-    of_sort(b"account 4 a client of 1, a TM", 2, 1);
-    of_sort(b"account 4 a client of 0, the CM", 2, 0);
-    of_sort(b"account 4 a client of 2, a client", 2, 2);
-    of_sort(b"account 4 a client of itself", 2, 4);
-    of_sort(b"account 4 a client of 255", 2, 255);
-    of_sort(b"account 4 a client of 65535", 2, 65535);
-}
-
-fn family(name: &[u8], tm: Row, client: Row) {
+// "a lower-numbered TM row", "A live client's TM is live."
+fn families(t: Table) {
+    sound(b"a client of a live TM", t);
+    sound(b"a client of a CP", opened(opened(t, 1, 3, 0), 2, 2, 1));
     sound(
-        name,
-        books::with_last(books::with_last(books::fresh(), 1, tm), 2, client),
+        b"a client before its TM",
+        opened(opened(t, 1, 2, 2), 2, 1, 0),
     );
+    let gone = retired(t, 1);
+    sound(b"a live client of a retired TM", gone);
+    sound(b"a retired client of a retired TM", retired(gone, 2));
 }
 
-fn families() {
-    let tm = words::opened_row(1, 0);
-    family(b"a client of a live TM", tm, words::opened_row(2, 1));
-    family(
-        b"a client of a CP",
-        words::opened_row(3, 0),
-        words::opened_row(2, 1),
-    );
-    family(b"a client before its TM", words::opened_row(2, 2), tm);
+// A retired CP with amount k.
+fn gone_with(k: u8, x: u64) -> Table {
+    let t = retired(opened(books::p1(), 4, 3, 0), 4);
+    word(b"retired with ", x);
+    word(b" as amount ", k as u64);
+    with_amount(t, k, 4, x)
 }
 
-// "A live client's TM is live."
-fn retired_families() {
-    let tm = books::retired(1, 0);
-    family(
-        b"a live client of a retired TM",
-        tm,
-        words::opened_row(2, 1),
-    );
-    family(
-        b"a retired client of a retired TM",
-        tm,
-        books::retired(2, 1),
-    );
-    family(
-        b"a retired client of a live TM",
-        words::opened_row(1, 0),
-        books::retired(2, 1),
-    );
-}
-
-// "A retired account's amounts are all zero."
+// "A retired account's amounts are all zero." Of what is allocated as much is received; a margin that nothing meets stands in the CM's need.
 fn retirements() {
-    let r = books::retired(3, 0);
-    fifth(b"retired", r);
-    fifth(b"retired with received 1", books::with_kinds(r, 1, 1, 0));
-    fifth(
-        b"retired with received 1 and allocated 1",
-        books::with_kinds(r, 2, 1, 1),
-    );
-    fifth(b"retired with pledged 1", words::with_pledged(r, 1));
-    // a CP's margin that nothing meets: the need kept for the CM has it
-    let b = books::with_last(books::p1(), 4, words::with_margin(r, 1));
-    sound(b"retired with margin 1", books::keeping(b, 0, 1));
+    verdict(gone_with(0, 0));
+    verdict(gone_with(0, 1));
+    verdict(gone_with(3, 1));
+    verdict(with_amount(gone_with(4, 1), 0, 4, 1));
+    verdict(gone_with(PLEDGED, 1));
+    verdict(books::keeping(gone_with(MARGIN, 1), 0, 1));
 }
 
-fn kind(name: &[u8], kind: u8, received: u64, allocated: u64) {
-    fifth(
-        name,
-        books::with_kinds(words::opened_row(3, 0), kind, received, allocated),
-    );
+// "Received (each kind) .. at most the ceiling.", "Allocated is at most received in each kind": a CP with this of a kind.
+fn kind(k: u8, received: u64, allocated: u64) {
+    if k < 4 {
+        word(b"kind ", k as u64);
+        word(b" received ", received);
+        word(b" allocated ", allocated);
+        let t = with_amount(opened(books::p1(), 4, 3, 0), k, 4, received);
+        verdict(with_amount(t, k + 4, 4, allocated));
+    }
 }
 
-// "Received (each kind) .. at most the ceiling."
-fn received() {
-    kind(b"cash at the ceiling", 0, CEILING, CEILING);
-    kind(b"cash past the ceiling", 0, CEILING + 1, 0);
-    kind(b"deposits past the ceiling", 1, CEILING + 1, 0);
-    kind(b"guarantees past the ceiling", 2, CEILING + 1, 0);
-    kind(b"securities past the ceiling", 3, CEILING + 1, 0);
-    kind(b"securities at the largest word", 3, u64::MAX, u64::MAX);
+fn kinds() {
+    kind(0, CEILING, CEILING);
+    kind(0, CEILING + 1, 0);
+    kind(1, CEILING + 1, 0);
+    kind(2, CEILING + 1, 0);
+    kind(3, CEILING + 1, 0);
+    kind(3, u64::MAX, u64::MAX);
+    kind(0, 5, 5);
+    kind(0, 5, 6);
+    kind(1, 5, 6);
+    kind(2, 5, 6);
+    kind(3, 5, 6);
 }
 
-// "Allocated is at most received in each kind"
-fn allocated() {
-    kind(b"all cash allocated", 0, 5, 5);
-    kind(b"allocated cash past received", 0, 5, 6);
-    kind(b"allocated deposits past received", 1, 5, 6);
-    kind(b"allocated guarantees past received", 2, 5, 6);
-    kind(b"allocated securities past received", 3, 5, 6);
-}
-
-// A CP whose collateral meets its margin.
-fn pledge(name: &[u8], pledged: u64, margin: u64) {
-    let r = books::with_kinds(words::opened_row(3, 0), 0, CEILING, CEILING);
-    fifth(
-        name,
-        words::with_margin(words::with_pledged(r, pledged), margin),
-    );
-}
-
-// "pledged and margin are at most the ceiling"
-fn pledges() {
-    pledge(b"pledged and margin at the ceiling", CEILING, CEILING);
-    pledge(b"pledged past the ceiling", CEILING + 1, 0);
-    pledge(b"margin past the ceiling", CEILING, CEILING + 1);
-}
-
-// "The CM's need, defined below, is at most the CM's collateral."
-fn cover() {
-    sound(
-        b"need equal to collateral",
-        books::annexure(60_000, 150_000, 150_000, 100_000),
-    );
-    sound(b"need one paisa past collateral", books::uncovered());
-}
-
-// Annexure 4's book with B's margin 100 and account 4, which is in the mode.
-fn fifth_in_mode(name: &[u8], r: Row) {
-    let b = books::with_last(books::p1(), 4, r);
-    sound(name, books::in_mode(b, 4));
+// "pledged and margin are at most the ceiling": a CP whose cash, the ceiling, and what it pledged meet its margin.
+fn pledge(pledged: u64, margin: u64) {
+    let t = opened(books::p1(), 4, 3, 0);
+    let t = with_amount(with_amount(t, 0, 4, CEILING), 4, 4, CEILING);
+    let t = with_amount(t, PLEDGED, 4, pledged);
+    word(b"pledged ", pledged);
+    word(b" margin ", margin);
+    verdict(with_amount(t, MARGIN, 4, margin));
 }
 
 // "In a sound book only a live TM or the CM can be in the mode."
-fn modes() {
-    let b = books::p1();
-    sound(b"the CM in the mode", books::in_mode(b, 0));
-    sound(b"a live TM in the mode", books::in_mode(b, 1));
-    sound(
-        b"the CM and a live TM in the mode",
-        books::in_mode(books::in_mode(b, 0), 1),
-    );
-    sound(b"a client in the mode", books::in_mode(b, 3));
-    sound(b"row 4 of 4 in the mode", books::in_mode(b, 4));
-    sound(b"row 255 of 4 in the mode", books::in_mode(b, 255));
-    fifth_in_mode(b"a TM without amounts in the mode", words::opened_row(1, 0));
-    fifth_in_mode(b"a retired TM in the mode", books::retired(1, 0));
-    fifth_in_mode(b"a CP in the mode", words::opened_row(3, 0));
+fn mode(t: Table, i: u8) {
+    word(b"in the mode, account ", i as u64);
+    verdict(in_mode(t, i));
+}
+
+fn modes(t: Table) {
+    mode(t, 0);
+    mode(t, 1);
+    mode(t, 3);
+    mode(t, 4);
+    mode(t, 255);
+    let tm = in_mode(opened(t, 4, 1, 0), 4);
+    sound(b"a TM without amounts in the mode", tm);
+    sound(b"a retired TM in the mode", retired(tm, 4));
+    sound(b"a CP in the mode", in_mode(opened(t, 4, 3, 0), 4));
 }
 
 pub fn all() {
-    counts();
-    tops();
+    count(0);
+    count(1);
+    count(256);
+    count(257);
+    count(65535);
+    tops(book::fresh());
     spare();
-    spare_amounts();
     sorts();
-    clients();
-    families();
-    retired_families();
+    families(books::family());
     retirements();
-    received();
-    allocated();
-    pledges();
-    cover();
-    modes();
+    kinds();
+    pledge(CEILING, CEILING);
+    pledge(CEILING + 1, 0);
+    pledge(CEILING, CEILING + 1);
+    // "The CM's need, defined below, is at most the CM's collateral."
+    sound(b"need equal to collateral", books::p5());
+    sound(b"need one paisa past collateral", books::uncovered());
+    modes(books::p1());
 }

@@ -51,10 +51,10 @@ module _ (b : Book) (losses room : List ℕ) where
             first-later 1 _ _ (ap not s) ∙ first-later 15 _ _ (ap not n) ∙ first-later 15 _ _ (ap not w) ∙ first-later 16 _ _ (ap not e) ∙ none-left
 
   -- the answer and the room go by the refusal
-  pub settled : (n : ℕ) {x : Closed} {room′ : List ℕ} → closeOutRefusal b losses room ≡ n → x ≡ unlessRefused n (record { refusal = 0; total = total (view b) (lossAt losses) }) noTotal
+  pub answer-by-refusal : (n : ℕ) {x : Closed} {room′ : List ℕ} → closeOutRefusal b losses room ≡ n → x ≡ unlessRefused n (record { refusal = 0; total = total (view b) (lossAt losses) }) noTotal
       → room′ ≡ unlessRefused n (rowsTo (four (view b) (lossAt losses)) (b .count)) (λ m. room) → (x ≡ closedOf b losses room) × (room′ ≡ roomOf b losses room)
   unfolding closedOf roomOf
-  settled n e p q = rw e (p, q)
+  answer-by-refusal n e p q = rw e (p, q)
 
 -- no loss passes the ceiling
 pub losses-small : (b : Book) (losses : List ℕ) → goodLosses b losses ≡ true → (i : ℕ) → i < b .count → lossAt losses i ≤ ceiling

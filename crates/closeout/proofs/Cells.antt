@@ -18,10 +18,10 @@ module _ (f : ℕ → List ℕ) (of-four : (i : ℕ) → length (f i) ≡ 4) whe
   length-rows zero = refl
   length-rows (suc n) = omega (arith, length-append (rowsTo f n) (f n), length-rows n, of-four n)
 
-  pub cell : (n i k : ℕ) → i < n → k < 4 → getD (rowsTo f n) (4 * i + k) 0 ≡ getD (f i) k 0
+  pub cell-of-rows : (n i k : ℕ) → i < n → k < 4 → getD (rowsTo f n) (4 * i + k) 0 ≡ getD (f i) k 0
   unfolding rowsTo
-  cell zero i k m h = absurd (omega arith)
-  cell (suc n) i k m h = by (ℕ-discrete i n) (λ q. cell n i k q h)
+  cell-of-rows zero i k m h = absurd (omega arith)
+  cell-of-rows (suc n) i k m h = by (ℕ-discrete i n) (λ q. cell-of-rows n i k q h)
     where
       by : Dec (i ≡ n) → (i < n → getD (rowsTo f n) (4 * i + k) 0 ≡ getD (f i) k 0)
           → getD (rowsTo f n ++ f n) (4 * i + k) 0 ≡ getD (f i) k 0
@@ -36,19 +36,19 @@ module _ (v : View) (l : ℕ → ℕ) where
 
   pub own-cell : (n i : ℕ) → i < n → getD (rowsTo (four v l) n) (4 * i) 0 ≡ ownColumn v l i
   unfolding four
-  own-cell n i m = ap (λ (k : ℕ). getD (rowsTo (four v l) n) k 0) (omega arith) ∙ cell (four v l) four-long n i 0 m (omega arith)
+  own-cell n i m = ap (λ (k : ℕ). getD (rowsTo (four v l) n) k 0) (omega arith) ∙ cell-of-rows (four v l) four-long n i 0 m (omega arith)
 
   pub fromTM-cell : (n i : ℕ) → i < n → getD (rowsTo (four v l) n) (4 * i + 1) 0 ≡ tmColumn v l i
   unfolding four
-  fromTM-cell n i m = cell (four v l) four-long n i 1 m (omega arith)
+  fromTM-cell n i m = cell-of-rows (four v l) four-long n i 1 m (omega arith)
 
   pub fromCM-cell : (n i : ℕ) → i < n → getD (rowsTo (four v l) n) (4 * i + 2) 0 ≡ cmColumn v l i
   unfolding four
-  fromCM-cell n i m = cell (four v l) four-long n i 2 m (omega arith)
+  fromCM-cell n i m = cell-of-rows (four v l) four-long n i 2 m (omega arith)
 
   pub uncovered-cell : (n i : ℕ) → i < n → getD (rowsTo (four v l) n) (4 * i + 3) 0 ≡ uncovered v l i
   unfolding four
-  uncovered-cell n i m = cell (four v l) four-long n i 3 m (omega arith)
+  uncovered-cell n i m = cell-of-rows (four v l) four-long n i 3 m (omega arith)
 
   -- "The total left uncovered is given beside the list.": it is the sum of the list's fourth column
   pub total-cells : total v l ≡ sum (v .count) (λ i. getD (rowsTo (four v l) (v .count)) (4 * i + 3) 0)

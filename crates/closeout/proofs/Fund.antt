@@ -10,8 +10,8 @@ use Rattle.rows.specs.Facts.{Shaped, Covered}
 use Rattle.rows.proofs.BySort.{members-le}
 use Rattle.closeout.specs.Round.{own, short, leftTM, askedOfCM, unpaid}
 use Rattle.closeout.specs.Bound.{beyond}
-use Rattle.closeout.proofs.Groups.{group, regroup}
-use Rattle.closeout.proofs.Payments.{over, asked-other, asked-client}
+use Rattle.closeout.proofs.Groups.{group, sum-by-groups}
+use Rattle.closeout.proofs.Payments.{beyond-min, asked-other, asked-client}
 
 -- what is left in the hand of a payer with b
 in-hand : (a b : ℕ) → b - min a b ≡ b - a
@@ -20,7 +20,7 @@ in-hand a b = omega arith
 -- a TM's loss a, collateral c and margin m; its clients' losses beyond their collateral s, beyond their margins b, and what
 -- they are deemed d
 pool : (a c m s b d : ℕ) → s ≤ b + d → (a - c) + (s - (c - min a c)) ≤ (a - m + b) + ((m + d) - min (m + d) c)
-pool a c m s b d h = rw (in-hand a c, over (m + d) c) (omega arith)
+pool a c m s b d h = rw (in-hand a c, beyond-min (m + d) c) (omega arith)
 
 module _ (v : View) (l : ℕ → ℕ) where
   -- what t's clients ask of the CM is what t's collateral doesn't reach
@@ -87,8 +87,8 @@ module _ (v : View) (s : Shaped v) (l : ℕ → ℕ) where
       omega (
         arith,
         asked-other v l 0 (rw (s .top)),
-        regroup v s (askedOfCM v l),
-        regroup v s (beyond v l),
+        sum-by-groups v s (askedOfCM v l),
+        sum-by-groups v s (beyond v l),
         sum-le (v .count) (members v (group v (askedOfCM v l)) (askedOfCM v l))
             (λ i. members v (group v (beyond v l)) (beyond v l) i + members v (deemedTM v) (ownDeemed v) i) (λ i m. members-asked v l i),
         sum-add (v .count) (members v (group v (beyond v l)) (beyond v l)) (members v (deemedTM v) (ownDeemed v)),

@@ -58,8 +58,8 @@ module _ (v : View) (s : Shaped v) where
       ∙ sum-eq (v .count) (λ i. sum (v .count) (λ t. only (isTM v t) (only (isClientOf v t i) (f i))))
       (λ i. only (isClient v i) (f i)) (once f)
 
-  pub regroup : (f : ℕ → ℕ) → sum (v .count) f ≡ f 0 + sum (v .count) (members v (group v f) f)
-  regroup f =
+  pub sum-by-groups : (f : ℕ → ℕ) → sum (v .count) f ≡ f 0 + sum (v .count) (members v (group v f) f)
+  sum-by-groups f =
       omega (
         arith,
         sum-eq (v .count) f (λ i. only (isCM v i) (f i) + members v f f i + only (isClient v i) (f i)) (by-sort f),

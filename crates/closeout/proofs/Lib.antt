@@ -8,7 +8,7 @@ pub mod TwoRounds
 pub mod Cells
 pub mod Steps
 pub mod Rooms
-pub mod KeptUnders
+pub mod DeemedUnder
 pub mod Turns
 pub mod Pass
 pub mod Answers

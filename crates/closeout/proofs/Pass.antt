@@ -13,7 +13,7 @@ use Rattle.rows.specs.declared.Account.{Account}
 use Rattle.rows.specs.declared.Book.{Book}
 use Rattle.rows.specs.View.{View, freeOf, free, need}
 use Rattle.rows.specs.Rows.{ceiling, rowAt, collateral, view}
-use Rattle.rows.specs.Under.{accountAt}
+use Rattle.rows.specs.DeemedUnder.{accountAt}
 use Rattle.book.specs.Facts.{Sound}
 use Rattle.closeout.specs.declared.pays.Paid.{Paid}
 use Rattle.closeout.specs.declared.pays.Both.{Both}
@@ -76,11 +76,11 @@ module _ (v : View) (l : ℕ → ℕ) (top : v .sort 0 ≡ 0) where
       ∙ ap (λ x. free v 0 - min x (free v 0)) left-second
 
 -- the CM's own parts are paid
-pub start : (b : Book) (losses room left more : List ℕ) (under : ℕ) {x : Purses} → Sound b → length left ≡ 256 → length more ≡ 256
+pub pass-start : (b : Book) (losses room left more : List ℕ) (under : ℕ) {x : Purses} → Sound b → length left ≡ 256 → length more ≡ 256
     → need (view b) 0 ≡ rowAt b 0 .margin + under → x ≡ afterOwn (accountAt (view b) 0) (lossAt losses 0) under
     → Passed b losses room room left more (x .left) (x .free) 0 0
 unfolding rowsTo sum afterOwn
-start b losses room left more under h n n₂ is-need e = record {
+pass-start b losses room left more under h n n₂ is-need e = record {
   rows = refl;
   wide = refl;
   size = n;
@@ -93,10 +93,10 @@ start b losses room left more under h n n₂ is-need e = record {
 }
 
 -- all accounts passed
-pub finish : {b : Book} {losses room₀ room left more : List ℕ} {cm cm₂ open-sum i : ℕ} → Passed b losses room₀ room left more cm cm₂ open-sum i
+pub pass-finish : {b : Book} {losses room₀ room left more : List ℕ} {cm cm₂ open-sum i : ℕ} → Passed b losses room₀ room left more cm cm₂ open-sum i
     → i ≡ b .count → length room₀ ≡ 4 * b .count
     → (room ≡ rowsTo (four (view b) (lossAt losses)) (b .count)) × (open-sum ≡ total (view b) (lossAt losses))
-finish {b} {losses} {room₀} {room} at e n =
+pass-finish {b} {losses} {room₀} {room} at e n =
     let f : ℕ → List ℕ = four (view b) (lossAt losses) in (
       rows-all f (four-long (view b) (lossAt losses)) room₀ room (b .count) n (at .rows ∙ ap (λ (k : ℕ). rowsTo f k ++ drop (4 * k) room₀) e),
       at .open-is ∙ ap (λ (k : ℕ). sum k (uncovered (view b) (lossAt losses))) e,
@@ -162,13 +162,13 @@ module _ {b : Book} {losses room₀ room left more : List ℕ} {cm cm₂ open-su
       ∙ ap (roundsBy (accountAt (view b) i) (lossAt losses i) under (getD left t 0) _ (getD more t 0)) (at .cm-left₂)
       ∙ row-pays b (lossAt losses) i under (getD left t 0) (getD more t 0) n (λ c. at .tms t (h .shaped .tms i m c .0)) (λ c. at .tms₂ t (h .shaped .tms i m c .0))
 
-  pub turn : (under : ℕ) {p : Both} {room′ : List ℕ} → need (view b) i ≡ rowAt b i .margin + under
+  pub pass-turn : (under : ℕ) {p : Both} {room′ : List ℕ} → need (view b) i ≡ rowAt b i .margin + under
       → p ≡ roundsBy (accountAt (view b) i) (lossAt losses i) under (getD left t 0) cm (getD more t 0) cm₂
       → room′ ≡ putAt room (4 * i) (fourOf p) → length room′ ≡ length room
-      → Passed b losses room₀ room′ (set (set left t (getD left t 0 - p .first .tm)) i (p .first .kept))
-      (set (set more t (getD more t 0 - p .second .tm)) i (p .second .kept)) (cm - p .first .cm) (cm₂ - p .second .cm) (open-sum + p .second .unpaid) (i + 1)
+      → Passed b losses room₀ room′ (set (set left t (getD left t 0 - p .first .tm)) i (p .first .left))
+      (set (set more t (getD more t 0 - p .second .tm)) i (p .second .left)) (cm - p .first .cm) (cm₂ - p .second .cm) (open-sum + p .second .unpaid) (i + 1)
   unfolding paidOf
-  turn under {p} {room′} n e r same =
+  pass-turn under {p} {room′} n e r same =
       let v : View = view b in
       let l : ℕ → ℕ = lossAt losses in
       let q : p ≡ bothOf (ownPayment (view b) (lossAt losses) i) one two = pays-now under n e in
@@ -182,9 +182,9 @@ module _ {b : Book} {losses room₀ room left more : List ℕ} {cm cm₂ open-su
         wide = same ∙ at .wide;
         size = simp length-set (at .size);
         size₂ = simp length-set (at .size₂);
-        tms = λ k d. ap (λ x. getD (set (set left t (getD left t 0 - x .first .tm)) i (x .first .kept)) k 0) q
+        tms = λ k d. ap (λ x. getD (set (set left t (getD left t 0 - x .first .tm)) i (x .first .left)) k 0) q
             ∙ left-turn (purses₁ v) (same-shape v (v .collateral) (h .shaped)) (part₁ v l) i m left (omega (arith, at .size)) (at .tms) k d;
-        tms₂ = λ k d. ap (λ x. getD (set (set more t (getD more t 0 - x .second .tm)) i (x .second .kept)) k 0) q
+        tms₂ = λ k d. ap (λ x. getD (set (set more t (getD more t 0 - x .second .tm)) i (x .second .left)) k 0) q
             ∙ left-turn (purses₂ v) (same-shape v (free v) (h .shaped)) (part₂ v l) i m more (omega (arith, at .size₂)) (at .tms₂) k d;
         cm-left = ap (λ x. cm - x .first .cm) q
             ∙ ap (λ (c : ℕ). c - fromCM (purses₁ v) (part₁ v l) i) (at .cm-left)

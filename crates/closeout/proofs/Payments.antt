@@ -9,8 +9,8 @@ use Rattle.rows.proofs.BySort.{client-sort, client-tm}
 use Rattle.closeout.specs.Round.{own, short, leftTM, fromTM, askedOfCM, leftCM, fromCM, unpaid}
 
 -- what a payer with b in hand leaves of a
-pub over : (a b : ℕ) → a - min a b ≡ a - b
-over a b = omega arith
+pub beyond-min : (a b : ℕ) → a - min a b ≡ a - b
+beyond-min a b = omega arith
 
 -- own, the TM's (t), the CM's (d in hand) and the rest of a loss a with c in hand
 paid : (a c t d : ℕ) → t ≤ a - min a c → min a c + t + min (a - min a c - t) d + (a - min a c - t - d) ≡ a
@@ -36,9 +36,9 @@ module _ (v : View) (l : ℕ → ℕ) where
 
   pub asked-client : (t i : ℕ) → isClientOf v t i ≡ true → askedOfCM v l i ≡ short v l i - leftTM v l t i
   unfolding askedOfCM fromTM
-  asked-client t i e = rw (← client-tm v t i e) (rw (client-sort v t i e) (over (short v l i) (leftTM v l (v .tm i) i)))
+  asked-client t i e = rw (← client-tm v t i e) (rw (client-sort v t i e) (beyond-min (short v l i) (leftTM v l (v .tm i) i)))
 
   -- "They add up to the loss."
-  pub adds : (i : ℕ) → own v l i + fromTM v l i + fromCM v l i + unpaid v l i ≡ l i
+  pub amounts-add-up : (i : ℕ) → own v l i + fromTM v l i + fromCM v l i + unpaid v l i ≡ l i
   unfolding askedOfCM fromCM unpaid
-  adds i = paid (l i) (v .collateral i) (fromTM v l i) (leftCM v l i) (fromTM-le i)
+  amounts-add-up i = paid (l i) (v .collateral i) (fromTM v l i) (leftCM v l i) (fromTM-le i)

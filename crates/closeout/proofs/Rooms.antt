@@ -1,4 +1,4 @@
--- Rows of four put into a room, one after the other.
+-- Rows of four put into a room, one after the other: the room after the pass is `rowsTo`.
 use mathlib.Core.Path.{_≡_, sym, _∙_, ap}
 use mathlib.Core.List.{List, [], _∷_, _++_, append-nil}
 use Prim.Native.Nat.{ℕ, suc, _+_, _*_, _≤_}

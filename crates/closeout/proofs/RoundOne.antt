@@ -14,7 +14,7 @@ use Rattle.rows.specs.Facts.{Shaped, Covered}
 use Rattle.rows.proofs.BySort.{client-sort, client-tm, need-CM, need-TM}
 use Rattle.closeout.specs.Round.{own, short, leftTM, fromTM, askedOfCM, leftCM, fromCM, unpaid}
 use Rattle.closeout.specs.Bound.{beyond}
-use Rattle.closeout.proofs.Payments.{adds, fromTM-client, fromTM-other}
+use Rattle.closeout.proofs.Payments.{amounts-add-up, fromTM-client, fromTM-other}
 use Rattle.closeout.proofs.Limits.{TM-pays, CM-pays}
 use Rattle.closeout.proofs.Fund.{asked-le, fund-within}
 use Rattle.closeout.specs.Columns.{isClientOrCP, ownPayment, withPurses, purses₁, part₁, paid₁}
@@ -137,7 +137,7 @@ module _ (v : View) (s : Shaped v) (l : ℕ → ℕ) where
   -- so it pays all that it is asked
   pub pays-all : Covered v → (i : ℕ) → i < v .count → paid₁ v l i ≡ part₁ v l i
   unfolding paid₁
-  pays-all c i m = omega (arith, adds (purses₁ v) (part₁ v l) i, nothing-open c i m)
+  pays-all c i m = omega (arith, amounts-add-up (purses₁ v) (part₁ v l) i, nothing-open c i m)
 
   -- a TM pays no more than is blocked of its collateral
   pub TM-blocked : (t : ℕ) → v .sort t ≡ 1

@@ -14,7 +14,7 @@ use Rattle.rows.specs.declared.Account.{Account}
 use Rattle.rows.specs.declared.Book.{Book}
 use Rattle.rows.specs.View.{View, isClient, freeOf, need}
 use Rattle.rows.specs.Facts.{Shaped}
-use Rattle.rows.specs.Under.{accountAt}
+use Rattle.rows.specs.DeemedUnder.{accountAt}
 use Rattle.rows.specs.Rows.{rowAt, collateral, view}
 use Rattle.closeout.specs.Round.{own, short, leftTM, fromTM, askedOfCM, leftCM, fromCM, unpaid}
 use Rattle.closeout.specs.Columns.{ownPayment, purses₁, part₁, paid₁, purses₂, part₂, ownColumn, tmColumn, cmColumn, uncovered, four}
@@ -22,17 +22,17 @@ use Rattle.closeout.specs.declared.pays.Paid.{Paid}
 use Rattle.closeout.specs.declared.pays.Both.{Both}
 use Rattle.closeout.specs.declared.pays.Purses.{Purses}
 use Rattle.closeout.specs.Inner.{paidOf, tmBy, askedBy, paidBy, clientOrCPBy, ownPaymentBy, part₁By, purseBy, freeBy, part₂By, bothOf, roundsBy, afterOwn, fourOf}
-use Rattle.closeout.proofs.Payments.{over}
+use Rattle.closeout.proofs.Payments.{beyond-min}
 use Rattle.closeout.proofs.TwoRounds.{the-rest}
 use Rattle.closeout.proofs.Steps.{not-named, leftTM-other, leftTM-named, leftTM-own}
 
 -- what is worked out one after the other is what an account pays in a round
 pub by-steps : (sort purse ask tm cm : ℕ) {own most from-tm from-cm : ℕ} → own ≡ min ask purse → most ≡ min (ask - own) tm
     → from-tm ≡ only (eqb sort 2) most → from-cm ≡ min (ask - own - from-tm) cm
-    → record { own = own; tm = from-tm; cm = from-cm; unpaid = ask - own - from-tm - from-cm; kept = purse - own } ≡ paidBy sort purse ask tm cm
+    → record { own = own; tm = from-tm; cm = from-cm; unpaid = ask - own - from-tm - from-cm; left = purse - own } ≡ paidBy sort purse ask tm cm
 unfolding paidBy
 by-steps sort purse ask tm cm {own} {most} {from-tm} {from-cm} e₂ e₃ e₄ e₅ =
-    let rest = over (ask - own - from-tm) cm in
+    let rest = beyond-min (ask - own - from-tm) cm in
     cc
 
 -- a round's amounts add up to what it is asked for
@@ -125,7 +125,7 @@ module _ (v : View) (l : ℕ → ℕ) (i tm : ℕ) (has : v .sort i ≡ 2 → tm
     tm = tm-paid j;
     cm = min (cm-asked j) (leftCM v l i);
     unpaid = cm-asked j - leftCM v l i;
-    kept = v .collateral i - own v l i;
+    left = v .collateral i - own v l i;
   }
 
 -- so a row's two rounds are its account's

@@ -10,7 +10,7 @@ use Rattle.rows.specs.View.{View, isClient, isClientOf, ofClients, need, free, 
 use Rattle.rows.specs.Facts.{Shaped, Covered}
 use Rattle.closeout.specs.Round.{own, fromTM, fromCM, unpaid}
 use Rattle.closeout.specs.Bound.{beyond}
-use Rattle.closeout.proofs.Payments.{adds, fromTM-other}
+use Rattle.closeout.proofs.Payments.{amounts-add-up, fromTM-other}
 use Rattle.closeout.proofs.Limits.{TM-pays, CM-pays}
 use Rattle.closeout.proofs.ZeroColumns.{CM-third-is-0}
 use Rattle.closeout.specs.Columns.{isClientOrCP, ownPayment, withPurses, purses₁, part₁, paid₁, purses₂, part₂, ownColumn, tmColumn, cmColumn, uncovered}
@@ -36,11 +36,11 @@ module _ (v : View) (l : ℕ → ℕ) where
 
   paid-le : (i : ℕ) → paid₁ v l i ≤ part₁ v l i
   unfolding paid₁
-  paid-le i = omega (arith, adds (purses₁ v) (part₁ v l) i)
+  paid-le i = omega (arith, amounts-add-up (purses₁ v) (part₁ v l) i)
 
   all-paid : (i : ℕ) → ownColumn v l i + tmColumn v l i + cmColumn v l i + unpaid (purses₂ v) (part₂ v l) i ≡ l i
   unfolding ownColumn tmColumn cmColumn paid₁ part₂
-  all-paid i = omega (arith, own-payment-le i, adds (purses₁ v) (part₁ v l) i, adds (purses₂ v) (part₂ v l) i)
+  all-paid i = omega (arith, own-payment-le i, amounts-add-up (purses₁ v) (part₁ v l) i, amounts-add-up (purses₂ v) (part₂ v l) i)
 
   -- the rest is what round two leaves unpaid
   pub the-rest : (i : ℕ) → uncovered v l i ≡ unpaid (purses₂ v) (part₂ v l) i
@@ -102,7 +102,7 @@ module _ (v : View) (s : Shaped v) (l : ℕ → ℕ) where
   -- "each account's uncovered part is at most its own loss beyond its own margin"
   pub each-own : Covered v → (i : ℕ) → i < v .count → uncovered v l i ≤ beyond v l i
   unfolding part₂
-  each-own c i m = omega (arith, the-rest v l i, adds (purses₂ v) (part₂ v l) i, pays-all v s l c i m, own-payment-le v l i)
+  each-own c i m = omega (arith, the-rest v l i, amounts-add-up (purses₂ v) (part₂ v l) i, pays-all v s l c i m, own-payment-le v l i)
 
   -- demand 3 as it was
   pub in-all : Covered v → sum (v .count) (uncovered v l) ≤ sum (v .count) (beyond v l)

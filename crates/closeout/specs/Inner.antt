@@ -24,7 +24,7 @@ paidOf v l i = record {
   tm = fromTM v l i;
   cm = fromCM v l i;
   unpaid = unpaid v l i;
-  kept = v .collateral i - own v l i;
+  left = v .collateral i - own v l i;
 }
 
 -- The same from its sort, its purse and what it is asked for, where its TM's purse has tm left, and the CM's has cm.
@@ -46,7 +46,7 @@ paidBy sort purse ask tm cm = record {
   tm = tmBy sort purse ask tm;
   cm = min (askedBy sort purse ask tm) cm;
   unpaid = askedBy sort purse ask tm - cm;
-  kept = purse - min ask purse;
+  left = purse - min ask purse;
 }
 
 -- what an account with so much deemed under it has for the rounds: own payment, what round one is asked for, and its purse in each

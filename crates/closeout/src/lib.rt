@@ -9,8 +9,8 @@ ghost use Rattle.table.specs.Words.{marksFrom, bookFrom, turnedBack};
 ghost use Rattle.closeout.specs.Closing.{noTotal, closedOf, roomOf};
 ghost use Rattle.closeout.specs.Inner.{goodIn};
 use book::sound::table_sound;
-use rows::CEILING;
-use table::Table;
+pub use rows::CEILING;
+pub use table::Table;
 
 mod pays;
 

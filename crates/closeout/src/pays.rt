@@ -10,8 +10,8 @@ ghost use Rattle.closeout.specs.Columns.{four, rowsTo, total};
 ghost use Rattle.closeout.specs.Closing.{lossAt};
 ghost use Rattle.closeout.specs.Inner.{paidBy, roundsBy, afterOwn, fourOf, putAt, Checked};
 use rows::Row;
-use rows::kept::free_with;
-use rows::kept::less;
+use rows::deemed::free_with;
+use rows::deemed::less;
 use rows::needs::account_of;
 use rows::needs::only_if;
 use rows::needs::zeros;
@@ -23,7 +23,7 @@ pub(crate) struct Paid {
     tm: u64,
     cm: u64,
     unpaid: u64,
-    kept: u64,
+    left: u64,
 }
 
 // Both rounds of one account, and its first three amounts; the fourth is what round two leaves.
@@ -61,7 +61,7 @@ fn pay(sort: u8, purse: u64, ask: u64, tm: u64, cm: u64) -> Paid
         tm: from_tm,
         cm: from_cm,
         unpaid: asked - from_cm,
-        kept: purse - own,
+        left: purse - own,
     }
 }
 
@@ -149,9 +149,9 @@ pub(crate) fn fill<'a>(
         let first = p.first;
         let second = p.second;
         left[t] = left[t] - first.tm;
-        left[i] = first.kept;
+        left[i] = first.left;
         free[t] = free[t] - second.tm;
-        free[i] = second.kept;
+        free[i] = second.left;
         cm -= first.cm;
         cm_free -= second.cm;
         uncovered += second.unpaid;

@@ -1,4 +1,4 @@
--- Laws of the losses that a file's bytes say.
+-- The losses that a file's bytes say: up to 256 that were written read back, and what lies further on does not matter.
 use mathlib.Core.Bool.{Bool, true, false, _&&_}
 use mathlib.Core.List.{List, [], _∷_, _++_}
 use mathlib.Core.Path.{_≡_, refl, sym, ap, _∙_}

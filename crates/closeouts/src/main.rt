@@ -4,12 +4,12 @@
 ghost use mathlib.Core.Path.{_≡_};
 ghost use Prim.Native.Nat.{_≤_};
 ghost use lib.ListN.{length, replicate};
-ghost use Rattle.sums.specs.Room.{over};
+ghost use Rattle.sums.specs.Room.{atStart};
 ghost use Rattle.report.specs.Reports.{accounts as Reports·accounts};
 ghost use Rattle.table.specs.Words.{turnedBack};
 ghost use Rattle.closeouts.specs.Texts.{textOf};
-use libc::STDOUT_FILENO;
-use table::Table;
+use feed::Table;
+use streams::standard::write_output;
 
 mod file;
 mod losses;
@@ -31,7 +31,7 @@ fn zeros() -> [u64; 1024]
 // The lines of the close-out: how long they are, and the lines in the room.
 fn close_out_text(t: Table, losses: &[u64], room: &mut [u8; 65536]) -> usize
     ensures { λ n. ⌜ n ≡ length (textOf (turnedBack t) (now (losses .entry))) ⌝ }
-    ensures { λ _. ⌜ now (room .exit) ≡ over (textOf (turnedBack t) (now (losses .entry))) (now (room .entry)) ⌝ }
+    ensures { λ _. ⌜ now (room .exit) ≡ atStart (textOf (turnedBack t) (now (losses .entry))) (now (room .entry)) ⌝ }
 {
     let mut amounts = zeros();
     let wanted = 4 * accounts(t);
@@ -51,18 +51,30 @@ fn close_out(t: Table, list: [u64; 256], count: usize)
     let losses = list;
     let mut room = [0u8; 65536];
     let n = close_out_text(t, &losses[..count], &mut room);
-    io::write_all(STDOUT_FILENO, &room[..n]);
+    write_output(b"closeouts", &room[..n]);
 }
 
 fn main() {
+    let help = streams::standard::help(
+        b"closeouts: carries out the day file on standard input over a fresh book; the closing line, then who pays the losses in the file named, a line for each account\nusage: closeouts LOSSES < DAYFILE\n",
+    );
+    if help.asked {
+        return;
+    }
     let losses = file::from_argument();
     if !losses.readable {
         return;
     }
-    let day = feed::whole_day(false);
+    let day = feed::whole_day(b"closeouts", false);
+    if day.failed {
+        return;
+    }
     let word = day.closing;
     let table = day.table;
     let list = losses.list;
-    report::closing(word, day.read, day.done);
+    let closed = report::closing(b"closeouts", word, day.read, day.done);
+    if closed.failed {
+        return;
+    }
     close_out(table, list, losses.count);
 }

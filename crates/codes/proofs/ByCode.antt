@@ -12,15 +12,15 @@ use Rattle.rows.specs.View.{blockedOf}
 use Rattle.dayfile.specs.declared.Record.{Record}
 use Rattle.dayfile.specs.Records.{knownCode}
 use Rattle.rules.proofs.Amending.{by-receive, by-hand-back, by-allocate, by-release, by-pledge, by-unpledge, by-margin, by-retire}
-use Rattle.rules.proofs.Codes.{Code, openTM, openClient, openCP, receive, handBack, allocate, release, pledge, unpledge, margin, retire, which}
+use Rattle.rules.proofs.Codes.{Code, openTM, openClient, openCP, receive, handBack, allocate, release, pledge, unpledge, margin, retire, known-code-cases}
 use Rattle.table.specs.Words.{Marks, rowIn}
-use Rattle.codes.specs.Own.{seenIn, overIn, marginLines, Answered, Receives, HandsBack, Allocates, Releases, Pledges, Unpledges, SetsMargin, Retires}
+use Rattle.codes.specs.Own.{besideIn, needPassesIn, marginLines, Answered, Receives, HandsBack, Allocates, Releases, Pledges, Unpledges, SetsMargin, Retires}
 use Rattle.codes.proofs.Lines.{receive-own, left-own, release-own, pledge-own, unpledge-own, margin-own, retire-own}
 use Rattle.codes.proofs.Made.{as-amended}
 
 -- the last code is what is left
 pub last-code : (n : ℕ) → knownCode n ≡ true → 4 ≤ n → (n ≡ 4 → ⊥) → (n ≡ 5 → ⊥) → (n ≡ 6 → ⊥) → (n ≡ 7 → ⊥) → (n ≡ 8 → ⊥) → (n ≡ 9 → ⊥) → (n ≡ 10 → ⊥) → n ≡ 11
-last-code n k l n4 n5 n6 n7 n8 n9 n10 = by (which n k)
+last-code n k l n4 n5 n6 n7 n8 n9 n10 = by (known-code-cases n k)
   where
     by : Code n → n ≡ 11
     by (openTM e) = absurd (omega (arith, l, e))
@@ -40,29 +40,29 @@ module _ (count : ℕ) (m : Marks) (w under : List ℕ) (on : Bool) (r : Record)
   row = rowIn m w (r .account)
 
   module _ {k : ℕ} {u : List ℕ} where
-    pub receives : r .code ≡ 4 → Receives m w (r .account) (r .kinds) k u → Answered count m w under on r k m u
-    receives e h = as-amended (by-receive row r e) (receive-own row count (seenIn count m w under on r) r e) h
+    pub receive-answered : r .code ≡ 4 → Receives m w (r .account) (r .kinds) k u → Answered count m w under on r k m u
+    receive-answered e h = as-amended (by-receive row r e) (receive-own row count (besideIn count m w under on r) r e) h
 
     pub hands-back : r .code ≡ 5 → HandsBack m w (r .account) (r .kinds) k u → Answered count m w under on r k m u
-    hands-back e h = as-amended (by-hand-back row r e) (left-own row count (seenIn count m w under on r) r (inl e)) h
+    hands-back e h = as-amended (by-hand-back row r e) (left-own row count (besideIn count m w under on r) r (inl e)) h
 
-    pub allocates : r .code ≡ 6 → Allocates m w (r .account) (r .kinds) k u → Answered count m w under on r k m u
-    allocates e h = as-amended (by-allocate row r e) (left-own row count (seenIn count m w under on r) r (inr e)) h
+    pub allocate-answered : r .code ≡ 6 → Allocates m w (r .account) (r .kinds) k u → Answered count m w under on r k m u
+    allocate-answered e h = as-amended (by-allocate row r e) (left-own row count (besideIn count m w under on r) r (inr e)) h
 
-    pub releases : r .code ≡ 7 → Releases m w under on (r .account) (r .kinds) k u → Answered count m w under on r k m u
-    releases e h = as-amended (by-release row r e) (release-own row count (seenIn count m w under on r) r e) h
+    pub release-answered : r .code ≡ 7 → Releases m w under on (r .account) (r .kinds) k u → Answered count m w under on r k m u
+    release-answered e h = as-amended (by-release row r e) (release-own row count (besideIn count m w under on r) r e) h
 
-    pub pledges : r .code ≡ 8 → Pledges m w (r .account) (r .pledged) k u → Answered count m w under on r k m u
-    pledges e h = as-amended (by-pledge row r e) (pledge-own row count (seenIn count m w under on r) r e) h
+    pub pledge-answered : r .code ≡ 8 → Pledges m w (r .account) (r .pledged) k u → Answered count m w under on r k m u
+    pledge-answered e h = as-amended (by-pledge row r e) (pledge-own row count (besideIn count m w under on r) r e) h
 
-    pub unpledges : r .code ≡ 9 → Unpledges m w under on (r .account) (r .pledged) k u → Answered count m w under on r k m u
-    unpledges e h = as-amended (by-unpledge row r e) (unpledge-own row count (seenIn count m w under on r) r e) h
+    pub unpledge-answered : r .code ≡ 9 → Unpledges m w under on (r .account) (r .pledged) k u → Answered count m w under on r k m u
+    unpledge-answered e h = as-amended (by-unpledge row r e) (unpledge-own row count (besideIn count m w under on r) r e) h
 
     pub sets-margin : r .code ≡ 10 → r .margin ≤ ceiling → SetsMargin m w under (r .account) (r .margin) k u → Answered count m w under on r k m u
     sets-margin e l h =
         let q : blockedOf (r .margin) ceiling ≡ r .margin = omega arith in
         as-amended (by-margin row r e)
-        (margin-own row count (seenIn count m w under on r) r e ∙ ap (λ y. first (marginLines row (r .margin) (overIn m w under (r .account) y))) q) h
+        (margin-own row count (besideIn count m w under on r) r e ∙ ap (λ y. first (marginLines row (r .margin) (needPassesIn m w under (r .account) y))) q) h
 
-  pub retires : {k : ℕ} {n : Marks} → r .code ≡ 11 → Retires m w count (r .account) k n → Answered count m w under on r k n w
-  retires e h = as-amended (by-retire row r e) (retire-own row count (seenIn count m w under on r) r e) h
+  pub retire-answered : {k : ℕ} {n : Marks} → r .code ≡ 11 → Retires m w count (r .account) k n → Answered count m w under on r k n w
+  retire-answered e h = as-amended (by-retire row r e) (retire-own row count (besideIn count m w under on r) r e) h

@@ -13,7 +13,7 @@ use Rattle.rows.specs.declared.Row.{Row}
 use Rattle.dayfile.specs.declared.Record.{Record}
 use Rattle.dayfile.specs.Records.{faults, faultOf}
 use Rattle.dayfile.proofs.Good.{past-faults}
-use Rattle.rules.specs.declared.Seen.{Seen}
+use Rattle.rules.specs.declared.Beside.{Beside}
 use Rattle.codes.specs.Own.{earlyNumber, from8, openLines, receiveLines, leftLines, releaseLines, pledgeLines, unpledgeLines, marginLines, retireLines}
 
 -- with the serial that is due and no fault, only 7 is left before 8
@@ -35,41 +35,41 @@ or-false : (t : Bool) → (t || false) ≡ t
 or-false true = refl
 or-false false = refl
 
-module _ (row : Row) (count : ℕ) (seen : Seen) (r : Record) where
+module _ (row : Row) (count : ℕ) (beside : Beside) (r : Record) where
   -- THE LAW: each line's test begins with its codes, so the code decides which lines are left
-  own : (k : ℕ) → r .code ≡ k → first (from8 row count seen r) ≡ first (from8 row count seen (coded r k))
-  own k e = ap (λ n. first (from8 row count seen (coded r n))) e
+  own : (k : ℕ) → r .code ≡ k → first (from8 row count beside r) ≡ first (from8 row count beside (coded r k))
+  own k e = ap (λ n. first (from8 row count beside (coded r n))) e
 
-  pub receive-own : r .code ≡ 4 → first (from8 row count seen r) ≡ first (receiveLines row (r .kinds))
+  pub receive-own : r .code ≡ 4 → first (from8 row count beside r) ≡ first (receiveLines row (r .kinds))
   unfolding first pick
   receive-own e = own 4 e ∙ simp or-false
 
-  pub left-own : (r .code ≡ 5) ⊎ (r .code ≡ 6) → first (from8 row count seen r) ≡ first (leftLines row (r .kinds))
+  pub left-own : (r .code ≡ 5) ⊎ (r .code ≡ 6) → first (from8 row count beside r) ≡ first (leftLines row (r .kinds))
   unfolding first pick
   left-own (inl e) = own 5 e ∙ simp or-false
   left-own (inr e) = own 6 e ∙ simp or-false
 
-  pub release-own : r .code ≡ 7 → first (from8 row count seen r) ≡ first (releaseLines row (seen .mode) (seen .free) (r .kinds))
+  pub release-own : r .code ≡ 7 → first (from8 row count beside r) ≡ first (releaseLines row (beside .mode) (beside .free) (r .kinds))
   unfolding first pick
   release-own e = own 7 e ∙ simp or-false
 
-  pub pledge-own : r .code ≡ 8 → first (from8 row count seen r) ≡ first (pledgeLines row (r .pledged))
+  pub pledge-own : r .code ≡ 8 → first (from8 row count beside r) ≡ first (pledgeLines row (r .pledged))
   unfolding first pick
   pledge-own e = own 8 e
 
-  pub unpledge-own : r .code ≡ 9 → first (from8 row count seen r) ≡ first (unpledgeLines row (seen .mode) (seen .free) (r .pledged))
+  pub unpledge-own : r .code ≡ 9 → first (from8 row count beside r) ≡ first (unpledgeLines row (beside .mode) (beside .free) (r .pledged))
   unfolding first pick
   unpledge-own e = own 9 e
 
-  pub margin-own : r .code ≡ 10 → first (from8 row count seen r) ≡ first (marginLines row (r .margin) (seen .over))
+  pub margin-own : r .code ≡ 10 → first (from8 row count beside r) ≡ first (marginLines row (r .margin) (beside .passes))
   unfolding first pick
   margin-own e = own 10 e
 
-  pub retire-own : r .code ≡ 11 → first (from8 row count seen r) ≡ first (retireLines row (r .account) (seen .tied))
+  pub retire-own : r .code ≡ 11 → first (from8 row count beside r) ≡ first (retireLines row (r .account) (beside .client))
   unfolding first pick
   retire-own e = own 11 e
 
-  pub open-own : (r .code ≡ 1) ⊎ ((r .code ≡ 2) ⊎ (r .code ≡ 3)) → first (from8 row count seen r) ≡ first (openLines row (r .code) count)
+  pub open-own : (r .code ≡ 1) ⊎ ((r .code ≡ 2) ⊎ (r .code ≡ 3)) → first (from8 row count beside r) ≡ first (openLines row (r .code) count)
   unfolding first pick
   open-own (inl e) = own 1 e ∙ rw e (simp or-false)
   open-own (inr (inl e)) = own 2 e ∙ rw e (simp or-false)

@@ -18,48 +18,48 @@ use Rattle.table.specs.Words.{Marks, rowIn}
 use Rattle.table.specs.Facts.{Sized}
 use Rattle.table.specs.Inner.{putKinds, Anew}
 use Rattle.table.proofs.RowsPut.{received-put, allocated-put, pledged-put, margin-put}
-use Rattle.rows.proofs.NeedSums.{under-cm-most, due-most}
+use Rattle.rows.proofs.NeedSums.{deemed-under-cm-most, due-most}
 use Rattle.rules.specs.Inner.{topMargin}
-use Rattle.codes.specs.declared.settling.Owed.{Owed}
-use Rattle.codes.specs.Own.{accountIn, underIn, undersIn, overIn, owedBy, owedIn, Held, Answers}
+use Rattle.codes.specs.declared.settling.DeemedUnderAfter.{DeemedUnderAfter}
+use Rattle.codes.specs.Own.{accountIn, deemedUnderAt, deemedUnderIn, needPassesIn, deemedUnderAfter, deemedUnderAfterIn, Held, Answers}
 
 -- the first line of two or of one
-pub here : (k : ℕ) (t : Bool) (rest : List Line) → t ≡ true → k ≡ first ((k when t) ∷ rest)
+pub first-line-holds : (k : ℕ) (t : Bool) (rest : List Line) → t ≡ true → k ≡ first ((k when t) ∷ rest)
 unfolding first pick
-here k t rest e = rw e
+first-line-holds k t rest e = rw e
 
-pub next : (k : ℕ) (t : Bool) (rest : List Line) (n : ℕ) → t ≡ false → n ≡ first rest → n ≡ first ((k when t) ∷ rest)
+pub first-line-fails : (k : ℕ) (t : Bool) (rest : List Line) (n : ℕ) → t ≡ false → n ≡ first rest → n ≡ first ((k when t) ∷ rest)
 unfolding first pick
-next k t rest n e h = rw e h
+first-line-fails k t rest n e h = rw e h
 
-pub none : 0 ≡ first []
+pub no-line-gives-0 : 0 ≡ first []
 unfolding first
-none = refl
+no-line-gives-0 = refl
 
 module _ {m : Marks} {w : List ℕ} {i : ℕ} {x : Row} {own : List Line} where
   pub opens-not : (k : ℕ) → k ≡ first own → (k ≡ 0 → ⊥) → Answers m w i x own k m w
   opens-not k e ne = record { number = e; puts = λ z. absurd (ne z); stays = λ z. (refl, refl) }
 
-  pub opens : {n : Marks} {u : List ℕ} → 0 ≡ first own → Anew m w i x n u → Answers m w i x own 0 n u
-  opens e h = record { number = e; puts = λ z. h; stays = λ ne. absurd (ne refl) }
+  pub opened-answers : {n : Marks} {u : List ℕ} → 0 ≡ first own → Anew m w i x n u → Answers m w i x own 0 n u
+  opened-answers e h = record { number = e; puts = λ z. h; stays = λ ne. absurd (ne refl) }
 
 module _ {m : Marks} {w : List ℕ} {i : ℕ} where
-  pub refuses : {x : Row} (k : ℕ) (own : Row → List Line) (row : Row) → row ≡ rowIn m w i → k ≡ first (own row) → (k ≡ 0 → ⊥)
+  pub refused-answers : {x : Row} (k : ℕ) (own : Row → List Line) (row : Row) → row ≡ rowIn m w i → k ≡ first (own row) → (k ≡ 0 → ⊥)
       → Answers m w i x (own (rowIn m w i)) k m w
-  refuses k own row er e ne = record { number = e ∙ ap (λ q. first (own q)) er; puts = λ z. absurd (ne z); stays = λ z. (refl, refl) }
+  refused-answers k own row er e ne = record { number = e ∙ ap (λ q. first (own q)) er; puts = λ z. absurd (ne z); stays = λ z. (refl, refl) }
 
-  pub puts : {x : Row} {n : Marks} {u : List ℕ} (own : Row → List Line) (row : Row) → row ≡ rowIn m w i → 0 ≡ first (own row) → Anew m w i x n u
+  pub put-answers : {x : Row} {n : Marks} {u : List ℕ} (own : Row → List Line) (row : Row) → row ≡ rowIn m w i → 0 ≡ first (own row) → Anew m w i x n u
       → Answers m w i x (own (rowIn m w i)) 0 n u
-  puts own row er e h = record { number = e ∙ ap (λ q. first (own q)) er; puts = λ z. h; stays = λ ne. absurd (ne refl) }
+  put-answers own row er e h = record { number = e ∙ ap (λ q. first (own q)) er; puts = λ z. h; stays = λ ne. absurd (ne refl) }
 
   -- what the sum after a change asks of the two accounts
-  pub settles : {under : List ℕ} (row new : Row) (a b : Account) → Held m w under i → row ≡ rowIn m w i → a ≡ accountOf row → b ≡ accountOf new → InRange new
+  pub change-in-range : {under : List ℕ} (row new : Row) (a b : Account) → Held m w under i → row ≡ rowIn m w i → a ≡ accountOf row → b ≡ accountOf new → InRange new
       → Held m w under i × (a .tm < 256) × (a .margin ≤ ceiling) × (b .margin ≤ ceiling)
-  settles row new a b h er ea eb g =
+  change-in-range row new a b h er ea eb g =
       (h, rw (ea, er) (h .tm), rw (ea, er) (h .ranges i (h .inside) .margin), rw eb (g .margin))
 
-  pub ranged : {under : List ℕ} (row : Row) → Held m w under i → row ≡ rowIn m w i → InRange row
-  ranged row h er = rw er (h .ranges i (h .inside))
+  pub held-in-range : {under : List ℕ} (row : Row) → Held m w under i → row ≡ rowIn m w i → InRange row
+  held-in-range row h er = rw er (h .ranges i (h .inside))
 
   -- the words that each setter puts
   module _ (s : Sized m w) (l : i < 256) (new : Row) {u : List ℕ} where
@@ -76,27 +76,27 @@ module _ {m : Marks} {w : List ℕ} {i : ℕ} where
     margin-anew x en eu = rw (eu, en) (margin-put m w i s l x)
 
 -- what is under an account, by its word and its kept need
-pub under-is : (w needs : List ℕ) (j : ℕ) → j < 256 → getD (undersIn w needs) j 0 ≡ underIn w needs j
-under-is w needs j l = at-listTo (underIn w needs) 256 j 0 l
+pub under-is : (w needs : List ℕ) (j : ℕ) → j < 256 → getD (deemedUnderIn w needs) j 0 ≡ deemedUnderAt w needs j
+under-is w needs j l = at-listTo (deemedUnderAt w needs) 256 j 0 l
 
 -- part by part
-pub owed-eq : {own own′ owed owed′ all all′ : ℕ} {its its′ : Account} (old new : Account) → own ≡ own′ → owed ≡ owed′ → all ≡ all′ → its ≡ its′
-    → owedBy own owed all old new its ≡ owedBy own′ owed′ all′ old new its′
-owed-eq old new e₁ e₂ e₃ e₄ = rw (e₁, e₂, e₃, e₄)
+pub deemed-under-eq : {own own′ clients clients′ all all′ : ℕ} {its its′ : Account} (old new : Account) → own ≡ own′ → clients ≡ clients′ → all ≡ all′ → its ≡ its′
+    → deemedUnderAfter own clients all old new its ≡ deemedUnderAfter own′ clients′ all′ old new its′
+deemed-under-eq old new e₁ e₂ e₃ e₄ = rw (e₁, e₂, e₃, e₄)
 
 -- the cover test of a new margin, part by part
-pub over-is : (m : Marks) (w under : List ℕ) (i y : ℕ) (row new : Row) (a b top : Account) (d : Owed) (t : Bool) → row ≡ rowIn m w i → new ≡ withMargin row y
-    → a ≡ accountOf row → b ≡ accountOf new → top ≡ accountIn m w 0 → d ≡ owedIn m w under i a b → t ≡ ltb (top .collateral) (topMargin a top y + d .cm)
-    → overIn m w under i y ≡ t
-over-is m w under i y row new a b top d t er en ea eb ep ed et = rw (et, ed, ep, eb, ea, en, er)
+pub need-passes-is : (m : Marks) (w under : List ℕ) (i y : ℕ) (row new : Row) (a b top : Account) (d : DeemedUnderAfter) (t : Bool) → row ≡ rowIn m w i → new ≡ withMargin row y
+    → a ≡ accountOf row → b ≡ accountOf new → top ≡ accountIn m w 0 → d ≡ deemedUnderAfterIn m w under i a b → t ≡ ltb (top .collateral) (topMargin a top y + d .cm)
+    → needPassesIn m w under i y ≡ t
+need-passes-is m w under i y row new a b top d t er en ea eb ep ed et = rw (et, ed, ep, eb, ea, en, er)
 
 -- no word passes
-pub owed-most : {m : Marks} {w under : List ℕ} {i : ℕ} (a b : Account) (d : Owed) → Held m w under i → a .tm < 256 → b .margin ≤ ceiling → d ≡ owedIn m w under i a b
+pub deemed-under-most : {m : Marks} {w under : List ℕ} {i : ℕ} (a b : Account) (d : DeemedUnderAfter) → Held m w under i → a .tm < 256 → b .margin ≤ ceiling → d ≡ deemedUnderAfterIn m w under i a b
     → (d .tm ≤ 10_000_000_000_000_000_000) × (d .cm ≤ 10_000_000_000_000_000_000)
-owed-most {m} {w} {under} {i} a b d h l g e =
+deemed-under-most {m} {w} {under} {i} a b d h l g e =
     rw e (
       omega (arith, due-most b, h .most (a .tm)),
-      omega (arith, under-cm-most a b (accountIn m w (a .tm)) (getD under i 0) (getD under (a .tm) 0) (getD under 0 0), h .most i, h .most (a .tm), h .most 0, h .ranges (a .tm) l .margin),
+      omega (arith, deemed-under-cm-most a b (accountIn m w (a .tm)) (getD under i 0) (getD under (a .tm) 0) (getD under 0 0), h .most i, h .most (a .tm), h .most 0, h .ranges (a .tm) l .margin),
     )
 
 -- a row with a new margin is in range

@@ -15,16 +15,16 @@ use Rattle.rows.specs.Rows.{ceiling, addedUp, plusKinds, lessKinds, accountOf, 
 use Rattle.rows.specs.Ranges.{kindsCapped, kindsWithin, noAmounts}
 use Rattle.rows.specs.Facts.{InRange}
 use Rattle.rows.specs.View.{freeOf}
-use Rattle.rows.specs.Under.{atMargin, underTM, underCM, undersBy}
+use Rattle.rows.specs.DeemedUnder.{atMargin, deemedUnderTM, deemedUnderCM, deemedUnderBy}
 use Rattle.dayfile.specs.declared.Record.{Record}
 use Rattle.dayfile.specs.Records.{faults, knownCode}
-use Rattle.rules.specs.declared.Seen.{Seen}
+use Rattle.rules.specs.declared.Beside.{Beside}
 use Rattle.rules.specs.Effects.{amended}
-use Rattle.rules.specs.Inner.{AmountsIn, from7, topMargin, seenWith}
+use Rattle.rules.specs.Inner.{AmountsIn, from7, topMargin, besideBy}
 use Rattle.table.specs.Words.{Marks, rowIn, wordAt}
 use Rattle.table.specs.Facts.{Sized}
 use Rattle.table.specs.Inner.{Anew}
-use Rattle.codes.specs.declared.settling.Owed.{Owed}
+use Rattle.codes.specs.declared.settling.DeemedUnderAfter.{DeemedUnderAfter}
 
 -- the lines before 8, which ask nothing of the code, where it is known whether the account is live
 abbrev pub before8 : Bool → ℕ → Record → List Line
@@ -38,8 +38,8 @@ abbrev pub aliveIn : List Bool → ℕ → ℕ → Bool
 aliveIn live count a = ltb a count && getD live a false
 
 -- the lines from 8 on
-abbrev pub from8 : Row → ℕ → Seen → Record → List Line
-from8 row count seen r = drop 1 (from7 row count seen r)
+abbrev pub from8 : Row → ℕ → Beside → Record → List Line
+from8 row count beside r = drop 1 (from7 row count beside r)
 
 -- "8: opening: the account named is of the wrong sort"; "9: opening with 256 numbers given"
 abbrev pub openLines : Row → ℕ → ℕ → List Line
@@ -71,19 +71,19 @@ unpledgeLines row on left x = (11 when ltb (row .pledged) x) ∷ takingLines on 
 
 -- "13: after a rising margin the CM's need would pass its collateral" (K6)
 abbrev pub marginLines : Row → ℕ → Bool → List Line
-marginLines row x over = (13 when (ltb (row .margin) x && over)) ∷ []
+marginLines row x passes = (13 when (ltb (row .margin) x && passes)) ∷ []
 
 -- "8: .. retiring: account 0"; "14: retiring an account with any amount not zero, or a TM with a live client"
 abbrev pub retireLines : Row → ℕ → Bool → List Line
-retireLines row a tied = (8 when eqb a 0) ∷ (14 when (not (noAmounts row) || tied)) ∷ []
+retireLines row a liveClient = (8 when eqb a 0) ∷ (14 when (not (noAmounts row) || liveClient)) ∷ []
 
 -- account i is a live client of account a, by three columns
 abbrev pub clientIn : Marks → ℕ → ℕ → Bool
 clientIn m a i = eqb (getD (m .sort) i 0) 2 && eqb (getD (m .tm) i 0) a && getD (m .live) i false
 
 -- a TM has a live client
-unfoldable pub tiedIn : Marks → ℕ → ℕ → Bool
-tiedIn m count a = pick (eqb (getD (m .sort) a 0) 1) (any count (clientIn m a)) false
+unfoldable pub hasLiveClientIn : Marks → ℕ → ℕ → Bool
+hasLiveClientIn m count a = pick (eqb (getD (m .sort) a 0) 1) (any count (clientIn m a)) false
 
 -- the account at place i, and what is free of it
 abbrev pub accountIn : Marks → List ℕ → ℕ → Account
@@ -93,31 +93,31 @@ abbrev pub freeIn : Marks → List ℕ → List ℕ → ℕ → ℕ
 freeIn m w under i = freeOf (accountIn m w i .margin + getD under i 0) (accountIn m w i .collateral)
 
 -- what is deemed under the account at place j: its kept need less its margin (K3)
-abbrev pub underIn : List ℕ → List ℕ → ℕ → ℕ
-underIn w needs j = getD needs j 0 - wordAt w 9 j
+abbrev pub deemedUnderAt : List ℕ → List ℕ → ℕ → ℕ
+deemedUnderAt w needs j = getD needs j 0 - wordAt w 9 j
 
-abbrev pub undersIn : List ℕ → List ℕ → List ℕ
-undersIn w needs = undersBy (wordAt w 9) needs
+abbrev pub deemedUnderIn : List ℕ → List ℕ → List ℕ
+deemedUnderIn w needs = deemedUnderBy (wordAt w 9) needs
 
 -- what is under its TM and under the CM after an account changed from a to x, where its TM's is given, and so much is under each of the three
-abbrev pub owedBy : ℕ → ℕ → ℕ → Account → Account → Account → Owed
-owedBy own owed all a x its = record { tm = underTM a x owed; cm = underCM a x own its owed all }
+abbrev pub deemedUnderAfter : ℕ → ℕ → ℕ → Account → Account → Account → DeemedUnderAfter
+deemedUnderAfter own clients all a x its = record { tm = deemedUnderTM a x clients; cm = deemedUnderCM a x own its clients all }
 
-abbrev pub owedIn : Marks → List ℕ → List ℕ → ℕ → Account → Account → Owed
-owedIn m w under i a x = owedBy (getD under i 0) (getD under (a .tm) 0) (getD under 0 0) a x (accountIn m w (a .tm))
+abbrev pub deemedUnderAfterIn : Marks → List ℕ → List ℕ → ℕ → Account → Account → DeemedUnderAfter
+deemedUnderAfterIn m w under i a x = deemedUnderAfter (getD under i 0) (getD under (a .tm) 0) (getD under 0 0) a x (accountIn m w (a .tm))
 
 -- the CM's need would pass its collateral after the margin x
-abbrev pub overIn : Marks → List ℕ → List ℕ → ℕ → ℕ → Bool
-overIn m w under i x =
+abbrev pub needPassesIn : Marks → List ℕ → List ℕ → ℕ → ℕ → Bool
+needPassesIn m w under i x =
     ltb (accountIn m w 0 .collateral)
-    (topMargin (accountIn m w i) (accountIn m w 0) x + owedIn m w under i (accountIn m w i) (atMargin (accountIn m w i) x) .cm)
+    (topMargin (accountIn m w i) (accountIn m w 0) x + deemedUnderAfterIn m w under i (accountIn m w i) (atMargin (accountIn m w i) x) .cm)
 
--- what is seen beside the row
-abbrev pub seenIn : ℕ → Marks → List ℕ → List ℕ → Bool → Record → Seen
-seenIn count m w under on r =
+-- what stands beside the row
+abbrev pub besideIn : ℕ → Marks → List ℕ → List ℕ → Bool → Record → Beside
+besideIn count m w under on r =
     let i = r .account in
     let p = getD (m .tm) i 0 in
-    seenWith on (accountIn m w i) (getD under i 0) (accountIn m w p) (getD under p 0) (accountIn m w 0) (getD under 0 0) (tiedIn m count i) r
+    besideBy on (accountIn m w i) (getD under i 0) (accountIn m w p) (getD under p 0) (accountIn m w 0) (getD under 0 0) (hasLiveClientIn m count i) r
 
 -- what a code's function needs of the words at account i
 pub record Held (m : Marks) (w under : List ℕ) (i : ℕ) : Type 0 where
@@ -158,15 +158,15 @@ Unpledges m w under on i y x =
     Answers m w i (withPledged (rowIn m w i) (rowIn m w i .pledged - y)) (unpledgeLines (rowIn m w i) on (freeIn m w under i) y) x m
 
 abbrev pub SetsMargin : Marks → List ℕ → List ℕ → ℕ → ℕ → ℕ → List ℕ → Type 0
-SetsMargin m w under i y x = Answers m w i (withMargin (rowIn m w i) y) (marginLines (rowIn m w i) y (overIn m w under i y)) x m
+SetsMargin m w under i y x = Answers m w i (withMargin (rowIn m w i) y) (marginLines (rowIn m w i) y (needPassesIn m w under i y)) x m
 
 abbrev pub Retires : Marks → List ℕ → ℕ → ℕ → ℕ → Marks → Type 0
-Retires m w count i x n = Answers m w i (withLive (rowIn m w i) false) (retireLines (rowIn m w i) i (tiedIn m count i)) x n w
+Retires m w count i x n = Answers m w i (withLive (rowIn m w i) false) (retireLines (rowIn m w i) i (hasLiveClientIn m count i)) x n w
 
 -- the table's answer to a record that is no opening and passed the lines before 8, whichever its code, where the account's mode is on or off
 abbrev pub Answered : ℕ → Marks → List ℕ → List ℕ → Bool → Record → ℕ → Marks → List ℕ → Type 0
 Answered count m w under on r =
-    Answers m w (r .account) (amended (rowIn m w (r .account)) r) (from8 (rowIn m w (r .account)) count (seenIn count m w under on r) r)
+    Answers m w (r .account) (amended (rowIn m w (r .account)) r) (from8 (rowIn m w (r .account)) count (besideIn count m w under on r) r)
 
 -- such a record
 pub record Amending (count : ℕ) (m : Marks) (w under : List ℕ) (r : Record) : Type 0 where

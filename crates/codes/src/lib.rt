@@ -2,7 +2,7 @@
 ghost use mathlib.Core.Path.{_≡_};
 ghost use Prim.Native.Nat.{_≤_};
 ghost use Rattle.table.specs.Words.{marksFrom};
-ghost use Rattle.codes.specs.Own.{aliveIn, earlyNumber, undersIn, Answered, Amending};
+ghost use Rattle.codes.specs.Own.{aliveIn, earlyNumber, deemedUnderIn, Answered, Amending};
 use dayfile::Record;
 use own::allocate;
 use own::hand_back;
@@ -53,8 +53,8 @@ pub fn amend(
     count: u16,
     r: Record,
 ) -> u8
-    requires { ⌜ Amending count (marksFrom (now sort) (now live) (now tm)) (now w) (undersIn (now w) (now needs)) r ⌝ }
-    ensures { λ x. ⌜ Answered count (marksFrom (now (sort .entry)) (now (live .entry)) (now (tm .entry))) (now (w .entry)) (undersIn (now (w .entry)) (now (needs .entry))) on r x (marksFrom (now (sort .entry)) (now (live .exit)) (now (tm .entry))) (now (w .exit)) ⌝ }
+    requires { ⌜ Amending count (marksFrom (now sort) (now live) (now tm)) (now w) (deemedUnderIn (now w) (now needs)) r ⌝ }
+    ensures { λ x. ⌜ Answered count (marksFrom (now (sort .entry)) (now (live .entry)) (now (tm .entry))) (now (w .entry)) (deemedUnderIn (now (w .entry)) (now (needs .entry))) on r x (marksFrom (now (sort .entry)) (now (live .exit)) (now (tm .entry))) (now (w .exit)) ⌝ }
 {
     let i = r.account as usize;
     let code = r.code;

@@ -9,14 +9,14 @@ ghost use lib.Dec.{eqb};
 ghost use Rattle.sums.specs.Table.{first};
 ghost use Rattle.table.specs.Words.{marksFrom, rowIn};
 ghost use Rattle.table.specs.Facts.{Sized};
-ghost use Rattle.codes.specs.Own.{takingLines, tiedIn, undersIn, overIn, Held, Opens, Receives, HandsBack, Allocates, Releases, Pledges, Unpledges, SetsMargin, Retires};
-use crate::settling::over_with;
-use crate::settling::owed_after;
-use crate::settling::under_at;
+ghost use Rattle.codes.specs.Own.{takingLines, hasLiveClientIn, deemedUnderIn, needPassesIn, Held, Opens, Receives, HandsBack, Allocates, Releases, Pledges, Unpledges, SetsMargin, Retires};
+use crate::settling::deemed_under_after_at;
+use crate::settling::deemed_under_at;
+use crate::settling::need_passes_with;
 use rows::CEILING;
 use rows::Kinds;
 use rows::Row;
-use rows::kept::free_with;
+use rows::deemed::free_with;
 use rows::needs::account_of;
 use rows::ranges::kinds_capped;
 use rows::ranges::kinds_within;
@@ -151,15 +151,15 @@ pub(crate) fn release(
     i: usize,
     k: Kinds,
 ) -> u8
-    requires { ⌜ Held (marksFrom (now sort) (now live) (now tm)) (now w) (undersIn (now w) (now needs)) i × KindsWithin k ceilings ⌝ }
-    ensures { λ x. ⌜ Releases (marksFrom (now (sort .entry)) (now (live .entry)) (now (tm .entry))) (now (w .entry)) (undersIn (now (w .entry)) (now (needs .entry))) on i k x (now (w .exit)) ⌝ }
+    requires { ⌜ Held (marksFrom (now sort) (now live) (now tm)) (now w) (deemedUnderIn (now w) (now needs)) i × KindsWithin k ceilings ⌝ }
+    ensures { λ x. ⌜ Releases (marksFrom (now (sort .entry)) (now (live .entry)) (now (tm .entry))) (now (w .entry)) (deemedUnderIn (now (w .entry)) (now (needs .entry))) on i k x (now (w .exit)) ⌝ }
 {
     let row = row_at(sort, live, tm, w, i);
     if !kinds_within(k, row.allocated) {
         return 11;
     }
     let old = account_of(row);
-    let free = free_with(old, under_at(w, needs, i));
+    let free = free_with(old, deemed_under_at(w, needs, i));
     let n = taking(on, free, added_up(k));
     if n != 0 {
         return n;
@@ -202,15 +202,15 @@ pub(crate) fn unpledge(
     i: usize,
     y: u64,
 ) -> u8
-    requires { ⌜ Held (marksFrom (now sort) (now live) (now tm)) (now w) (undersIn (now w) (now needs)) i ⌝ }
-    ensures { λ x. ⌜ Unpledges (marksFrom (now (sort .entry)) (now (live .entry)) (now (tm .entry))) (now (w .entry)) (undersIn (now (w .entry)) (now (needs .entry))) on i y x (now (w .exit)) ⌝ }
+    requires { ⌜ Held (marksFrom (now sort) (now live) (now tm)) (now w) (deemedUnderIn (now w) (now needs)) i ⌝ }
+    ensures { λ x. ⌜ Unpledges (marksFrom (now (sort .entry)) (now (live .entry)) (now (tm .entry))) (now (w .entry)) (deemedUnderIn (now (w .entry)) (now (needs .entry))) on i y x (now (w .exit)) ⌝ }
 {
     let row = row_at(sort, live, tm, w, i);
     if row.pledged < y {
         return 11;
     }
     let old = account_of(row);
-    let free = free_with(old, under_at(w, needs, i));
+    let free = free_with(old, deemed_under_at(w, needs, i));
     let n = taking(on, free, y);
     if n != 0 {
         return n;
@@ -221,7 +221,7 @@ pub(crate) fn unpledge(
 }
 
 // The CM's need would pass its collateral after the margin y of the account at place i, whose row is given.
-fn over_after(
+fn need_passes_after(
     sort: &[u8; 256],
     live: &[bool; 256],
     tm: &[u16; 256],
@@ -231,14 +231,14 @@ fn over_after(
     row: Row,
     y: u64,
 ) -> bool
-    requires { ⌜ Held (marksFrom (now sort) (now live) (now tm)) (now w) (undersIn (now w) (now needs)) i × (y ≤ ceiling) × (row ≡ rowIn (marksFrom (now sort) (now live) (now tm)) (now w) i) ⌝ }
-    ensures { λ x. ⌜ x ≡ overIn (marksFrom (now (sort .entry)) (now (live .entry)) (now (tm .entry))) (now (w .entry)) (undersIn (now (w .entry)) (now (needs .entry))) i y ⌝ }
+    requires { ⌜ Held (marksFrom (now sort) (now live) (now tm)) (now w) (deemedUnderIn (now w) (now needs)) i × (y ≤ ceiling) × (row ≡ rowIn (marksFrom (now sort) (now live) (now tm)) (now w) i) ⌝ }
+    ensures { λ x. ⌜ x ≡ needPassesIn (marksFrom (now (sort .entry)) (now (live .entry)) (now (tm .entry))) (now (w .entry)) (deemedUnderIn (now (w .entry)) (now (needs .entry))) i y ⌝ }
 {
     let top = account_of(row_at(sort, live, tm, w, 0));
     let new = with_margin(row, y);
     let old = account_of(row);
-    let owed = owed_after(sort, live, tm, w, needs, i, old, account_of(new));
-    over_with(old, top, y, owed.cm)
+    let after = deemed_under_after_at(sort, live, tm, w, needs, i, old, account_of(new));
+    need_passes_with(old, top, y, after.cm)
 }
 
 // 10; for 13 what the CM's need would be is worked out where the margin rises, and nowhere else (K6).
@@ -251,12 +251,12 @@ pub(crate) fn set_margin(
     i: usize,
     y: u64,
 ) -> u8
-    requires { ⌜ Held (marksFrom (now sort) (now live) (now tm)) (now w) (undersIn (now w) (now needs)) i × (y ≤ ceiling) ⌝ }
-    ensures { λ x. ⌜ SetsMargin (marksFrom (now (sort .entry)) (now (live .entry)) (now (tm .entry))) (now (w .entry)) (undersIn (now (w .entry)) (now (needs .entry))) i y x (now (w .exit)) ⌝ }
+    requires { ⌜ Held (marksFrom (now sort) (now live) (now tm)) (now w) (deemedUnderIn (now w) (now needs)) i × (y ≤ ceiling) ⌝ }
+    ensures { λ x. ⌜ SetsMargin (marksFrom (now (sort .entry)) (now (live .entry)) (now (tm .entry))) (now (w .entry)) (deemedUnderIn (now (w .entry)) (now (needs .entry))) i y x (now (w .exit)) ⌝ }
 {
     let row = row_at(sort, live, tm, w, i);
     if row.margin < y {
-        if over_after(sort, live, tm, w, needs, i, row, y) {
+        if need_passes_after(sort, live, tm, w, needs, i, row, y) {
             return 13;
         }
     }
@@ -266,9 +266,15 @@ pub(crate) fn set_margin(
 }
 
 // A TM has a live client; only a TM's are looked for.
-fn tied(sort: &[u8; 256], live: &[bool; 256], tm: &[u16; 256], count: u16, a: u16) -> bool
+fn has_live_client(
+    sort: &[u8; 256],
+    live: &[bool; 256],
+    tm: &[u16; 256],
+    count: u16,
+    a: u16,
+) -> bool
     requires { ⌜ (count ≤ 256) × (a < 256) ⌝ }
-    ensures { λ x. ⌜ x ≡ tiedIn (marksFrom (now (sort .entry)) (now (live .entry)) (now (tm .entry))) count a ⌝ }
+    ensures { λ x. ⌜ x ≡ hasLiveClientIn (marksFrom (now (sort .entry)) (now (live .entry)) (now (tm .entry))) count a ⌝ }
 {
     let its = sort[a as usize];
     if its != 1 {
@@ -304,7 +310,7 @@ pub(crate) fn retire(
     if !no_amounts(row) {
         return 14;
     }
-    if tied(sort, live, tm, count, a) {
+    if has_live_client(sort, live, tm, count, a) {
         return 14;
     }
     let gone = with_live(row, false);

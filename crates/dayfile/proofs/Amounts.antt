@@ -1,10 +1,12 @@
--- Laws of one amount, which stands in a record where its bit is 1.
+-- Laws of one amount, which stands in a record where its bit is 1: how long it is, and that written it reads back.
 use mathlib.Core.Bool.{true}
 use mathlib.Core.Path.{_≡_, refl, sym}
 use mathlib.Core.List.{List, [], _++_}
-use Prim.Native.Nat.{ℕ, zero, suc, _+_, _*_, _≤_, _<_}
+use Prim.Native.Nat.{ℕ, zero, suc, _+_, _*_, _^_, _≤_, _<_}
 use native.Mathlib.Omega.{arith}
 use lib.ListN.{length, drop, length-drop}
+use mir.Syntax.{w64}
+use mir.Val.{Fits}
 use Rattle.dayfile.specs.Bytes.{number, bytesOf}
 use Rattle.dayfile.specs.Files.{Bytes}
 use Rattle.dayfile.specs.Records.{bit, goodAmount}
@@ -22,6 +24,18 @@ got-named (suc b) l h = refl
 pub got-unnamed : (b : ℕ) (l : List ℕ) → b ≡ 0 → got b l ≡ 0
 unfolding got
 got-unnamed b l h = rw h refl
+
+-- by a bit, without a test
+pub got-times : (b : ℕ) (l : List ℕ) → b < 2 → b * number 8 l ≡ got b l
+unfolding got
+got-times zero l h = omega arith
+got-times (suc zero) l h = omega arith
+got-times (suc (suc b)) l h = absurd (omega arith)
+
+pub times-fits : (b x : ℕ) → b < 2 → x < 2 ^ 64 → Fits w64 (b * x)
+times-fits zero x h f = omega arith
+times-fits (suc zero) x h f = omega arith
+times-fits (suc (suc b)) x h f = absurd (omega arith)
 
 past-drop : (b : ℕ) (l : List ℕ) → b < 2 → past b l ≡ drop (8 * b) l
 unfolding past

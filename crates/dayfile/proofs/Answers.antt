@@ -14,7 +14,7 @@ use Rattle.dayfile.specs.declared.Record.{Record}
 use Rattle.dayfile.specs.declared.Wrote.the-variants.{Written, Refused}
 use Rattle.dayfile.specs.Records.{faults, faultOf}
 use Rattle.dayfile.specs.Written.{writtenOf, writerRefusal, wroteOf, roomAfter, refusalWrote}
-use Rattle.dayfile.proofs.Apart.{apart}
+use Rattle.dayfile.proofs.Apart.{zero-is-not-one}
 use Rattle.dayfile.proofs.Good.{past-faults}
 
 module _ (r : Record) (room : List ℕ) where
@@ -71,7 +71,7 @@ module _ (r : Record) (room : List ℕ) where
     where
       by : (k : ℕ) → unlessRefused k (Written (length (writtenOf r))) Refused ≡ Refused n
           → unlessRefused k (writtenOf r ++ drop (length (writtenOf r)) room) (λ m. room) ≡ room
-      by zero q = apart (cc)
+      by zero q = zero-is-not-one (cc)
       by (suc k) q = refl
 
   -- what was written was not refused
@@ -81,4 +81,4 @@ module _ (r : Record) (room : List ℕ) where
     where
       by : (k : ℕ) → Written n ≡ unlessRefused k (Written (length (writtenOf r))) Refused → (k ≡ 0) × (n ≡ length (writtenOf r))
       by zero q = (refl, cc)
-      by (suc k) q = apart (cc)
+      by (suc k) q = zero-is-not-one (cc)

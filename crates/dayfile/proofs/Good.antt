@@ -33,9 +33,9 @@ pub record Good (r : Record) : Type 0 where
   pub pledged : goodAmount (bit 4 (r .named)) 1 (r .pledged) ≡ true
   pub margin : goodAmount (bit 5 (r .named)) 0 (r .margin) ≡ true
 
-pub good : (r : Record) → faultOf r ≡ 0 → Good r
+pub no-fault-good : (r : Record) → faultOf r ≡ 0 → Good r
 unfolding faultOf
-good r e =
+no-fault-good r e =
     let a = first-fails 4 _ _ (omega arith) e in
     let b = first-fails 5 _ _ (omega arith) (a .1) in
     let c = first-fails 6 _ _ (omega arith) (b .1) in

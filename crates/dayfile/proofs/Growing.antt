@@ -18,12 +18,12 @@ use Rattle.dayfile.specs.Bytes.{number}
 use Rattle.dayfile.specs.Files.{Bytes}
 use Rattle.dayfile.specs.Records.{bit}
 use Rattle.dayfile.specs.Reading.{sizeOf, got, past, recordOf, foundFrom, foundAt}
-use Rattle.dayfile.proofs.Apart.{apart}
+use Rattle.dayfile.proofs.Apart.{zero-is-not-one}
 use Rattle.dayfile.proofs.Numbers.{bytes-drop}
 use Rattle.dayfile.proofs.Marks.{ones-bits}
 use Rattle.dayfile.proofs.Amounts.{past-length}
 use Rattle.dayfile.proofs.Lengths.{size-most}
-use Rattle.dayfile.proofs.Places.{Stands, stands, next-least, next-within}
+use Rattle.dayfile.proofs.Places.{Stands, whole-stands, next-least, next-within}
 
 -- ---- bytes that are there are read the same when more follow
 
@@ -94,7 +94,7 @@ pub found-longer : (s x : List ℕ) (at : ℕ) (r : Record) (next : ℕ) → fou
 unfolding foundAt
 found-longer s x at r next f =
     let h : at ≤ length s = omega (arith, next-least s at f, next-within s at f) in
-    rw (drop-append-le at s x h) (from-longer (drop at s) x at r next (stands s at f))
+    rw (drop-append-le at s x h) (from-longer (drop at s) x at r next (whole-stands s at f))
 
 -- ---- a piece from a place on
 
@@ -127,7 +127,7 @@ cut-from (c ∷ []) at y e = omega arith
 cut-from (c ∷ n ∷ l) at y e = by (leb (sizeOf n) (2 + length l)) refl e
   where
     by : (t : Bool) → leb (sizeOf n) (2 + length l) ≡ t → pick t (Whole (recordOf c n l) (at + sizeOf n)) Cut ≡ Cut → length (c ∷ n ∷ l) < 70
-    by true q e = apart (cc)
+    by true q e = zero-is-not-one (cc)
     by false q e = omega (arith, leb-false (sizeOf n) (2 + length l) q, size-most n (y 1))
 
 -- "The longest record is 70 bytes.": where there are 70, they are not too few

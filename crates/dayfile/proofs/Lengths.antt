@@ -11,7 +11,7 @@ use Rattle.dayfile.specs.Written.{bodyOf, writtenOf}
 use Rattle.dayfile.proofs.Numbers.{length-bytesOf}
 use Rattle.dayfile.proofs.Marks.{ones-bits, ones-zero}
 use Rattle.dayfile.proofs.Amounts.{length-bit}
-use Rattle.dayfile.proofs.Good.{good, suits-lt}
+use Rattle.dayfile.proofs.Good.{no-fault-good, suits-lt}
 
 pub length-body : (r : Record) → r .named < 64 → length (bodyOf r) ≡ 4 + 8 * ones (r .named)
 unfolding bodyOf
@@ -21,7 +21,7 @@ length-body r h =
 
 pub length-written : (r : Record) → faultOf r ≡ 0 → length (writtenOf r) ≡ sizeOf (r .named)
 unfolding writtenOf
-length-written r f = omega (arith, length-body r (suits-lt (r .code) (r .named) (good r f .suit)))
+length-written r f = omega (arith, length-body r (suits-lt (r .code) (r .named) (no-fault-good r f .suit)))
 
 -- "The longest record is 70 bytes.", whatever its code
 pub size-most : (named : ℕ) → named < 2 ^ 8 → sizeOf named ≤ 70

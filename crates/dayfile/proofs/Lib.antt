@@ -6,6 +6,7 @@ mod Looking
 mod Rooms
 mod Bodies
 pub mod Good
+mod Judging
 pub mod Lengths
 pub mod Places
 pub mod Growing

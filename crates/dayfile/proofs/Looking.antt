@@ -6,7 +6,7 @@ use native.Mathlib.Omega.{arith}
 use lib.ListN.{length, drop, getD, length-drop, drop-of-length-le}
 use lib.Seq.{drop-cons, drop-drop}
 use borrow.Author.Tests.{le-leb, lt-leb}
-use Rattle.sums.proofs.Choices.{pass, stop, refused-by}
+use Rattle.sums.proofs.Choices.{pick-first, pick-second, refused-by}
 use Rattle.dayfile.specs.declared.Record.{Record}
 use Rattle.dayfile.specs.declared.Found.the-variants.{End as NoBytes, Cut as TooFew, Whole}
 use Rattle.dayfile.specs.declared.Read.the-variants.{End, Cut, Good, Bad}
@@ -31,14 +31,14 @@ module _ (s : List ℕ) (at : ℕ) (h : at + 2 ≤ length s) where
   unfolding foundAt foundFrom
   found-short n e k =
       rw (two-at s at h)
-      (stop _ (lt-leb (sizeOf (getD s (at + 1) 0)) (2 + length (drop (at + 2) s)) (rw length-drop (omega arith))) refl)
+      (pick-second _ (lt-leb (sizeOf (getD s (at + 1) 0)) (2 + length (drop (at + 2) s)) (rw length-drop (omega arith))) refl)
 
   pub found-whole : (n : ℕ) → n ≡ sizeOf (getD s (at + 1) 0) → n ≤ length s - at
       → (r : Record) → r ≡ recordOf (getD s at 0) (getD s (at + 1) 0) (drop (at + 2) s) → Whole r (at + n) ≡ foundAt s at
   unfolding foundAt foundFrom
   found-whole n e k r er =
       rw (two-at s at h, er, e)
-      (pass _ (le-leb (sizeOf (getD s (at + 1) 0)) (2 + length (drop (at + 2) s)) (rw length-drop (omega arith))) refl)
+      (pick-first _ (le-leb (sizeOf (getD s (at + 1) 0)) (2 + length (drop (at + 2) s)) (rw length-drop (omega arith))) refl)
 
 module _ (s : List ℕ) (at : ℕ) where
   pub read-end : foundAt s at ≡ NoBytes → End ≡ readAt s at

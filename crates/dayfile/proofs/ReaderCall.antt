@@ -40,11 +40,11 @@ use Rattle.dayfile.proofs.reader.Reader as T
 use Rattle.dayfile.proofs.reader.Reader.Laws as T′
 
 -- what a caller has after a call that changes nothing: the result at the value that the callee's clause P says, and the tokens
-pub answered : {M : Type 1} (𝓤 : URA M) (H : Heap 𝓤) (A : Atoms 𝓤) (W : Given 𝓤 H A)
+pub call-answered : {M : Type 1} (𝓤 : URA M) (H : Heap 𝓤) (A : Atoms 𝓤) (W : Given 𝓤 H A)
     (R : RattleType) (x : R .Denot) (tokens : SProp 𝓤) (P : R .Denot → SProp 𝓤)
     → ((r : R .Denot) → ent 𝓤 (P r) (fact 𝓤 (r ≡ x))) → (u : Val)
     → ent 𝓤 (H .⇛ (ex 𝓤 (λ (r : R .Denot). sep 𝓤 (sep 𝓤 tokens (sem 𝓤 H A (R .own r (u ∷ [])))) (P r)))) (H .⇛ (sep 𝓤 (sem 𝓤 H A (R .own x (u ∷ []))) tokens))
-answered 𝓤 H A W R x tokens P said u =
+call-answered 𝓤 H A W R x tokens P said u =
     qed W (later (some (λ (r : R .Denot). (raw tokens ⊛ ‵ (R .own r (u ∷ []))) ⊛ raw (P r))) ∷ []) ∵ updating ! $ await ! tt $ pick ! (λ r.
     split ! $ move ! (1 ∷ []) $ use1 W (raw (fact 𝓤 (r ≡ x))) (said r) $ heard ! (r ≡ x) (λ e.
     split ! $ move ! (1 ∷ []) $ rewrite ! 0 (λ (y : R .Denot). ‵ (R .own y (u ∷ []))) e refl $ at-once ! $ done !))
@@ -92,8 +92,8 @@ module _ (R : RattleType) (f : List ℕ → ℕ → R .Denot) {M : Type 1} (𝓤
   asked : ent 𝓤 (onEntry 𝓤 H A (signatureOf R) (a .lft, tt) (q, tt) parts passed) (Called R f 𝓤 H A .pre at-call)
   asked = qed W ((‵ (flft (a .lft) q) ⊛ ‵ ftrue) ∷ ‵ (owns (ShrSlice (named 0) (a .lft) u8 ∷ usize ∷ []) parts passed) ∷ []) ∵ join ! $ frame ! $ done !
 
-  pub asks : h .place < 2 ^ 64 → ent 𝓤 (⋆ 𝓤 H A (‵ Own ∷ (‵ (flft (a .lft) q) ⊛ ‵ ftrue) ∷ [])) (sep 𝓤 (Called R f 𝓤 H A .pre at-call) (sem 𝓤 H A Own))
-  asks fits =
+  pub call-asks : h .place < 2 ^ 64 → ent 𝓤 (⋆ 𝓤 H A (‵ Own ∷ (‵ (flft (a .lft) q) ⊛ ‵ ftrue) ∷ [])) (sep 𝓤 (Called R f 𝓤 H A .pre at-call) (sem 𝓤 H A Own))
+  call-asks fits =
       qed W (‵ Own ∷ (‵ (flft (a .lft) q) ⊛ ‵ ftrue) ∷ []) ∵
       use1 W (‵ Own ⊛ ‵ Own) (LL.copy D (T′.the-copy a) 𝓤 H A W .twice h (T′.lowered h ∷ [])) $ split ! $
       use1 W (given (T′.lowered h ∷ [] ≡ T′.lowered h ∷ []) (‵ (all-own (D .parts) L parts))) (own-open 𝓤 H A W D L parts (T′.lowered h)) $ learn ! (λ _.
@@ -106,5 +106,5 @@ module _ (R : RattleType) (f : List ℕ → ℕ → R .Denot) {M : Type 1} (𝓤
   said : (r : R .Denot) → ent 𝓤 (ensured 𝓤 H A (endedOf R) (clausesOf R f 𝓤) (a .lft, tt) parts tt r) (fact 𝓤 (r ≡ found))
   said r = exE 𝓤 _ (λ ws. snd∗ 𝓤 (sem 𝓤 H A (lasts (endedOf R) (a .lft, tt) parts ws)) (fact 𝓤 (r ≡ found)))
 
-  pub gives : (u : Val) → ent 𝓤 (Called R f 𝓤 H A .post at-call u) (H .⇛ (sep 𝓤 (sem 𝓤 H A (R .own found (u ∷ []))) (sep 𝓤 (A .lft (a .lft) q) (emp 𝓤))))
-  gives = answered 𝓤 H A W R found (sep 𝓤 (A .lft (a .lft) q) (emp 𝓤)) (ensured 𝓤 H A (endedOf R) (clausesOf R f 𝓤) (a .lft, tt) parts tt) said
+  pub call-gives : (u : Val) → ent 𝓤 (Called R f 𝓤 H A .post at-call u) (H .⇛ (sep 𝓤 (sem 𝓤 H A (R .own found (u ∷ []))) (sep 𝓤 (A .lft (a .lft) q) (emp 𝓤))))
+  call-gives = call-answered 𝓤 H A W R found (sep 𝓤 (A .lft (a .lft) q) (emp 𝓤)) (ensured 𝓤 H A (endedOf R) (clausesOf R f 𝓤) (a .lft, tt) parts tt) said

@@ -19,13 +19,13 @@ use Rattle.dayfile.specs.Files.{Bytes, WordsFit, AllGood, none, also, Re
 use Rattle.dayfile.specs.Records.{faultOf}
 use Rattle.dayfile.specs.Written.{bodyOf, writtenOf, wroteOf, roomAfter}
 use Rattle.dayfile.specs.Reading.{sizeOf, foundFrom, foundAt, judged, readOf, readAt}
-use Rattle.dayfile.proofs.Apart.{apart}
+use Rattle.dayfile.proofs.Apart.{zero-is-not-one}
 use Rattle.dayfile.proofs.Numbers.{bytes-drop}
-use Rattle.dayfile.proofs.Good.{good, suits-lt}
+use Rattle.dayfile.proofs.Good.{no-fault-good, suits-lt}
 use Rattle.dayfile.proofs.Lengths.{length-body, length-written}
 use Rattle.dayfile.proofs.Answers.{refused-not, wrote-all}
 use Rattle.dayfile.proofs.Bodies.{record-body, written-record}
-use Rattle.dayfile.proofs.Places.{Stands, stands, named-from, next-is, next-within, at-end, end-at}
+use Rattle.dayfile.proofs.Places.{Stands, whole-stands, named-from, next-is, next-within, at-end, end-at}
 
 -- ---- reading what was written
 
@@ -34,7 +34,7 @@ module _ (r : Record) (f : faultOf r ≡ 0) (w : WordsFit r) where
       → foundAt (before ++ (writtenOf r ++ after)) (length before) ≡ Whole r (length before + length (writtenOf r))
   unfolding foundAt writtenOf foundFrom
   found-written before after =
-      let s = good r f in
+      let s = no-fault-good r f in
       let n = length-body r (suits-lt (r .code) (r .named) (s .suit)) in
       let fits = le-leb (sizeOf (r .named)) (2 + length (bodyOf r ++ after)) (simp (length-append, n) (omega arith)) in
       rw (drop-append-seam, record-body r s w after)
@@ -67,8 +67,8 @@ file-reads rs g = file-from rs g []
 -- a piece reads as one list of records only
 pub reads-once : {s : List ℕ} {at : ℕ} {rs rs' : List Record} → Reads s at rs → Reads s at rs' → rs ≡ rs'
 reads-once (done e) (done e') = refl
-reads-once (done e) (more e' p') = apart (cc)
-reads-once (more e p) (done e') = apart (cc)
+reads-once (done e) (more e' p') = zero-is-not-one (cc)
+reads-once (more e p) (done e') = zero-is-not-one (cc)
 reads-once {s} (more {next} {r} {rs} e p) (more {next = next'} {r = r'} {rs = rs'} e' p') =
     let er : r ≡ r' = cc in
     let en : next' ≡ next = cc in
@@ -90,12 +90,12 @@ judged-good x k r n e = by (faultOf x) e
   where
     by : (f : ℕ) → unlessRefused f (Good x k) (λ m. Bad m (x .serial) (x .code) (x .account) k) ≡ Good r n → (f ≡ 0) × (x ≡ r) × (k ≡ n)
     by zero h = (refl, cc, cc)
-    by (suc f) h = apart (cc)
+    by (suc f) h = zero-is-not-one (cc)
 
 good-found : (x : Found) (r : Record) (n : ℕ) → readOf x ≡ Good r n → (x ≡ Whole r n) × (faultOf r ≡ 0)
 unfolding readOf
-good-found NoBytes r n e = apart (cc)
-good-found TooFew r n e = apart (cc)
+good-found NoBytes r n e = zero-is-not-one (cc)
+good-found TooFew r n e = zero-is-not-one (cc)
 good-found (Whole x k) r n e =
     let j = judged-good x k r n e in
     (rw (j .1, j .2), rw (j .1) at (j .0))
@@ -109,7 +109,7 @@ stands-written : (l : List ℕ) (at : ℕ) {r : Record} {next : ℕ} → Bytes l
     → l ≡ writtenOf r ++ drop (4 + 8 * ones (w .named)) (w .rest)
 stands-written l at {r} y f w =
     let h : Bytes (w .code ∷ w .named ∷ w .rest) = rw (w .bytes) at y in
-    let k : w .named < 64 = rw (named-from l at w) at (suits-lt (r .code) (r .named) (good r f .suit)) in
+    let k : w .named < 64 = rw (named-from l at w) at (suits-lt (r .code) (r .named) (no-fault-good r f .suit)) in
     w .bytes
     ∙ sym (written-record (w .code) (w .named) (w .rest) (λ i. h (suc (suc i))) k (omega (arith, w .whole)))
     ∙ ap (λ (x : Record). writtenOf x ++ drop (4 + 8 * ones (w .named)) (w .rest)) (sym (w .is))
@@ -124,19 +124,19 @@ module _ (s : List ℕ) (at : ℕ) {r : Record} {next : ℕ} (read : readAt s at
   written-read y =
       let found = read-found s at read in
       let n : next - at ≡ length (writtenOf r) = omega (arith, read-next) in
-      rw (n, stands-written (drop at s) at (bytes-drop at s y) (found .1) (stands s at (found .0))) (take-append-seam (writtenOf r) _)
+      rw (n, stands-written (drop at s) at (bytes-drop at s y) (found .1) (whole-stands s at (found .0))) (take-append-seam (writtenOf r) _)
 
 -- ---- a whole day file, read and written back
 
 end-found : (x : Found) → readOf x ≡ End → x ≡ NoBytes
 unfolding readOf judged
 end-found NoBytes e = refl
-end-found TooFew e = apart (cc)
+end-found TooFew e = zero-is-not-one (cc)
 end-found (Whole r next) e = by (faultOf r) e
   where
     by : (f : ℕ) → unlessRefused f (Good r next) (λ m. Bad m (r .serial) (r .code) (r .account) next) ≡ End → Whole r next ≡ NoBytes
-    by zero h = apart (cc)
-    by (suc f) h = apart (cc)
+    by zero h = zero-is-not-one (cc)
+    by (suc f) h = zero-is-not-one (cc)
 
 -- the end is read exactly where the piece has no byte at the place
 read-end-at : (s : List ℕ) (at : ℕ) → readAt s at ≡ End → length s ≤ at

@@ -11,8 +11,8 @@ abbrev pub startOf : RefT (List ℕ) → Reader
 startOf piece = record { piece = piece; place = 0 }
 
 -- what stands at a reader's place
-abbrev pub seenBy : Reader → Read
-seenBy r = readAt (now (r .piece)) (r .place)
+abbrev pub readBy : Reader → Read
+readBy r = readAt (now (r .piece)) (r .place)
 
 -- a reader of the same piece at another place
 abbrev pub movedTo : Reader → ℕ → Reader

@@ -6,7 +6,7 @@ use lib.Dec.{leb}
 use lib.ListN.{length}
 use Rattle.sums.specs.Choice.{unlessRefused}
 use Rattle.sums.specs.Table.{Line, _when_, first}
-use Rattle.sums.specs.Room.{over}
+use Rattle.sums.specs.Room.{atStart}
 use Rattle.dayfile.specs.declared.Record.{Record}
 use Rattle.dayfile.specs.declared.Wrote.{Wrote}
 use Rattle.dayfile.specs.declared.Wrote.the-variants.{Written, Refused}
@@ -53,7 +53,7 @@ wroteOf r room = unlessRefused (writerRefusal r room) (Written (length (writtenO
 
 -- "it then writes nothing. When it writes, the room past the record stays unchanged."
 unfoldable pub roomAfter : Record → List ℕ → List ℕ
-roomAfter r room = unlessRefused (writerRefusal r room) (over (writtenOf r) room) (λ n. room)
+roomAfter r room = unlessRefused (writerRefusal r room) (atStart (writtenOf r) room) (λ n. room)
 
 -- document 01's number of what the writer answered
 abbrev pub refusalWrote : Wrote → ℕ

@@ -1,5 +1,6 @@
 // The day file: what stands at a place of a piece, and a record's bytes.
-use rows::Kinds;
+pub use rows::CEILING;
+pub use rows::Kinds;
 
 pub mod reader;
 mod reading;

@@ -1,7 +1,7 @@
 // The reader: a lent piece of the day file and a place in it. Each call takes the reader apart and leaves the work to a function on the piece.
 ghost use mathlib.Core.Path.{_≡_};
 ghost use Rattle.dayfile.specs.Reading.{placeAfter};
-ghost use Rattle.dayfile.specs.Reader.{startOf, seenBy, movedTo};
+ghost use Rattle.dayfile.specs.Reader.{startOf, readBy, movedTo};
 ghost use Rattle.dayfile.specs.Taking.{tookAt};
 use crate::Read;
 use crate::reading::read_at;
@@ -54,14 +54,14 @@ pub fn new<'a>(piece: &'a [u8]) -> Reader<'a>
 
 // What stands at the reader's place; the reader is a copy, and the caller's stays.
 pub fn peek<'a>(r: Reader<'a>) -> Read
-    ensures { λ a. ⌜ a ≡ seenBy (r .entry) ⌝ }
+    ensures { λ a. ⌜ a ≡ readBy (r .entry) ⌝ }
 {
     read_at(r.piece, r.place)
 }
 
 // The same, and the reader moves past the record.
 pub fn next<'s, 'a>(r: &'s mut Reader<'a>) -> Read
-    ensures answer { λ a. ⌜ a ≡ seenBy (now (r .entry)) ⌝ }
+    ensures answer { λ a. ⌜ a ≡ readBy (now (r .entry)) ⌝ }
     ensures reader { λ a. ⌜ now (r .exit) ≡ movedTo (now (r .entry)) (placeAfter a (now (r .entry) .place)) ⌝ }
 {
     let t = next_at(r.piece, r.place);

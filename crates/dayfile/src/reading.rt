@@ -1,10 +1,11 @@
 // What stands at a place of a piece of the day file.
 ghost use mathlib.Core.Path.{_≡_};
-ghost use Prim.Native.Nat.{_+_, _*_, _≤_};
+ghost use Prim.Native.Nat.{_+_, _*_, _≤_, _<_};
 ghost use lib.ListN.{length, drop};
 ghost use lib.Count.{ones};
 ghost use Rattle.dayfile.specs.Bytes.{number};
 ghost use Rattle.dayfile.specs.Reading.{got, recordOf, foundAt, readAt};
+ghost use Rattle.dayfile.specs.Taking.{placesFrom};
 use crate::Found;
 use crate::Read;
 use crate::Record;
@@ -35,37 +36,85 @@ fn amount_at(piece: &[u8], place: usize, bit: u8) -> u64
     if bit == 0 { 0 } else { number8(piece, place) }
 }
 
+// The same where eight bytes follow in any case: no branch is taken by the bit.
+fn amount_near(piece: &[u8], place: usize, bit: u8) -> u64
+    requires { ⌜ (place + 8 ≤ length (now piece)) × (bit < 2) ⌝ }
+    ensures { λ r. ⌜ r ≡ got bit (drop place (now (piece .entry))) ⌝ }
+{
+    bit as u64 * number8(piece, place)
+}
+
+// Where each of a record's six amounts stands, or would stand.
+struct Places {
+    p0: usize,
+    p1: usize,
+    p2: usize,
+    p3: usize,
+    p4: usize,
+    p5: usize,
+}
+
+fn places_of(place: usize, named: u8) -> Places
+    requires { ⌜ place < 9_223_372_036_854_775_808 ⌝ }
+    ensures { λ p. ⌜ p ≡ placesFrom place named ⌝ }
+{
+    let p0 = place + 2 + 2;
+    let p1 = p0 + 8 * ((named / 1 % 2) as usize);
+    let p2 = p1 + 8 * ((named / 2 % 2) as usize);
+    let p3 = p2 + 8 * ((named / 4 % 2) as usize);
+    let p4 = p3 + 8 * ((named / 8 % 2) as usize);
+    let p5 = p4 + 8 * ((named / 16 % 2) as usize);
+    Places {
+        p0,
+        p1,
+        p2,
+        p3,
+        p4,
+        p5,
+    }
+}
+
 // The record whose bytes after the mark stand at a place.
 fn record_at(piece: &[u8], place: usize, code: u8, named: u8) -> Record
     requires { ⌜ place + (4 + 8 * ones named) ≤ length (now piece) ⌝ }
     ensures { λ r. ⌜ r ≡ recordOf code named (drop place (now (piece .entry))) ⌝ }
 {
-    let b0 = named / 1 % 2;
-    let b1 = named / 2 % 2;
-    let b2 = named / 4 % 2;
-    let b3 = named / 8 % 2;
-    let b4 = named / 16 % 2;
-    let b5 = named / 32 % 2;
-    let pa = place + 2;
-    let p0 = pa + 2;
-    let p1 = p0 + 8 * (b0 as usize);
-    let p2 = p1 + 8 * (b1 as usize);
-    let p3 = p2 + 8 * (b2 as usize);
-    let p4 = p3 + 8 * (b3 as usize);
-    let p5 = p4 + 8 * (b4 as usize);
+    let p = places_of(place, named);
     Record {
         serial: number2(piece, place),
         code,
         named,
-        account: number2(piece, pa),
+        account: number2(piece, place + 2),
         kinds: Kinds {
-            cash: amount_at(piece, p0, b0),
-            deposits: amount_at(piece, p1, b1),
-            guarantees: amount_at(piece, p2, b2),
-            securities: amount_at(piece, p3, b3),
+            cash: amount_at(piece, p.p0, named / 1 % 2),
+            deposits: amount_at(piece, p.p1, named / 2 % 2),
+            guarantees: amount_at(piece, p.p2, named / 4 % 2),
+            securities: amount_at(piece, p.p3, named / 8 % 2),
         },
-        pledged: amount_at(piece, p4, b4),
-        margin: amount_at(piece, p5, b5),
+        pledged: amount_at(piece, p.p4, named / 16 % 2),
+        margin: amount_at(piece, p.p5, named / 32 % 2),
+    }
+}
+
+// The same where the longest record would end within the piece.
+fn record_near(piece: &[u8], place: usize, code: u8, named: u8) -> Record
+    requires { ⌜ place + 68 ≤ length (now piece) ⌝ }
+    ensures { λ r. ⌜ r ≡ recordOf code named (drop place (now (piece .entry))) ⌝ }
+{
+    let p = places_of(place, named);
+    Record {
+        serial: number2(piece, place),
+        code,
+        named,
+        account: number2(piece, place + 2),
+        kinds: Kinds {
+            cash: amount_near(piece, p.p0, named / 1 % 2),
+            deposits: amount_near(piece, p.p1, named / 2 % 2),
+            guarantees: amount_near(piece, p.p2, named / 4 % 2),
+            securities: amount_near(piece, p.p3, named / 8 % 2),
+        },
+        pledged: amount_near(piece, p.p4, named / 16 % 2),
+        margin: amount_near(piece, p.p5, named / 32 % 2),
     }
 }
 
@@ -85,6 +134,10 @@ pub fn found_at(piece: &[u8], place: usize) -> Found
     let n = size(named);
     if left < n {
         return Found::Cut;
+    }
+    if 70 <= left {
+        let record = record_near(piece, place + 2, code, named);
+        return Found::Whole(record, place + n);
     }
     let record = record_at(piece, place + 2, code, named);
     Found::Whole(record, place + n)

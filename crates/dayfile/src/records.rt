@@ -1,9 +1,14 @@
 // A record's length, and its fault.
+ghost use mathlib.Core.Bool.{true, _&&_};
 ghost use mathlib.Core.Path.{_≡_};
+ghost use Prim.Native.Nat.{_<_};
+ghost use lib.Dec.{leb, eqb};
 ghost use Rattle.dayfile.specs.Records.{knownCode, suits, goodAmount, goodAmounts, faultOf};
 ghost use Rattle.dayfile.specs.Reading.{sizeOf};
+ghost use Rattle.dayfile.specs.Taking.{markOf};
 use crate::Record;
 use rows::CEILING;
+use rows::Kinds;
 
 // The length in bytes of a record with this second mark byte.
 pub fn size(named: u8) -> usize
@@ -19,33 +24,74 @@ fn known_code(code: u8) -> bool
     (1 <= code) & (code <= 11)
 }
 
+// Codes 4 to 7 name kinds and nothing else.
+fn names_kinds(code: u8) -> bool
+    ensures { λ r. ⌜ r ≡ (leb 4 code && leb code 7) ⌝ }
+{
+    (4 <= code) & (code <= 7)
+}
+
+// The one second mark byte that suits any other code.
+fn mark_of(code: u8) -> u8
+    ensures { λ r. ⌜ r ≡ markOf code ⌝ }
+{
+    if code == 10 {
+        return 32;
+    }
+    if (8 <= code) & (code <= 9) { 16 } else { 0 }
+}
+
 fn suits_code(code: u8, named: u8) -> bool
+    requires { ⌜ knownCode code ≡ true ⌝ }
     ensures { λ r. ⌜ r ≡ suits code named ⌝ }
 {
-    let opening = (1 <= code) & (code <= 3) & (named == 0);
-    let kinds = (4 <= code) & (code <= 7) & (1 <= named) & (named <= 15);
-    let pledge = (8 <= code) & (code <= 9) & (named == 16);
-    let margin = (code == 10) & (named == 32);
-    let retire = (code == 11) & (named == 0);
-    opening | kinds | pledge | margin | retire
+    if names_kinds(code) {
+        return (1 <= named) & (named <= 15);
+    }
+    named == mark_of(code)
 }
 
-fn good_amount(bit: u8, least: u64, x: u64) -> bool
-    ensures { λ r. ⌜ r ≡ goodAmount bit least x ⌝ }
+// An amount whose bit is 1 or 0: from 1 to the ceiling, or 0.
+fn good_amount(bit: u8, x: u64) -> bool
+    requires { ⌜ bit < 2 ⌝ }
+    ensures { λ r. ⌜ r ≡ goodAmount bit 1 x ⌝ }
 {
-    (bit == 0) & (x == 0) | !(bit == 0) & (least <= x) & (x <= CEILING)
+    let least = bit as u64;
+    (least <= x) & (x <= least * CEILING)
 }
 
+// A margin may be 0.
+fn good_margin(bit: u8, x: u64) -> bool
+    requires { ⌜ bit < 2 ⌝ }
+    ensures { λ r. ⌜ r ≡ goodAmount bit 0 x ⌝ }
+{
+    x <= bit as u64 * CEILING
+}
+
+fn no_kinds(k: Kinds) -> bool
+    ensures { λ r. ⌜ r ≡ (eqb (k .cash) 0 && eqb (k .deposits) 0 && eqb (k .guarantees) 0 && eqb (k .securities) 0) ⌝ }
+{
+    (k.cash == 0) & (k.deposits == 0) & (k.guarantees == 0) & (k.securities == 0)
+}
+
+// Of amounts that the second mark byte, which suits the code, can't name, only that they are 0 is asked.
 fn good_amounts(record: Record) -> bool
+    requires { ⌜ (knownCode («record» .code) ≡ true) × (suits («record» .code) («record» .named) ≡ true) ⌝ }
     ensures { λ r. ⌜ r ≡ goodAmounts «record» ⌝ }
 {
     let named = record.named;
-    good_amount(named / 1 % 2, 1, record.kinds.cash)
-        & good_amount(named / 2 % 2, 1, record.kinds.deposits)
-        & good_amount(named / 4 % 2, 1, record.kinds.guarantees)
-        & good_amount(named / 8 % 2, 1, record.kinds.securities)
-        & good_amount(named / 16 % 2, 1, record.pledged)
-        & good_amount(named / 32 % 2, 0, record.margin)
+    let k = record.kinds;
+    if names_kinds(record.code) {
+        return good_amount(named / 1 % 2, k.cash)
+            & good_amount(named / 2 % 2, k.deposits)
+            & good_amount(named / 4 % 2, k.guarantees)
+            & good_amount(named / 8 % 2, k.securities)
+            & (record.pledged == 0)
+            & (record.margin == 0);
+    }
+    no_kinds(k)
+        & good_amount(named / 16 % 2, record.pledged)
+        & good_margin(named / 32 % 2, record.margin)
 }
 
 // The first of 4, 5, 6 that applies, or 0.

@@ -1,4 +1,4 @@
-// Document 01's example file and two records more, written and read back.
+// Records written and read back: document 01's example and two more.
 ghost use mathlib.Core.Path.{_≡_};
 ghost use lib.ListN.{length};
 use crate::made;
@@ -7,10 +7,10 @@ use dayfile::Read;
 use dayfile::Record;
 use dayfile::Wrote;
 
-fn blank() -> [u8; 128]
-    ensures { λ r. ⌜ 128 ≡ length r ⌝ }
+fn blank() -> [u8; 70]
+    ensures { λ r. ⌜ 70 ≡ length r ⌝ }
 {
-    [0; 128]
+    [0; 70]
 }
 
 fn with_head(mut r: Record, serial: u16, account: u16) -> Record {
@@ -40,75 +40,37 @@ fn hex(bytes: &[u8]) {
     shown::end_line();
 }
 
-// Writes a record at a place, shows its bytes, and gives the place after it.
-fn put(room: &mut [u8], at: usize, record: Record) -> usize {
-    if room.len() < at {
-        return at;
-    }
-    match dayfile::write(record, &mut room[at..]) {
-        Wrote::Written(n) => {
-            if n <= room.len() - at {
-                hex(&room[at..at + n]);
-                return at + n;
-            }
-            at
-        }
-        Wrote::Refused(_) => at,
-    }
-}
-
-fn one(i: u8) -> Record {
-    match i {
-        0 => with_head(made::record(1, 0, 0, 0), 0, 0),
-        1 => with_head(made::record(2, 0, 0, 0), 1, 1),
-        2 => with_head(made::record(4, 1, 0, 30000), 2, 2),
-        3 => with_head(made::record(6, 1, 0, 30000), 3, 2),
-        4 => with_head(made::record(10, 32, 5, 60000), 4, 2),
-        5 => made::four_kinds(),
-        _ => with_head(made::record(9, 16, 4, 1), 65535, 65535),
-    }
-}
-
-fn put_all(room: &mut [u8]) -> usize {
-    let mut at = 0;
-    let mut i: u8 = 0;
-    while i < 7 {
-        at = put(room, at, one(i));
-        i += 1;
-    }
-    at
-}
-
-fn last(read: Read) {
-    shown::say(b"then");
-    shown::answer(read);
-    shown::end_line();
-}
-
-fn read_all(piece: &[u8]) {
-    let mut at = 0;
-    loop {
-        match dayfile::read_at(piece, at) {
-            Read::Good(record, next) => {
-                shown::words(record);
-                at = next;
-            }
-            other => {
-                last(other);
-                return;
-            }
+fn read_back(bytes: &[u8]) {
+    hex(bytes);
+    match dayfile::read_at(bytes, 0) {
+        Read::Good(record, _) => shown::words(record),
+        other => {
+            shown::answer(other);
+            shown::end_line();
         }
     }
 }
 
 fn read_first(room: &[u8], n: usize) {
     if n <= room.len() {
-        read_all(&room[..n]);
+        read_back(&room[..n]);
+    }
+}
+
+fn there_and_back(record: Record) {
+    let mut room = blank();
+    match dayfile::write(record, &mut room) {
+        Wrote::Written(n) => read_first(&room, n),
+        Wrote::Refused(reason) => shown::number(reason as u64),
     }
 }
 
 pub fn lines() {
-    let mut room = blank();
-    let n = put_all(&mut room);
-    read_first(&room, n);
+    there_and_back(with_head(made::record(1, 0, 0, 0), 0, 0));
+    there_and_back(with_head(made::record(2, 0, 0, 0), 1, 1));
+    there_and_back(with_head(made::record(4, 1, 0, 30000), 2, 2));
+    there_and_back(with_head(made::record(6, 1, 0, 30000), 3, 2));
+    there_and_back(with_head(made::record(10, 32, 5, 60000), 4, 2));
+    there_and_back(made::four_kinds());
+    there_and_back(with_head(made::record(9, 16, 4, 1), 65535, 65535));
 }

@@ -1,25 +1,15 @@
-// Cases of the day file, printed.
+// What no day file can show of reading and writing: amounts that a record doesn't name, places past the end, the writer's rooms, and a
+// record's words written and read back.
 mod amounts;
-mod codes;
 mod example;
 mod made;
 mod places;
 mod rooms;
 mod shown;
-mod tally;
 
 fn main() {
-    places::p11();
-    codes::lines();
-    amounts::line(0);
-    amounts::line(1);
-    amounts::line(2);
-    amounts::line(3);
-    amounts::line(4);
-    amounts::line(5);
     amounts::unnamed_line();
-    places::cut_lines();
-    places::place_lines();
+    places::lines();
     rooms::lines();
     rooms::order_line();
     example::lines();

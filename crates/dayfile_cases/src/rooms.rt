@@ -3,7 +3,6 @@ ghost use mathlib.Core.Path.{_≡_};
 ghost use lib.ListN.{length};
 use crate::made;
 use crate::shown;
-use crate::tally;
 use dayfile::Record;
 use dayfile::Wrote;
 
@@ -29,7 +28,7 @@ fn filled() -> [u8; 71]
 }
 
 // Whether each byte from a place on is still 170.
-fn kept_from(room: &[u8], from: usize) -> bool {
+fn unchanged_from(room: &[u8], from: usize) -> bool {
     let mut i = from;
     while i < room.len() {
         if room[i] != 170 {
@@ -60,13 +59,13 @@ fn write_first(record: Record, room: &mut [u8], n: usize) -> Wrote {
 fn outcome(wrote: Wrote, room: &[u8], wanted: &[u8]) -> Room {
     match wrote {
         Wrote::Refused(reason) => {
-            if (reason == 15) & kept_from(room, 0) {
+            if (reason == 15) & unchanged_from(room, 0) {
                 return Room::Refused;
             }
             Room::Other
         }
         Wrote::Written(n) => {
-            if same_first(room, wanted, n) & kept_from(room, n) {
+            if same_first(room, wanted, n) & unchanged_from(room, n) {
                 return Room::Written;
             }
             Room::Other
@@ -82,23 +81,27 @@ fn tried(record: Record, n: usize) -> Room {
     outcome(wrote, &room, &wanted)
 }
 
+fn one_more(n: u64) -> u64 {
+    std::num::wrapping_add_u64(n, 1)
+}
+
 fn with_written(mut t: Rooms, n: usize) -> Rooms {
     if t.written == 0 {
         t.shortest = n as u64;
     }
-    t.written = tally::add(t.written, 1);
+    t.written = one_more(t.written);
     t
 }
 
 fn with(mut t: Rooms, room: Room, n: usize) -> Rooms {
     match room {
         Room::Refused => {
-            t.refused = tally::add(t.refused, 1);
+            t.refused = one_more(t.refused);
             t
         }
         Room::Written => with_written(t, n),
         Room::Other => {
-            t.others = tally::add(t.others, 1);
+            t.others = one_more(t.others);
             t
         }
     }

@@ -22,7 +22,7 @@ pub fn end_line() {
     say(b"\n");
 }
 
-// The end, 2, the place after a good record, or the refusal with what comes with it.
+// The end, 2, the place after a good record, or the refusal.
 pub fn answer(read: Read) {
     match read {
         Read::End => say(b" end"),
@@ -36,13 +36,7 @@ pub fn answer(read: Read) {
             code,
             account,
             next,
-        } => {
-            number(reason as u64);
-            pair(b", serial", serial as u64);
-            pair(b", code", code as u64);
-            pair(b", account", account as u64);
-            pair(b", next", next as u64);
-        }
+        } => number(reason as u64),
     }
 }
 

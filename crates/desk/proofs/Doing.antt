@@ -1,4 +1,4 @@
--- A step by the change that its record makes.
+-- A step by the change that its record makes: the answer and the book, for each of refused, put and opened.
 use mathlib.Core.Bool.{true, false, not}
 use mathlib.Core.List.{List}
 use mathlib.Core.Logic.{_⊎_, inl, inr}
@@ -8,7 +8,7 @@ use borrow.Author.Tests.{ne-eqb, le-leb, lt-leb}
 use Rattle.sums.specs.Choice.{pick, unlessRefused}
 use native.Mathlib.Omega.{arith}
 use lib.Dec.{eqb}
-use Rattle.sums.proofs.Choices.{pass, stop, pick-no}
+use Rattle.sums.proofs.Choices.{pick-first, pick-second, pick-no}
 use Rattle.sums.proofs.Tables.{first-here}
 use Rattle.rows.specs.declared.Row.{Row}
 use Rattle.rows.specs.declared.Book.{Book}
@@ -74,8 +74,8 @@ unsound-step b r e = step-by b r (Refuse 1) (ap (λ n. unlessRefused n (effectOf
 module _ (b : Book) (s : List ℕ) (at : ℕ) where
   pub unsound-next : soundB b ≡ false → _≡_ {A = Next} (record { answer = nobody (Refused 1); book = b; place = at }) (nextOf b s at)
   unfolding nextOf
-  unsound-next e = stop _ e refl
+  unsound-next e = pick-second _ e refl
 
   pub sound-next : (f : Found) → soundB b ≡ true → foundAt s at ≡ f → onFound b at f ≡ nextOf b s at
   unfolding nextOf
-  sound-next f e h = pass _ e (ap (onFound b at) (sym h))
+  sound-next f e h = pick-first _ e (ap (onFound b at) (sym h))

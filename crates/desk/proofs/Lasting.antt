@@ -8,10 +8,10 @@ use lib.Dec.{leb, eqb}
 use lib.ListN.{length}
 use borrow.Author.Tests.{leb-false}
 use Rattle.sums.specs.Choice.{pick}
-use Rattle.sums.proofs.Choices.{clash}
+use Rattle.sums.proofs.Choices.{test-clash}
 use Rattle.rows.specs.declared.Book.{Book}
 use Rattle.rows.specs.Rows.{places, rowAt, openedRow}
-use Rattle.rows.proofs.RowPut.{row-other, below}
+use Rattle.rows.proofs.RowPut.{row-other, opened-below}
 use Rattle.dayfile.specs.declared.Record.{Record}
 use Rattle.rules.specs.declared.Change.{Change}
 use Rattle.rules.specs.declared.Change.the-variants.{Refuse, Put, Open}
@@ -49,7 +49,7 @@ module _ (b : Book) (r : Record) where
   others-stay i l ne = by (refusalOf b r) refl
     where
       passing : Passes b r → (t : Bool) → isOpening r ≡ t → rowAt (after t) i ≡ rowAt b i
-      passing p true e = below b (openedRow (r .code) (r .account)) (room-left p e) i l
+      passing p true e = opened-below b (openedRow (r .code) (r .account)) (room-left p e) i l
       passing p false e = row-other b (r .account) i (amended (namedRow b r) r) ne
 
       by : (n : ℕ) → refusalOf b r ≡ n → rowAt (stepOf b r .book) i ≡ rowAt b i
@@ -62,7 +62,7 @@ module _ (b : Book) (r : Record) where
     where
       by : Dec (i ≡ r .account) → Dec (refusalOf b r ≡ 0) → rowAt (stepOf b r .book) i ≡ rowAt b i
       by (no ne) q = others-stay i l ne
-      by (yes e) (yes z) = clash (ap (λ k. rowAt b k .live) e ∙ passes-all b r z .live) dead
+      by (yes e) (yes z) = test-clash (ap (λ k. rowAt b k .live) e ∙ passes-all b r z .live) dead
       by (yes e) (no z) = refusal-keeps (omega arith) .0 i
 
   -- the number of accounts never falls

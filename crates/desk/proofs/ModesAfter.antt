@@ -24,7 +24,7 @@ use Rattle.rules.specs.Refusals.{isOpening, namedRow, refusalOf}
 use Rattle.rules.specs.Effects.{amended, effectOf, movedOn, changedBy, bookAfter}
 use Rattle.rules.proofs.Passing.{passes-all}
 use Rattle.rules.proofs.Deciding.{passes-as}
-use Rattle.rules.proofs.Kept.{put-looks, put-aside, open-looks, open-needs}
+use Rattle.rules.proofs.Moves.{put-looks, put-aside, open-looks, open-needs}
 use Rattle.desk.specs.Steps.{stepOf}
 use Rattle.desk.proofs.Effect.{early-refusal, later-refusal, passed-as}
 
@@ -36,10 +36,10 @@ module _ (b : Book) (r : Record) where
   putRow = amended (namedRow b r) r
 
   -- the change alone leaves the modes
-  modes-kept : (t : Bool) → changedBy b (r .account) (pick t (Open newRow) (Put putRow)) .modes ≡ b .modes
+  modes-same : (t : Bool) → changedBy b (r .account) (pick t (Open newRow) (Put putRow)) .modes ≡ b .modes
   unfolding pick
-  modes-kept true = refl
-  modes-kept false = refl
+  modes-same true = refl
+  modes-same false = refl
 
   -- what is carried out ends in a look, with needs worked out afresh
   pub carried-book : refusalOf b r ≡ 0
@@ -55,7 +55,7 @@ module _ (b : Book) (r : Record) where
   pub modes-after : refusalOf b r ≡ 0 → stepOf b r .book .modes ≡ looked (view (stepOf b r .book)) (b .modes)
   modes-after e =
       let c = changedBy b (r .account) (effectOf (namedRow b r) (r .account) r) in
-      ap (λ x. x .modes) (carried-book e) ∙ ap (looked (view c)) (modes-kept (isOpening r)) ∙ sym (ap (λ x. looked (view x) (b .modes)) (carried-book e))
+      ap (λ x. x .modes) (carried-book e) ∙ ap (looked (view c)) (modes-same (isOpening r)) ∙ sym (ap (λ x. looked (view x) (b .modes)) (carried-book e))
 
   pub mode-after : refusalOf b r ≡ 0 → (i : ℕ) → i < 256 → modeAt (stepOf b r .book) i ≡ lookAt (view (stepOf b r .book)) (b .modes) i
   mode-after e i l = ap (λ m. getD m i false) (modes-after e) ∙ looked-at (view (stepOf b r .book)) (b .modes) i l

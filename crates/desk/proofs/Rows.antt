@@ -9,11 +9,11 @@ use Rattle.rows.specs.declared.Row.{Row}
 use Rattle.rows.specs.declared.Book.{Book}
 use Rattle.rows.specs.Rows.{rowAt, openedRow, withRow, withNew}
 use Rattle.rows.specs.KeptNeeds.{settled}
-use Rattle.rows.proofs.RowPut.{row-same, new, below}
+use Rattle.rows.proofs.RowPut.{row-same, opened-new, opened-below}
 use Rattle.dayfile.specs.declared.Record.{Record}
 use Rattle.rules.specs.Refusals.{isOpening, namedRow, refusalOf}
 use Rattle.rules.specs.Effects.{amended, movedOn}
-use Rattle.rules.proofs.Kept.{amended-same}
+use Rattle.rules.proofs.Moves.{amended-same}
 use Rattle.rules.proofs.Passing.{Passes, passes-all}
 use Rattle.desk.specs.declared.Outcome.the-variants.{CarriedOut, Opened}
 use Rattle.desk.specs.Answers.{refusalIn}
@@ -42,10 +42,10 @@ module _ (b : Book) (r : Record) where
 
       -- the next number's row is the one opened, and each row there was stays
       pub new-after : rowAt (stepOf b r .book) (b .count) ≡ openedRow (r .code) (r .account)
-      new-after = ap (λ x. rowAt x (b .count)) open-book ∙ new b (openedRow (r .code) (r .account)) (room-left b r passes o)
+      new-after = ap (λ x. rowAt x (b .count)) open-book ∙ opened-new b (openedRow (r .code) (r .account)) (room-left b r passes o)
 
-      pub open-keeps : (i : ℕ) → i < b .count → rowAt (stepOf b r .book) i ≡ rowAt b i
-      open-keeps i l = ap (λ x. rowAt x i) open-book ∙ below b (openedRow (r .code) (r .account)) (room-left b r passes o) i l
+      pub open-deemed : (i : ℕ) → i < b .count → rowAt (stepOf b r .book) i ≡ rowAt b i
+      open-deemed i l = ap (λ x. rowAt x i) open-book ∙ opened-below b (openedRow (r .code) (r .account)) (room-left b r passes o) i l
 
   -- by the answer
   pub opened-keeps : (n : ℕ) → stepOf b r .answer .outcome ≡ Opened n → (i : ℕ) → i < b .count → rowAt (stepOf b r .book) i ≡ rowAt b i
@@ -55,7 +55,7 @@ module _ (b : Book) (r : Record) where
       carried = sym (answer-number b r) ∙ ap refusalIn e
 
       by : (t : Bool) → isOpening r ≡ t → rowAt (stepOf b r .book) i ≡ rowAt b i
-      by true o = open-keeps carried o i l
+      by true o = open-deemed carried o i l
       by false o =
           let p = passed-as b r carried ∙ ap (doneBy b r) (pick-no (isOpening r) _ _ o) in
           let q : CarriedOut ≡ Opened n = sym (ap (λ d. d .answer .outcome) p) ∙ e in
@@ -74,7 +74,7 @@ module _ (b : Book) (r : Record) where
       by (no ne) q t o = same _ (others-stay b r i l ne) (refl, refl)
       by (yes e) (no z) t o =
           same _ (refusal-keeps b r (omega arith) .0 i) (refl, refl)
-      by (yes e) (yes z) true o = same _ (open-keeps z o i l) (refl, refl)
+      by (yes e) (yes z) true o = same _ (open-deemed z o i l) (refl, refl)
       by (yes e) (yes z) false o =
           let k = amended-same (namedRow b r) r in
           same _ (ap (rowAt (stepOf b r .book)) e ∙ named-after z o)

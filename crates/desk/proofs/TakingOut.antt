@@ -5,7 +5,7 @@ use mathlib.Core.Path.{_≡_, refl, sym, ap, _∙_}
 use Prim.Native.Nat.{ℕ, _≤_, _<_}
 use native.Mathlib.Omega.{arith}
 use native.Mathlib.Decide.{ℕ-discrete}
-use Rattle.sums.proofs.Choices.{clash}
+use Rattle.sums.proofs.Choices.{test-clash}
 use Rattle.rows.specs.declared.Row.{Row}
 use Rattle.rows.specs.declared.Book.{Book}
 use Rattle.rows.specs.Rows.{rowAt, modeAt, withLive, withReceived, withMargin, plusKinds, lessKinds}
@@ -14,11 +14,11 @@ use Rattle.dayfile.specs.declared.Record.{Record}
 use Rattle.rules.specs.Refusals.{isOpening, namedRow, heldByMode, refusalOf}
 use Rattle.rules.specs.Effects.{amended}
 use Rattle.rules.proofs.Passing.{Passes, passes-all}
-use Rattle.rules.proofs.Codes.{Code, openTM, openClient, openCP, receive, handBack, allocate, release, pledge, unpledge, margin, retire, which}
+use Rattle.rules.proofs.Codes.{Code, openTM, openClient, openCP, receive, handBack, allocate, release, pledge, unpledge, margin, retire, known-code-cases}
 use Rattle.rules.proofs.Amending.{by-receive, by-hand-back, by-allocate, by-pledge, by-margin, by-retire}
 use Rattle.desk.specs.Steps.{stepOf}
 use Rattle.desk.proofs.Lasting.{refusal-keeps, others-stay}
-use Rattle.desk.proofs.Rows.{named-after, open-keeps}
+use Rattle.desk.proofs.Rows.{named-after, open-deemed}
 
 -- each allocated amount and what is pledged is in the second row at least what it is in the first
 abbrev NoLess : Row → Row → Type 0
@@ -36,15 +36,15 @@ module _ (b : Book) (r : Record) (on : modeAt b (r .account) ≡ true) (p : Pass
 
   -- a release or unpledge would have met 17
   held : heldByMode (modeAt b (r .account)) r ≡ true → NoLess row (amended row r)
-  held e = clash e (p .notHeld)
+  held e = test-clash e (p .notHeld)
 
   amends : isOpening r ≡ false → NoLess row (amended row r)
-  amends o = by (which (r .code) (p .good .known))
+  amends o = by (known-code-cases (r .code) (p .good .known))
     where
       by : Code (r .code) → NoLess row (amended row r)
-      by (openTM e) = clash (rw e) o
-      by (openClient e) = clash (rw e) o
-      by (openCP e) = clash (rw e) o
+      by (openTM e) = test-clash (rw e) o
+      by (openClient e) = test-clash (rw e) o
+      by (openCP e) = test-clash (rw e) o
       by (receive e) = rw (by-receive row r e) (alike row (withReceived row (plusKinds (row .received) (r .kinds))) refl refl)
       by (handBack e) = rw (by-hand-back row r e) (alike row (withReceived row (lessKinds (row .received) (r .kinds))) refl refl)
       by (allocate e) = rw (by-allocate row r e) ((omega arith, omega arith, omega arith, omega arith), omega arith)
@@ -59,7 +59,7 @@ module _ (b : Book) (r : Record) (i : ℕ) (l : i < b .count) (on : modeAt b i �
   nothing-out = by (ℕ-discrete i (r .account)) (ℕ-discrete (refusalOf b r) 0)
     where
       passing : i ≡ r .account → refusalOf b r ≡ 0 → (t : Bool) → isOpening r ≡ t → NoLess (rowAt b i) (rowAt (stepOf b r .book) i)
-      passing e z true o = same-row (open-keeps b r z o i l)
+      passing e z true o = same-row (open-deemed b r z o i l)
       passing e z false o =
           let out = amends b r (ap (modeAt b) (sym e) ∙ on) (passes-all b r z) o in
           rw e (rw (named-after b r z o) out)

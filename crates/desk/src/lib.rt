@@ -7,12 +7,13 @@ ghost use Rattle.desk.specs.Over.{overDone, overNext};
 ghost use Rattle.desk.specs.Inner.{outcomeBy};
 ghost use Rattle.table.specs.Words.{turned, turnedBack};
 use dayfile::Found;
-use dayfile::Record;
+pub use dayfile::Record;
 use rows::Book;
+pub use rows::Kinds;
 use steps::At;
-use table::Table;
+pub use table::Table;
 use table::modes::look_all;
-use table::needs::unders;
+use table::needs::deemed_under;
 
 // What became of a record; the end is no refusal.
 pub enum Outcome {
@@ -93,9 +94,9 @@ fn step_at(t: Table, r: Record) -> Carried
     table::modes::size(was);
     table::needs::size(needs);
     let count = t.count;
-    let mut used = [0u64; 256];
-    unders(&sort, &tm, &amounts, count, true, &mut used);
-    let mut modes = look_all(&sort, &tm, &amounts, count, &used, &was);
+    let mut excess = [0u64; 256];
+    deemed_under(&sort, &tm, &amounts, count, true, &mut excess);
+    let mut modes = look_all(&sort, &tm, &amounts, count, &excess, &was);
     let at = At {
         count,
         serial: t.serial,
@@ -108,7 +109,7 @@ fn step_at(t: Table, r: Record) -> Carried
         &mut amounts,
         &mut modes,
         &mut needs,
-        &mut used,
+        &mut excess,
         &was,
         at,
         r,

@@ -1,107 +1,88 @@
-// Records handed over as values, and books that aren't sound.
-use crate::asked::CASH;
-use crate::asked::DEPOSITS;
-use crate::asked::MARGIN;
-use crate::asked::NONE;
-use crate::asked::OPEN_CLIENT;
-use crate::asked::OPEN_TM;
-use crate::asked::PLEDGE;
-use crate::asked::PLEDGED;
-use crate::asked::RECEIVE;
-use crate::asked::SET_MARGIN;
-use crate::asked::ask;
-use crate::asked::ask_bytes;
-use crate::books;
+// Records handed over as values, and a book that isn't sound.
+use crate::asked::hand;
+use crate::asked::next;
+use crate::asked::record;
 use crate::shown;
-use crate::words;
-use dayfile::Record;
-use rows::Book;
-use rows::Kinds;
+use desk::Kinds;
+use desk::Table;
 
-fn hand(b: Book, r: Record) -> Book {
-    let done = crate::turned::carry_out(b, r);
-    let answer = done.answer;
-    let after = done.book;
-    words::values(r);
-    shown::answer(answer, b, after);
-    shown::end_line();
+const CASH: u8 = 1;
+
+const DEPOSITS: u8 = 2;
+
+const PLEDGED: u8 = 16;
+
+const MARGIN: u8 = 32;
+
+fn opened(t: Table, code: u8, account: u16) -> Table {
+    let c = desk::carry_out(t, record(t, code, 0, account));
+    let after = c.table;
     after
 }
 
-// A record of account 1 with the next serial, that holds no amount.
-fn record(b: Book, code: u8, named: u8) -> Record {
-    Record {
-        serial: b.serial,
-        code,
-        named,
-        account: 1,
-        kinds: Kinds {
-            cash: 0,
-            deposits: 0,
-            guarantees: 0,
-            securities: 0,
-        },
-        pledged: 0,
-        margin: 0,
-    }
+// The CM, TM 1, its client 2, CP 3.
+fn four() -> Table {
+    let t = opened(book::fresh(), 1, 0);
+    let t = opened(t, 2, 1);
+    opened(t, 3, 0)
 }
 
-fn hand_kinds(b: Book, named: u8, cash: u64, deposits: u64, others: u64) -> Book {
+fn receive(t: Table, named: u8, cash: u64, deposits: u64, others: u64) -> Table {
     let kinds = Kinds {
         cash,
         deposits,
         guarantees: others,
         securities: others,
     };
-    let mut r = record(b, RECEIVE, named);
+    let mut r = record(t, 4, named, 1);
     r.kinds = kinds;
-    hand(b, r)
+    hand(t, r)
 }
 
-fn hand_other(b: Book, code: u8, named: u8, pledged: u64, margin: u64) -> Book {
-    let mut r = record(b, code, named);
+fn other(t: Table, code: u8, named: u8, pledged: u64, margin: u64) -> Table {
+    let mut r = record(t, code, named, 1);
     r.pledged = pledged;
     r.margin = margin;
-    hand(b, r)
+    hand(t, r)
 }
 
 fn unnamed() {
     shown::heading(b"values: an unnamed amount that isn't 0 gives 6");
-    let b = books::four();
-    let b = hand_kinds(b, CASH, 5, 0, 0);
-    let b = hand_kinds(b, CASH, 5, 1, 0);
-    let b = hand_kinds(b, CASH, 5, 0, 1);
-    let b = hand_kinds(b, DEPOSITS, 1, 5, 0);
-    let b = hand_other(b, PLEDGE, PLEDGED, 5, 1);
-    let b = hand_other(b, PLEDGE, PLEDGED, 5, 0);
-    hand_other(b, SET_MARGIN, MARGIN, 1, 5);
+    let t = receive(four(), CASH, 5, 0, 0);
+    let t = receive(t, CASH, 5, 1, 0);
+    let t = receive(t, CASH, 5, 0, 1);
+    let t = receive(t, DEPOSITS, 1, 5, 0);
+    let t = other(t, 8, PLEDGED, 5, 1);
+    let t = other(t, 8, PLEDGED, 5, 0);
+    other(t, 10, MARGIN, 1, 5);
 }
 
 fn judged() {
     shown::heading(b"values: checked as one that was read; the second has a serial gone by");
-    let b = books::four();
-    let unknown = record(b, 12, 0);
-    let b = hand(b, unknown);
-    let b = hand(b, unknown);
-    let b = hand(b, record(b, RECEIVE, NONE));
-    hand(b, record(b, OPEN_CLIENT, NONE));
+    let t = four();
+    let unknown = record(t, 12, 0, 1);
+    let t = hand(t, unknown);
+    let t = hand(t, unknown);
+    let t = hand(t, record(t, 4, 0, 1));
+    let t = hand(t, record(t, 2, 0, 4));
+    hand(t, record(t, 2, 0, 1));
 }
 
-// The CM's margin is a paisa, and it has no collateral.
-fn uncovered() -> Book {
-    let mut b = books::four();
-    b.rows[0].margin = 1;
-    b
+// The CM's margin, amount 9 of account 0, is a paisa, and it has no collateral.
+fn uncovered() -> Table {
+    let mut t = four();
+    t.amounts[2304] = 1;
+    t
 }
 
 fn unsound() {
     shown::heading(b"1: the book isn't sound");
-    let b = uncovered();
-    let b = ask(b, RECEIVE, CASH, 1, 1);
-    let b = ask_bytes(b, RECEIVE, CASH, 3, 13, 0);
-    let b = ask_bytes(b, OPEN_TM, NONE, 3, 6, 6);
-    let b = hand(b, record(b, OPEN_CLIENT, NONE));
-    shown::standing(b, 0);
+    let t = uncovered();
+    let receipt = b"\x04\x01\x00\x03\x00\x01\x00\x00\x00\x00\x00\x00\x00\x01";
+    let t = next(b"receive", t, receipt, 0);
+    let t = next(b"cut", t, receipt, 5);
+    let t = next(b"the end", t, receipt, 14);
+    hand(t, record(t, 2, 0, 1));
 }
 
 pub fn lines() {

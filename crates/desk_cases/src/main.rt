@@ -1,33 +1,15 @@
-// Records asked of the desk, and what it answered.
+// What no day file can ask of the desk: a record at a place of a piece, a serial handed over with the book, records handed over as values,
+// and a book that isn't sound.
 mod asked;
-mod books;
 mod changed;
-mod cover;
-mod faults;
-mod figures;
 mod handed;
-mod limits;
-mod made;
-mod named;
-mod pieces;
-mod retired;
-mod serials;
+mod places;
 mod shown;
-mod turned;
-mod words;
 
 fn main() {
     shown::say(
-        b"asked (second mark byte): serial code account refusal given ; next serial, accounts, rows changed, place\n",
+        b"asked: serial code account refusal given ; next serial, accounts, rows changed, place\n",
     );
-    shown::say(b"   standing: collateral need blocked deemed free\n");
-    pieces::lines();
-    serials::lines();
-    faults::lines();
-    named::lines();
-    limits::lines();
-    cover::lines();
-    retired::lines();
-    figures::lines();
+    places::lines();
     handed::lines();
 }

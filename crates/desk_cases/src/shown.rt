@@ -1,8 +1,10 @@
-// Words, numbers, answers and standings on standard output.
+// Words, numbers and answers on standard output.
 use crate::changed;
+use dayfile::Record;
 use desk::Answer;
 use desk::Outcome;
-use rows::Book;
+use desk::Table;
+use table::turn_back;
 
 pub fn say(text: &[u8]) {
     io::write_all(1, text);
@@ -38,8 +40,8 @@ fn outcome(o: Outcome) {
     }
 }
 
-// Serial, code, account, refusal, number given; then the book's next serial, its accounts, and how many rows changed.
-pub fn answer(a: Answer, before: Book, after: Book) {
+// Serial, code, account, refusal, number given; then the table's next serial, its accounts, and how many rows changed.
+pub fn answer(a: Answer, before: Table, after: Table) {
     say(b":");
     number(a.serial as u64);
     number(a.code as u64);
@@ -49,32 +51,20 @@ pub fn answer(a: Answer, before: Book, after: Book) {
     say(b" ;");
     number(after.serial as u64);
     number(after.count as u64);
-    number(changed::rows(before, after));
+    number(changed::rows(turn_back(before), turn_back(after)));
 }
 
-// The place too.
-pub fn next(a: Answer, before: Book, after: Book, place: usize) {
-    answer(a, before, after);
-    number(place as u64);
-    end_line();
-}
-
-// An account's collateral, need, blocked, deemed and free.
-pub fn figures(text: &[u8], b: Book, account: u16) {
-    let s = crate::turned::standing(b, account);
-    say(text);
-    number(s.collateral);
-    number(s.need);
-    number(s.blocked);
-    number(s.deemed);
-    number(s.free);
-}
-
-pub fn standing(b: Book, account: u16) {
-    say(b"   standing of");
-    number(account as u64);
-    say(b": refusal");
-    number(crate::turned::standing(b, account).refusal as u64);
-    figures(b",", b, account);
-    end_line();
+// A record's code, second mark byte and six amounts.
+pub fn values(r: Record) {
+    say(b"code");
+    number(r.code as u64);
+    say(b" (");
+    io::print_decimal(1, r.named as u64);
+    say(b")");
+    number(r.kinds.cash);
+    number(r.kinds.deposits);
+    number(r.kinds.guarantees);
+    number(r.kinds.securities);
+    number(r.pledged);
+    number(r.margin);
 }

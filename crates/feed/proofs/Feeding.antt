@@ -1,57 +1,66 @@
 -- The reading loop: what holds at each turn, one piece more, and where it stops.
-use mathlib.Core.Bool.{Bool, false, _||_}
-use mathlib.Core.List.{List, [], _∷_, _++_, append-assoc, append-nil}
-use mathlib.Core.Logic.{_⊎_, inl, inr}
+use mathlib.Core.Bool.{Bool, true, false}
+use mathlib.Core.List.{List, [], _∷_, _++_}
 use mathlib.Core.Path.{_≡_, refl, sym, ap, _∙_}
 use Prim.Native.Nat.{ℕ, zero, suc, _+_, _-_, _≤_, _<_}
 use native.Mathlib.Omega.{arith}
-use lib.Dec.{ltb}
+use lib.Dec.{leb, ltb}
 use lib.ListN.{length, take, drop}
 use lib.Seq.{length-take-le, take-add, drop-at}
 use borrow.Author.Tests.{ltb-false}
-use Rattle.sums.proofs.Choices.{clash, or-fails}
+use Rattle.sums.specs.Choice.{pick}
 use Rattle.rows.specs.declared.Book.{Book}
 use Rattle.rows.specs.Rows.{freshBook}
 use Rattle.book.specs.Facts.{Sound}
-use Rattle.book.proofs.FreshSound.{fresh-sound}
 use Rattle.dayfile.specs.Files.{Bytes}
 use Rattle.dayfile.proofs.Numbers.{bytes-drop}
-use Rattle.records.specs.declared.Closing.{Closing}
-use Rattle.records.specs.declared.Closing.the-variants.{End, Cut, Long, Unsound}
 use Rattle.records.specs.declared.Ran.{Ran}
 use Rattle.records.specs.Runs.{ranOf}
-use Rattle.records.proofs.SoundRun.{ran-keeps}
-use Rattle.records.proofs.Stops.{Stopped, ran-stops, ran-moves}
-use Rattle.records.proofs.Pieces.{onFrom, on-twice, on-none, restOf, in-pieces}
+use Rattle.records.proofs.Stops.{Stopped}
 use Rattle.table.specs.declared.Table.{Table}
 use Rattle.table.specs.Words.{turned}
-use Rattle.feed.specs.Fed.{dayOf, wholeDay, Came}
+use Rattle.feed.specs.declared.Day.{Day}
+use Rattle.feed.specs.Fed.{noDay, wholeDay, Came}
+use Rattle.feed.specs.Pieces.{Stand, turnMost, turnOf, standAfter, dayBy, after, cameBy}
 use Rattle.feed.specs.Inner.{stopsAt}
+use Rattle.feed.proofs.Pieces.{turn-stops, turn-moves, read-so-far, done-so-far, sound-so-far, last-turn}
 
--- input is what was read up to here; the kept bytes are what is left of it, after a book with these counts
-pub record Feeding (space : List ℕ) (book : Book) (kept read done : ℕ) : Type 0 where
-  pub input : List ℕ
-  pub bytes : Bytes input
-  pub place : ℕ
-  pub size : length space ≡ 65606
-  pub within : kept ≤ 65606
-  pub sound : Sound book
-  pub upto : read ≤ 1_000_000
-  pub fewer : done ≤ read
-  pub same : (x : List ℕ) → ranOf freshBook (input ++ x) 1_000_000 ≡ onFrom place read done (ranOf book (take kept space ++ x) (1_000_000 - read))
+-- how far the day file is carried out, the bytes left at the front of their space
+abbrev standing : List ℕ → Book → ℕ → ℕ → ℕ → Stand
+standing space book rest read done = record { book = book; rest = take rest space; read = read; done = done }
 
-pub nothing-read : (space : List ℕ) (book : Book) → length space ≡ 65606 → book ≡ freshBook → Feeding space book 0 0 0
+-- that is where the pieces so far came to
+pub record Feeding (space : List ℕ) (book : Book) (rest read done : ℕ) : Type 0 where
+  pub pieces : List (List ℕ)
+  pub bytes : Bytes (cameBy pieces)
+  pub size : length space ≡ 8262
+  pub within : rest ≤ 8262
+  pub is : standing space book rest read done ≡ after pieces
+
+pub nothing-read : (space : List ℕ) (book : Book) → length space ≡ 8262 → book ≡ freshBook → Feeding space book 0 0 0
+unfolding after cameBy
 nothing-read space book h e = record {
-  input = [];
+  pieces = [];
   bytes = λ i. omega arith;
-  place = 0;
   size = h;
   within = omega arith;
-  sound = rw e fresh-sound;
-  upto = omega arith;
-  fewer = omega arith;
-  same = λ x. rw e (on-none _);
+  is = ap (λ b. standing space b 0 0 0) e;
 }
+
+-- where a read or a write failed
+pub no-day-came : (d : Day) → d ≡ noDay → Came d
+unfolding noDay pick
+no-day-came d e = rw e (record { input = []; bytes = λ i. omega arith; is = refl })
+
+module _ {space : List ℕ} {book : Book} {rest read done : ℕ} (g : Feeding space book rest read done) where
+  pub read-upto : read ≤ 1_000_000
+  read-upto = rw (← g .is) at (read-so-far (g .pieces))
+
+  pub done-fewer : done ≤ read
+  done-fewer = rw (← g .is) at (done-so-far (g .pieces))
+
+  pub book-sound : Sound book
+  book-sound = rw (← g .is) at (sound-so-far (g .pieces))
 
 -- a part in the middle
 mid : (p n : ℕ) (l : List ℕ) → p ≤ n → n ≤ length l → drop p (take n l) ≡ take (n - p) (drop p l)
@@ -72,103 +81,94 @@ bytes-append [] m y z i = z i
 bytes-append (x ∷ l) m y z zero = y 0
 bytes-append (x ∷ l) m y z (suc i) = bytes-append l m (λ j. y (suc j)) z i
 
-going-on : (w : Closing) → stopsAt w ≡ false → (w ≡ End) ⊎ (w ≡ Cut)
-going-on End e = inl refl
-going-on Cut e = inr refl
-going-on Long e = clash refl e
-going-on Unsound e = clash refl e
-
--- one piece more: the kept bytes and those read behind them, held of them in all, and the run r of them
-pub record Piece (space : List ℕ) (book : Book) (kept read done : ℕ) (filled : List ℕ) (held : ℕ) (r : Ran) : Type 0 where
-  pub before : Feeding space book kept read done
-  pub size : length filled ≡ 65606
-  pub least : kept ≤ held
-  pub most : held ≤ 65606
-  pub old : take kept filled ≡ take kept space
+-- one piece more: the bytes left and those read behind them, held of them in all, and the turn r of them
+pub record Piece (space : List ℕ) (book : Book) (rest read done : ℕ) (filled : List ℕ) (held : ℕ) (r : Ran) : Type 0 where
+  pub before : Feeding space book rest read done
+  pub size : length filled ≡ 8262
+  pub least : rest ≤ held
+  pub most : held ≤ 8262
+  pub old : take rest filled ≡ take rest space
   pub bytes : Bytes filled
-  pub is : r ≡ ranOf book (take held filled) (1_000_000 - read)
+  pub is : r ≡ ranOf book (take held filled) (turnMost read)
 
-module _ {space : List ℕ} {book : Book} {kept read done : ℕ} {filled : List ℕ} {held : ℕ} {r : Ran}
-    (g : Piece space book kept read done filled held r) where
-  new : List ℕ
-  new = take (held - kept) (drop kept filled)
+module _ {space : List ℕ} {book : Book} {rest read done : ℕ} {filled : List ℕ} {held : ℕ} {r : Ran}
+    (g : Piece space book rest read done filled held r) where
+  abbrev s : Stand
+  s = standing space book rest read done
 
-  all-bytes : Bytes (g .before .input ++ new)
-  unfolding new
-  all-bytes = bytes-append (g .before .input) _ (g .before .bytes) (bytes-take (held - kept) _ (bytes-drop kept filled (g .bytes)))
+  abbrev new : List ℕ
+  new = take (held - rest) (drop rest filled)
 
-  piece-is : take held filled ≡ take kept space ++ new
-  unfolding new
+  piece-is : take held filled ≡ take rest space ++ new
   piece-is =
-      let e : held ≡ kept + (held - kept) = omega (arith, g) in
-      ap (λ n. take n filled) e ∙ take-add kept (held - kept) filled ∙ ap (λ l. l ++ take (held - kept) (drop kept filled)) (g .old)
+      let e : held ≡ rest + (held - rest) = omega (arith, g) in
+      ap (λ n. take n filled) e ∙ take-add rest (held - rest) filled ∙ ap (λ l. l ++ take (held - rest) (drop rest filled)) (g .old)
 
-  longer : (x : List ℕ) → ranOf freshBook ((g .before .input ++ new) ++ x) 1_000_000
-      ≡ onFrom (g .before .place) read done (ranOf book (take held filled ++ x) (1_000_000 - read))
-  longer x =
-      ap (λ l. ranOf freshBook l 1_000_000) (append-assoc (g .before .input) new x)
-      ∙ g .before .same (new ++ x)
-      ∙ ap (λ l. onFrom (g .before .place) read done (ranOf book l (1_000_000 - read)))
-      (sym (append-assoc (take kept space) new x) ∙ ap (λ l. l ++ x) (sym piece-is))
+  turn-is : r ≡ turnOf s new
+  turn-is = g .is ∙ ap (λ l. ranOf book l (turnMost read)) piece-is
 
-  stopped : Stopped (take held filled) (1_000_000 - read) 0 0 0 r
-  stopped = rw (g .is) (ran-stops book (take held filled) (1_000_000 - read))
+  stopped : Stopped (take rest space ++ new) (turnMost read) 0 0 0 r
+  stopped = rw turn-is (turn-stops s new)
 
-  length-piece : length (take held filled) ≡ held
-  length-piece = length-take-le held filled (omega (arith, g))
+  held-bytes : Bytes (take held filled)
+  held-bytes = bytes-take held filled (g .bytes)
+
+  all-bytes : Bytes (cameBy (new ∷ g .before .pieces))
+  unfolding cameBy
+  all-bytes = bytes-append (cameBy (g .before .pieces)) _ (g .before .bytes) (bytes-take (held - rest) _ (bytes-drop rest filled (g .bytes)))
+
+  length-piece : length (take rest space ++ new) ≡ held
+  length-piece = ap length (sym piece-is) ∙ length-take-le held filled (omega (arith, g))
 
   pub place-within : r .place ≤ held
-  place-within = omega (arith, stopped .within (omega (arith, g)), length-piece)
+  place-within = omega (arith, stopped .within (omega arith), length-piece)
 
   pub read-within : read + r .read ≤ 1_000_000
-  read-within = omega (arith, stopped .upto, g .before .upto)
+  read-within = omega (arith, stopped .upto, read-upto (g .before))
 
   pub done-within : done + r .done ≤ read + r .read
-  done-within = omega (arith, stopped .fewer, g .before .fewer)
+  done-within = omega (arith, stopped .fewer, done-fewer (g .before))
 
-  -- t is the table that holds the run's book
-  pub came : (t : Table) → turned (r .book) ≡ t → Came (record { table = t; closing = r .closing; read = read + r .read; done = done + r .done })
-  unfolding wholeDay
-  came t e = record {
-    input = (g .before .input ++ new) ++ [];
-    bytes = bytes-append (g .before .input ++ new) [] all-bytes (λ i. omega arith);
-    is =
-        ap (λ (x : Table). record { table = x; closing = r .closing; read = read + r .read; done = done + r .done }) (sym e)
-        ∙ ap (λ q. dayOf (onFrom (g .before .place) read done q)) (g .is ∙ ap (λ l. ranOf book l (1_000_000 - read)) (sym (append-nil (take held filled))))
-        ∙ sym (ap dayOf (longer []));
-  }
+  -- w says whether the turn is the last; t is the table that holds its book
+  pub last-turn-came : (short : Bool) (w : Bool) → w ≡ stopsAt (r .closing) short (leb 1_000_000 (read + r .read)) → w ≡ true → (t : Table) → turned (r .book) ≡ t
+      → Came (record { table = t; closing = r .closing; read = read + r .read; done = done + r .done; failed = false })
+  unfolding pick
+  last-turn-came short w e h t f =
+      let p = g .before .pieces in
+      let stop : (let z = after p in stopsAt (turnOf z new .closing) short (leb 1_000_000 (z .read + turnOf z new .read)) ≡ true) = rw (← g .before .is, ← turn-is) (sym e ∙ h) in
+      let day : dayBy s new ≡ wholeDay (cameBy (new ∷ p)) = ap (λ z. dayBy z new) (g .before .is) ∙ last-turn p new short stop in
+      record {
+        input = cameBy (new ∷ p);
+        bytes = all-bytes;
+        is =
+            ap (λ (x : Table). record { table = x; closing = r .closing; read = read + r .read; done = done + r .done; failed = false }) (sym f)
+            ∙ ap (λ (q : Ran). record { table = turned (q .book); closing = q .closing; read = read + q .read; done = done + q .done; failed = false }) turn-is
+            ∙ day;
+      }
 
-  pub fed : (next : List ℕ) (left : ℕ) → length next ≡ 65606 → left ≡ held - r .place → take left next ≡ take left (drop (r .place) filled)
+  pub turn-fed : (next : List ℕ) (left : ℕ) → length next ≡ 8262 → left ≡ held - r .place → take left next ≡ take left (drop (r .place) filled)
       → Feeding next (r .book) left (read + r .read) (done + r .done)
-  fed next left n l t = record {
-    input = g .before .input ++ new;
+  unfolding after
+  turn-fed next left n l t = record {
+    pieces = new ∷ g .before .pieces;
     bytes = all-bytes;
-    place = g .before .place + r .place;
     size = n;
     within = omega (arith, g);
-    sound = rw (g .is) (ran-keeps book (take held filled) (1_000_000 - read) (g .before .sound));
-    upto = read-within;
-    fewer = done-within;
-    same = λ x.
-        longer x
-        ∙ ap (onFrom (g .before .place) read done) (in-pieces book (take held filled) x (1_000_000 - read) (1_000_000 - read) (omega (arith, g)))
-        ∙ ap (λ q. onFrom (g .before .place) read done (restOf q (take held filled) x (1_000_000 - read))) (sym (g .is))
-        ∙ on-twice (g .before .place) read done (r .place) (r .read) (r .done) _
-        ∙ ap (λ s. onFrom (g .before .place + r .place) (read + r .read) (done + r .done) (ranOf (r .book) (s ++ x) (1_000_000 - read - r .read))) kept-is
-        ∙ ap (λ m. onFrom (g .before .place + r .place) (read + r .read) (done + r .done) (ranOf (r .book) (take left next ++ x) m)) fuel;
+    is =
+        ap (λ x. record { book = r .book; rest = x; read = read + r .read; done = done + r .done }) rest-is
+        ∙ ap (λ (q : Ran). record { book = q .book; rest = drop (q .place) (take rest space ++ new); read = read + q .read; done = done + q .done }) turn-is
+        ∙ ap (λ z. standAfter z new) (g .before .is);
   }
     where
-      kept-is : drop (r .place) (take held filled) ≡ take left next
-      kept-is =
-          mid (r .place) held filled place-within (omega (arith, g)) ∙ ap (λ m. take m (drop (r .place) filled)) (sym l) ∙ sym t
+      rest-is : take left next ≡ drop (r .place) (take rest space ++ new)
+      rest-is =
+          t
+          ∙ ap (λ m. take m (drop (r .place) filled)) l
+          ∙ sym (mid (r .place) held filled place-within (omega (arith, g)))
+          ∙ ap (drop (r .place)) piece-is
 
-      fuel : 1_000_000 - read - r .read ≡ 1_000_000 - (read + r .read)
-      fuel = omega (arith, g)
-
-  -- a full space holds a record; t says whether the closing word stops the reading
-  pub moves : (t : Bool) → t ≡ stopsAt (r .closing) → (t || ltb held 65606) ≡ false → 0 < r .read
-  moves t w e =
-      let f = or-fails t (ltb held 65606) e in
-      let l = take held filled in
-      let h : 70 ≤ length l = omega (arith, length-piece, ltb-false held 65606 (f .1)) in
-      rw (g .is) (ran-moves book l (1_000_000 - read) (bytes-take held filled (g .bytes)) h (rw (g .is) at (going-on (r .closing) (sym w ∙ f .0))))
+  -- a full space holds a record; w says whether the turn is the last
+  pub turn-reads-some : (w : Bool) → w ≡ stopsAt (r .closing) (ltb held 8262) (leb 1_000_000 (read + r .read)) → w ≡ false → 0 < r .read
+  turn-reads-some w e h =
+      rw turn-is
+      (turn-moves s new (ltb held 8262) (read-upto (g .before)) (rw (← piece-is) held-bytes) (λ k. omega (arith, length-piece, ltb-false held 8262 k)) (rw turn-is at (sym e ∙ h)))

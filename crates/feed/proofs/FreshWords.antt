@@ -1,4 +1,4 @@
--- The words of a fresh book.
+-- The words of a fresh book are a sound book's: what the reading loop starts from.
 use mathlib.Core.Path.{_≡_, sym, ap, _∙_}
 use Rattle.rows.specs.Rows.{freshBook}
 use Rattle.table.specs.declared.Table.{Table}

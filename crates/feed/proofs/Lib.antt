@@ -1,4 +1,6 @@
-pub mod Moving
-pub mod FreshWords
-pub mod Feeding
-pub mod Calls
+mod FreshWords
+mod Moving
+pub mod Pieces
+pub mod PieceLines
+mod TurnText
+mod Feeding

@@ -1,4 +1,4 @@
--- Bytes brought to the front, one after the other.
+-- Bytes brought to the front, one after the other: what is left of a piece before the next is read behind it.
 use mathlib.Core.List.{List, [], _∷_, _++_}
 use mathlib.Core.Path.{_≡_, refl, sym, ap, _∙_}
 use Prim.Native.Nat.{ℕ, _+_, _-_, _<_}

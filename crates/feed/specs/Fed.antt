@@ -1,24 +1,31 @@
--- What can be said of a day file that was read from standard input.
+-- What can be said of a day file that is read from standard input.
+use mathlib.Core.Bool.{true, false}
 use mathlib.Core.List.{List}
 use mathlib.Core.Path.{_≡_}
 use Prim.Native.Nat.{ℕ}
+use Rattle.sums.specs.Choice.{pick}
 use Rattle.rows.specs.Rows.{freshBook}
 use Rattle.table.specs.Words.{turned}
 use Rattle.dayfile.specs.Files.{Bytes}
+use Rattle.records.specs.declared.Closing.the-variants.{End}
 use Rattle.records.specs.declared.Ran.{Ran}
 use Rattle.records.specs.Runs.{ranOf}
 use Rattle.feed.specs.declared.Day.{Day}
 
 -- a run's results without its place
 abbrev pub dayOf : Ran → Day
-dayOf r = record { table = turned (r .book); closing = r .closing; read = r .read; done = r .done }
+dayOf r = record { table = turned (r .book); closing = r .closing; read = r .read; done = r .done; failed = false }
 
 -- "The program reads a day file .. over a fresh book"; "It stops at the end, at a cut or at a million records"
 unfoldable pub wholeDay : List ℕ → Day
 wholeDay s = dayOf (ranOf freshBook s 1_000_000)
 
--- No contract can say which bytes are read. This one says that there are bytes of which d is the day.
+-- A read that fails is not the end of a file, and a write that fails is not done: then there is no day. No program prints what stands here.
+unfoldable pub noDay : Day
+noDay = record { table = turned freshBook; closing = End; read = 0; done = 0; failed = true }
+
+-- No contract can say which bytes are read, nor whether a read or a write fails. This one says that there are bytes of which d is the day, unless a call failed.
 pub record Came (d : Day) : Type 0 where
   pub input : List ℕ
   pub bytes : Bytes input
-  pub is : d ≡ wholeDay input
+  pub is : d ≡ pick (d .failed) noDay (wholeDay input)

@@ -3,7 +3,7 @@ use mathlib.Core.Bool.{false}
 use mathlib.Core.List.{List, []}
 use mathlib.Core.Path.{_≡_, refl, ap}
 use Prim.Native.Nat.{ℕ}
-use Rattle.sums.specs.Room.{over}
+use Rattle.sums.specs.Room.{atStart}
 use Rattle.sums.proofs.Choices.{pick-no}
 use Rattle.rows.specs.declared.Book.{Book}
 use Rattle.rows.specs.Rows.{places}
@@ -13,7 +13,7 @@ use Rattle.book.specs.Sound.{soundB}
 use Rattle.run.specs.declared.Ended.{Ended}
 use Rattle.records.specs.Runs.{ranOf}
 use Rattle.run.specs.Over.{overRan}
-use Rattle.records.specs.Told.{answersOf}
+use Rattle.records.specs.LineNumbers.{answersOf}
 use Rattle.lines.specs.declared.Lined.{Lined}
 use Rattle.lines.specs.Lines.{linesOf}
 use Rattle.lines.specs.Texts.{limitOf, textOf, linedOf}
@@ -28,9 +28,9 @@ unfolding linedOf
 same-as-day b piece most room = refl
 
 -- an unsound book has no lines, and the room stays as it was
-pub unsound-leaves-room : (b : Book) (piece : List ℕ) (most : ℕ) (room : List ℕ) → soundB b ≡ false → over (textOf b piece most) room ≡ room
+pub unsound-leaves-room : (b : Book) (piece : List ℕ) (most : ℕ) (room : List ℕ) → soundB b ≡ false → atStart (textOf b piece most) room ≡ room
 unfolding textOf
-unsound-leaves-room b piece most room e = ap (λ x. over x room) (pick-no (soundB b) (linesOf (answersOf piece most b 0)) [] e)
+unsound-leaves-room b piece most room e = ap (λ x. atStart x room) (pick-no (soundB b) (linesOf (answersOf piece most b 0)) [] e)
 
 -- K12: at a book of the old order, turned over, the call gives what it gives at the book
 pub lines-as : (b : Book) (piece : List ℕ) (most : ℕ) → places b ≡ 256

@@ -3,13 +3,14 @@ use mathlib.Core.List.{[], _∷_}
 use mathlib.Core.Path.{_≡_, refl}
 use Rattle.sums.specs.Choice.{pick}
 use Rattle.records.specs.declared.Closing.the-variants.{End}
-use Rattle.records.specs.Told.{five}
+use Rattle.records.specs.LineNumbers.{numbersOfLine}
 use Rattle.desk.specs.declared.Outcome.the-variants.{Refused}
-use Rattle.lines.specs.Lines.{digits, decimal, spaced, lineOf, closingLineOf}
+use Rattle.text.specs.Numbers.{digits, decimal, spaced}
+use Rattle.lines.specs.Lines.{lineOf, closingLineOf}
 
 pub fifth-line : lineOf (record { serial = 4; code = 10; account = 2; outcome = Refused 13 })
     ≡ 52 ∷ 32 ∷ 49 ∷ 48 ∷ 32 ∷ 50 ∷ 32 ∷ 49 ∷ 51 ∷ 32 ∷ 48 ∷ 10 ∷ []
-unfolding lineOf spaced five decimal digits pick
+unfolding lineOf spaced numbersOfLine decimal digits pick
 fifth-line = refl
 
 pub last-line : closingLineOf End 5 4 ≡ 101 ∷ 110 ∷ 100 ∷ 32 ∷ 53 ∷ 32 ∷ 52 ∷ 10 ∷ []

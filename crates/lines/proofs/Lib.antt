@@ -1,9 +1,5 @@
-pub mod Digits
-pub mod Puts
-pub mod Spelling
 pub mod Widths
 pub mod Turns
 pub mod Records
 pub mod Agreement
-pub mod Values
 pub mod Example

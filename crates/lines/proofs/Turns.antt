@@ -1,4 +1,4 @@
--- The loop over the numbers told: a line for each record, where the last one ended.
+-- The loop over the records' numbers: a line for each record, where the last one ended.
 use mathlib.Core.List.{List}
 use mathlib.Core.Path.{refl}
 use Prim.Native.Nat.{ℕ, _+_, _*_, _≤_, _<_}
@@ -6,29 +6,29 @@ use native.Mathlib.Numerals.{add-one}
 use native.Mathlib.Omega.{arith}
 use lib.ListN.{getD}
 use Rattle.lines.specs.Texts.{lineAt, linesTo}
-use Rattle.lines.specs.Inner.{Puts}
-use Rattle.lines.proofs.Puts.{and-then}
+use Rattle.text.specs.Inner.{Puts}
+use Rattle.text.proofs.Puts.{and-then}
 use Rattle.lines.proofs.Widths.{line-most}
 
 -- the lines of the first i records are put, at most 32 bytes each
-pub record Lines (room₀ told room : List ℕ) (at i : ℕ) : Type 0 where
-  pub puts : Puts room₀ 0 (linesTo told i) room at
+pub record Lines (room₀ numbers room : List ℕ) (at i : ℕ) : Type 0 where
+  pub puts : Puts room₀ 0 (linesTo numbers i) room at
   pub short : at ≤ 32 * i
 
-pub none : (room told : List ℕ) → Lines room told room 0 0
+pub lines-start : (room numbers : List ℕ) → Lines room numbers room 0 0
 unfolding linesTo
-none room told = record { puts = record { holds = refl; next = refl; within = omega arith }; short = omega arith }
+lines-start room numbers = record { puts = record { holds = refl; next = refl; within = omega arith }; short = omega arith }
 
-pub line-more : {room₀ told room room′ : List ℕ} {at after i : ℕ} → ((k : ℕ) → getD told k 0 < 65536) → Lines room₀ told room at i
-    → Puts room at (lineAt told i) room′ after → Lines room₀ told room′ after (i + 1)
+pub line-more : {room₀ numbers room room′ : List ℕ} {at after i : ℕ} → ((k : ℕ) → getD numbers k 0 < 65536) → Lines room₀ numbers room at i
+    → Puts room at (lineAt numbers i) room′ after → Lines room₀ numbers room′ after (i + 1)
 unfolding linesTo
-line-more {room₀} {told} {room′ = room′} {at} {after} {i} small f g = record {
-  puts = rw (add-one i) (and-then (linesTo told i) (lineAt told i) (f .puts) g);
+line-more {room₀} {numbers} {room′ = room′} {at} {after} {i} small f g = record {
+  puts = rw (add-one i) (and-then (linesTo numbers i) (lineAt numbers i) (f .puts) g);
   short = omega (
     arith,
     f .short,
     g .next,
-    line-most (getD told (5 * i) 0) (getD told (5 * i + 1) 0) (getD told (5 * i + 2) 0) (getD told (5 * i + 3) 0) (getD told (5 * i + 4) 0)
+    line-most (getD numbers (5 * i) 0) (getD numbers (5 * i + 1) 0) (getD numbers (5 * i + 2) 0) (getD numbers (5 * i + 3) 0) (getD numbers (5 * i + 4) 0)
         (small (5 * i)) (small (5 * i + 1)) (small (5 * i + 2)) (small (5 * i + 3)) (small (5 * i + 4)),
   );
 }

@@ -1,22 +1,13 @@
 -- How long lines are: 32 bytes hold any line of five numbers of 16 bits, and 64 any closing line.
 use mathlib.Core.List.{[], _∷_, _++_}
-use mathlib.Core.Path.{_≡_}
-use Prim.Native.Nat.{ℕ, _+_, _^_, _≤_, _<_}
+use Prim.Native.Nat.{ℕ, _^_, _≤_, _<_}
 use native.Mathlib.Omega.{arith}
 use lib.ListN.{length, length-append}
 use Rattle.records.specs.declared.Closing.{Closing}
 use Rattle.records.specs.declared.Closing.the-variants.{End, Cut, Long, Unsound}
-use Rattle.lines.specs.Lines.{space, newline, decimal, followed, spaced, wordOf, closingLineOf}
-use Rattle.lines.proofs.Digits.{length-most}
-
-pub followed-length : (n mark : ℕ) → length (followed n mark) ≡ length (decimal n) + 1
-followed-length n mark = length-append (decimal n) (mark ∷ [])
-
-pub short-number : (n mark : ℕ) → n < 65536 → length (followed n mark) ≤ 6
-short-number n mark h = omega (arith, followed-length n mark, length-most 4 n (omega arith))
-
-pub long-number : (n mark : ℕ) → n < 2 ^ 64 → length (followed n mark) ≤ 21
-long-number n mark h = omega (arith, followed-length n mark, length-most 19 n (omega arith))
+use Rattle.text.specs.Numbers.{space, newline, followed, spaced}
+use Rattle.text.proofs.Widths.{short-number, long-number}
+use Rattle.lines.specs.Lines.{wordOf, closingLineOf}
 
 pub line-most : (a b c d e : ℕ) → a < 65536 → b < 65536 → c < 65536 → d < 65536 → e < 65536 → length (spaced (a ∷ b ∷ c ∷ d ∷ e ∷ [])) ≤ 32
 unfolding spaced

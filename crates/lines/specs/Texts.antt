@@ -8,8 +8,9 @@ use Rattle.book.specs.Sound.{soundB}
 use Rattle.run.specs.declared.Ended.{Ended}
 use Rattle.records.specs.Runs.{ranOf}
 use Rattle.run.specs.Over.{overRan}
-use Rattle.records.specs.Told.{answersOf}
-use Rattle.lines.specs.Lines.{spaced, linesOf}
+use Rattle.records.specs.LineNumbers.{answersOf}
+use Rattle.text.specs.Numbers.{spaced}
+use Rattle.lines.specs.Lines.{linesOf}
 use Rattle.lines.specs.declared.Lined.{Lined}
 
 -- how many records a call carries out at most: the stated number, as many as the room surely holds with 32 bytes for each, and 2048
@@ -29,14 +30,14 @@ linedOf b s most = withText (overRan (ranOf b s most)) (length (textOf b s most)
 
 -- the line of the five numbers that stand from number 5 i on
 abbrev pub lineAt : List ℕ → ℕ → List ℕ
-lineAt told i =
-    spaced (getD told (5 * i) 0 ∷ getD told (5 * i + 1) 0 ∷ getD told (5 * i + 2) 0 ∷ getD told (5 * i + 3) 0 ∷ getD told (5 * i + 4) 0 ∷ [])
+lineAt numbers i =
+    spaced (getD numbers (5 * i) 0 ∷ getD numbers (5 * i + 1) 0 ∷ getD numbers (5 * i + 2) 0 ∷ getD numbers (5 * i + 3) 0 ∷ getD numbers (5 * i + 4) 0 ∷ [])
 
 -- the lines of the first count records
 unfoldable pub linesTo : List ℕ → ℕ → List ℕ
-linesTo told zero = []
-linesTo told (suc count) = linesTo told count ++ lineAt told count
+linesTo numbers zero = []
+linesTo numbers (suc count) = linesTo numbers count ++ lineAt numbers count
 
 -- as many of them as there are numbers for, and as the room surely holds with 32 bytes for each
 abbrev pub fitting : ℕ → List ℕ → List ℕ → ℕ
-fitting count told room = min count (min (length told / 5) (length room / 32))
+fitting count numbers room = min count (min (length numbers / 5) (length room / 32))

@@ -2,23 +2,12 @@
 ghost use mathlib.Core.List.{[], _∷_, _++_};
 ghost use Prim.Native.Nat.{_≤_};
 ghost use lib.ListN.{length};
-ghost use Rattle.lines.specs.Lines.{space, wordOf, closingLineOf};
-ghost use Rattle.lines.specs.Inner.{Puts};
-use crate::number::put_number;
+ghost use Rattle.text.specs.Numbers.{space};
+ghost use Rattle.text.specs.Inner.{Puts};
+ghost use Rattle.lines.specs.Lines.{wordOf, closingLineOf};
 use records::Closing;
-
-// Puts a text at the room's start, and gives its length.
-fn put_text(room: &mut [u8], text: &[u8]) -> usize
-    requires { ⌜ length (now text) ≤ length (now room) ⌝ }
-    ensures { λ n. ⌜ Puts (now (room .entry)) 0 (now (text .entry)) (now (room .exit)) n ⌝ }
-{
-    let mut i: usize = 0;
-    while i < text.len() {
-        room[i] = text[i];
-        i += 1;
-    }
-    i
-}
+use text::put_number;
+use text::put_text;
 
 // Puts the closing word and a space, and gives the place after both.
 fn put_word(room: &mut [u8], closing: Closing) -> usize
@@ -26,10 +15,10 @@ fn put_word(room: &mut [u8], closing: Closing) -> usize
     ensures { λ after. ⌜ Puts (now (room .entry)) 0 (wordOf closing ++ (space ∷ [])) (now (room .exit)) after ⌝ }
 {
     match closing {
-        Closing::End => put_text(room, b"end "),
-        Closing::Cut => put_text(room, b"cut "),
-        Closing::Long => put_text(room, b"long "),
-        Closing::Unsound => put_text(room, b"1 "),
+        Closing::End => put_text(room, 0, b"end "),
+        Closing::Cut => put_text(room, 0, b"cut "),
+        Closing::Long => put_text(room, 0, b"long "),
+        Closing::Unsound => put_text(room, 0, b"1 "),
     }
 }
 

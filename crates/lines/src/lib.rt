@@ -3,15 +3,14 @@ ghost use mathlib.Core.Path.{_≡_};
 ghost use Prim.Native.Nat.{min};
 ghost use lib.ListN.{length};
 ghost use Rattle.lines.specs.Lines.{closingLineOf};
-ghost use Rattle.sums.specs.Room.{over};
+ghost use Rattle.sums.specs.Room.{atStart};
 ghost use Rattle.table.specs.Words.{turnedBack};
 ghost use Rattle.lines.specs.Texts.{limitOf, textOf, linedOf, linesTo, fitting};
-use records::Closing;
-use table::Table;
+pub use records::Closing;
+pub use table::Table;
 
 mod closing;
 mod line;
-mod number;
 
 pub struct Lined {
     pub table: Table,
@@ -38,11 +37,11 @@ fn limit(most: u64, room: &[u8]) -> u64
 // The records of a piece from its start, up to a stated number, with each one's line put into the room.
 pub fn lines(t: Table, piece: &[u8], most: u64, room: &mut [u8]) -> Lined
     ensures { λ r. ⌜ r ≡ linedOf (turnedBack t) (now (piece .entry)) (limitOf most (now (room .entry))) ⌝ }
-    ensures { λ _. ⌜ now (room .exit) ≡ over (textOf (turnedBack t) (now (piece .entry)) (limitOf most (now (room .entry)))) (now (room .entry)) ⌝ }
+    ensures { λ _. ⌜ now (room .exit) ≡ atStart (textOf (turnedBack t) (now (piece .entry)) (limitOf most (now (room .entry)))) (now (room .entry)) ⌝ }
 {
-    let mut told = [0u16; 10240];
-    let ran = run::day_told(t, piece, limit(most, room), &mut told);
-    let text = line::put_lines(room, &told, ran.read as usize);
+    let mut numbers = [0u16; 10240];
+    let ran = run::day_with_numbers(t, piece, limit(most, room), &mut numbers);
+    let text = line::put_lines(room, &numbers, ran.read as usize);
     let table = ran.table;
     let closing = ran.closing;
     Lined {
@@ -55,22 +54,22 @@ pub fn lines(t: Table, piece: &[u8], most: u64, room: &mut [u8]) -> Lined
     }
 }
 
-// The lines of records whose numbers were told, five of each, put from the room's start; gives how long they are.
-pub fn told_lines(told: &[u16], count: usize, room: &mut [u8]) -> usize
-    ensures { λ n. ⌜ n ≡ length (linesTo (now (told .entry)) (fitting count (now (told .entry)) (now (room .entry)))) ⌝ }
-    ensures { λ _. ⌜ now (room .exit) ≡ over (linesTo (now (told .entry)) (fitting count (now (told .entry)) (now (room .entry)))) (now (room .entry)) ⌝ }
+// The lines of records by their numbers, five of each, put from the room's start; gives how long they are.
+pub fn lines_of_numbers(numbers: &[u16], count: usize, room: &mut [u8]) -> usize
+    ensures { λ n. ⌜ n ≡ length (linesTo (now (numbers .entry)) (fitting count (now (numbers .entry)) (now (room .entry)))) ⌝ }
+    ensures { λ _. ⌜ now (room .exit) ≡ atStart (linesTo (now (numbers .entry)) (fitting count (now (numbers .entry)) (now (room .entry)))) (now (room .entry)) ⌝ }
 {
     let k = least(
         count as u64,
-        least(told.len() as u64 / 5, room.len() as u64 / 32),
+        least(numbers.len() as u64 / 5, room.len() as u64 / 32),
     );
-    line::put_lines(room, told, k as usize)
+    line::put_lines(room, numbers, k as usize)
 }
 
 // The line after the records' lines: how long it is, and the line in the room.
 pub fn closing_line(closing: Closing, read: u64, done: u64, room: &mut [u8; 64]) -> usize
     ensures { λ n. ⌜ n ≡ length (closingLineOf closing read done) ⌝ }
-    ensures { λ _. ⌜ now (room .exit) ≡ over (closingLineOf closing read done) (now (room .entry)) ⌝ }
+    ensures { λ _. ⌜ now (room .exit) ≡ atStart (closingLineOf closing read done) (now (room .entry)) ⌝ }
 {
     closing::put_closing(room, closing, read, done)
 }

@@ -1,37 +1,30 @@
 // Records handed over as values, and what is shown of the tables after them.
 use dayfile::Record;
+use desk::Kinds;
 use desk::Outcome;
-use rows::Kinds;
-use table::Table;
+use desk::Table;
 
 pub const CASH: u8 = 1;
-
-pub const PLEDGED: u8 = 16;
-
-pub const MARGIN: u8 = 32;
 
 pub fn say(text: &[u8]) {
     io::write_all(1, text);
 }
 
-// A record with the table's next serial: x is its cash, what is pledged, or its margin.
+// A record with the table's next serial: x is its cash.
 fn record(t: Table, code: u8, named: u8, account: u16, x: u64) -> Record {
-    let cash = if named == CASH { x } else { 0 };
-    let pledged = if named == PLEDGED { x } else { 0 };
-    let margin = if named == MARGIN { x } else { 0 };
     Record {
         serial: t.serial,
         code,
         named,
         account,
         kinds: Kinds {
-            cash,
+            cash: x,
             deposits: 0,
             guarantees: 0,
             securities: 0,
         },
-        pledged,
-        margin,
+        pledged: 0,
+        margin: 0,
     }
 }
 
@@ -68,10 +61,6 @@ pub fn answered(text: &[u8], t: Table, code: u8, named: u8, account: u16, x: u64
 pub fn given(t: Table, account: u16, x: u64) -> Table {
     let received = carried(t, 4, CASH, account, x);
     carried(received, 6, CASH, account, x)
-}
-
-pub fn margin(t: Table, account: u16, x: u64) -> Table {
-    carried(t, 10, MARGIN, account, x)
 }
 
 fn mode(t: Table, account: u16) {

@@ -1,18 +1,8 @@
-// A book with one wrong kept need: each call that takes one refuses it with 1. Calls of `book` and `closeout` are in their own case programs.
+// The book as it is, and with one wrong kept need, asked of each call.
 use crate::made;
 use crate::made::CASH;
 use crate::shown;
-use desk::Outcome;
-use table::Table;
-
-fn outcome(o: Outcome) {
-    match o {
-        Outcome::CarriedOut => shown::say(b" 0"),
-        Outcome::Opened(n) => shown::say(b" opened"),
-        Outcome::Refused(n) => shown::number(n as u64),
-        Outcome::End => shown::say(b" end"),
-    }
-}
+use desk::Table;
 
 // A receipt of one paisa for the CP, with the next serial: fifteen records made the book.
 fn piece() -> [u8; 14] {
@@ -25,44 +15,42 @@ fn piece() -> [u8; 14] {
     s
 }
 
-// The refusal of each single-record call, and the two day calls' closing words with the place and the counts.
-fn asked(text: &[u8], t: Table) {
-    shown::say(text);
+// The refusal of each single-record call.
+fn singly(t: Table, bytes: &[u8]) {
     let by_value = made::asked(t, 4, CASH, 3, 1);
     let answer = by_value.answer;
-    let first = answer.outcome;
-    outcome(first);
-    let bytes = piece();
-    let by_place = desk::carry_out_next(t, &bytes, 0);
-    let next = by_place.answer;
-    let second = next.outcome;
-    outcome(second);
-    shown::say(b" ;");
-    let day = run::day(t, &bytes, 9);
-    let plain = day.closing;
-    shown::word(plain);
-    shown::number(day.place as u64);
-    shown::number(day.read);
-    shown::number(day.done);
-    shown::say(b" ;");
+    let outcome = answer.outcome;
+    shown::outcome(outcome);
+    let by_place = desk::carry_out_next(t, bytes, 0);
+    let answer = by_place.answer;
+    let outcome = answer.outcome;
+    shown::outcome(outcome);
+}
+
+// The two day calls' closing words with the place and the counts, and whether numbers were put into the room.
+fn in_a_day(t: Table, bytes: &[u8]) {
+    shown::ended(run::day(t, bytes, 9));
     let mut room = [7u16; 5];
-    let told = run::day_told(t, &bytes, 9, &mut room);
-    let spoken = told.closing;
-    shown::word(spoken);
-    shown::number(told.place as u64);
-    shown::number(told.read);
-    shown::number(told.done);
+    shown::ended(run::day_with_numbers(t, bytes, 9, &mut room));
     if room[0] == 7 {
-        shown::say(b" untouched");
+        shown::say(b" untouched\n");
     } else {
-        shown::say(b" told");
+        shown::say(b" told\n");
     }
-    shown::say(b"\n");
+}
+
+fn asked(text: &[u8], t: Table) {
+    let bytes = piece();
+    shown::say(text);
+    singly(t, &bytes);
+    in_a_day(t, &bytes);
 }
 
 pub fn lines() {
-    shown::say(b"-- carry_out, carry_out_next ; day ; day_told, and its room\n");
-    asked(b"kept right", made::busy());
+    let t = made::busy();
+    shown::needs(b"kept at the places of the CM, a TM, its client, a CP", t);
+    shown::say(b"-- carry_out, carry_out_next ; day ; day_with_numbers, and its room\n");
+    asked(b"kept right", t);
     asked(b"the CM's one less", made::wrong(0, 8));
     asked(b"the CM's one more", made::wrong(0, 10));
     asked(b"the TM's one less", made::wrong(1, 105));

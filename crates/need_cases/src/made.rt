@@ -1,12 +1,12 @@
 // Records handed over as values, and the tables that they make. Account 1 is a TM, 2 its client, 3 a CP; all amounts are cash.
 use dayfile::Record;
 use desk::Carried;
-use rows::Kinds;
-use table::Table;
+use desk::Kinds;
+use desk::Table;
 
 pub const CASH: u8 = 1;
 
-pub const MARGIN: u8 = 32;
+const MARGIN: u8 = 32;
 
 // With the table's next serial: x is its cash, or its margin.
 fn record(t: Table, code: u8, named: u8, account: u16, x: u64) -> Record {
@@ -32,24 +32,24 @@ pub fn asked(t: Table, code: u8, named: u8, account: u16, x: u64) -> Carried {
     desk::carry_out(t, record(t, code, named, account, x))
 }
 
-pub fn carried(t: Table, code: u8, named: u8, account: u16, x: u64) -> Table {
+fn carried(t: Table, code: u8, named: u8, account: u16, x: u64) -> Table {
     let done = asked(t, code, named, account, x);
     let after = done.table;
     after
 }
 
 // Received and allocated.
-pub fn given(t: Table, account: u16, x: u64) -> Table {
+fn given(t: Table, account: u16, x: u64) -> Table {
     let received = carried(t, 4, CASH, account, x);
     carried(received, 6, CASH, account, x)
 }
 
-pub fn margin(t: Table, account: u16, x: u64) -> Table {
+fn margin(t: Table, account: u16, x: u64) -> Table {
     carried(t, 10, MARGIN, account, x)
 }
 
 // The CM has 1000, the TM 100, its client 9, the CP 5.
-pub fn start() -> Table {
+fn start() -> Table {
     let t = carried(book::fresh(), 1, 0, 0, 0);
     let t = carried(t, 2, 0, 1, 0);
     let t = carried(t, 3, 0, 0, 0);
@@ -68,25 +68,9 @@ pub fn busy() -> Table {
 }
 
 // The same with another need kept at a place.
-pub fn wrong(place: usize, need: u64) -> Table {
-    let t = busy();
-    let sort = t.sort;
-    let live = t.live;
-    let tm = t.tm;
-    let amounts = t.amounts;
-    let modes = t.modes;
-    let mut needs = t.needs;
-    if place < 256 {
-        needs[place] = need;
-    }
-    Table {
-        count: t.count,
-        serial: t.serial,
-        sort,
-        live,
-        tm,
-        amounts,
-        modes,
-        needs,
-    }
+pub fn wrong(place: u8, need: u64) -> Table {
+    let mut t = busy();
+    let at = place as usize;
+    t.needs[at] = need;
+    t
 }

@@ -1,10 +1,9 @@
-// K3's kept needs by library calls: brought up to date by each record, and a wrong one, which every call refuses with 1.
+// A wrong kept need, handed over with the book: every call that carries out records refuses it with 1. Calls of `book` and `closeout` are in
+// their own case programs.
 mod calls;
-mod kept;
 mod made;
 mod shown;
 
 fn main() {
-    kept::lines();
     calls::lines();
 }

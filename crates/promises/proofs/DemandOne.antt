@@ -35,8 +35,8 @@ use Rattle.desk.proofs.Effect.{answer-number, early-refusal, later-refusal, num
 use Rattle.desk.proofs.Lasting.{refusal-keeps}
 use Rattle.records.specs.declared.Closing.the-variants.{Unsound}
 use Rattle.records.specs.Runs.{endedWith, ranOf}
-use Rattle.records.specs.Told.{toldOf}
-use Rattle.records.proofs.Tellings.{ran-unsound, told-unsound}
+use Rattle.records.specs.LineNumbers.{numbersRoom}
+use Rattle.records.proofs.NumbersPut.{ran-unsound, numbers-unsound}
 use Rattle.closeout.specs.Closing.{lossAt, noTotal, closeOutRefusals, closeOutRefusal, closedOf, roomOf}
 use Rattle.closeout.specs.Columns.{total}
 use Rattle.closeout.proofs.Carried.{refused-total, refused-untouched}
@@ -87,8 +87,8 @@ pub unsound-day : (b : Book) (piece : List ℕ) (most : ℕ) → soundB b ≡ fa
 unsound-day b piece most e = sym (ran-unsound b piece most e)
 
 -- .. and the room lent for the records' numbers stays as it was.
-pub unsound-day-leaves-room : (b : Book) (piece : List ℕ) (most : ℕ) (room : List ℕ) → soundB b ≡ false → toldOf b piece most room ≡ room
-unsound-day-leaves-room b piece most room e = sym (told-unsound b piece most room e)
+pub unsound-day-leaves-room : (b : Book) (piece : List ℕ) (most : ℕ) (room : List ℕ) → soundB b ≡ false → numbersRoom b piece most room ≡ room
+unsound-day-leaves-room b piece most room e = sym (numbers-unsound b piece most room e)
 
 module _ (piece : List ℕ) (place : ℕ) where
   -- Bytes are too few (refusal 2) exactly when some are left, but not as many as the second mark byte asks for. Where one byte

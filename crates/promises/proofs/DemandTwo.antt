@@ -39,7 +39,7 @@ use Rattle.desk.proofs.ModesAfter.{carried-book}
 use Rattle.desk.proofs.Lasting.{others-stay, retired-stays, count-stays, opened-next}
 use Rattle.desk.proofs.Rows.{named-after, new-after, opened-keeps, sort-stays}
 use Rattle.records.specs.Runs.{runOf, ranOf}
-use Rattle.records.specs.Told.{answersOf, carriedOf}
+use Rattle.records.specs.LineNumbers.{answersOf, carriedOf}
 use Rattle.records.proofs.SoundRun.{run-by-next, ran-counts}
 use Rattle.closeout.specs.Columns.{tmColumn, cmColumn, four, rowsTo}
 use Rattle.closeout.specs.Bound.{cellOf}

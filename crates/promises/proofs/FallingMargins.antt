@@ -16,13 +16,13 @@ use Rattle.book.proofs.SoundTest.{sound→}
 use Rattle.dayfile.specs.declared.Record.{Record}
 use Rattle.dayfile.specs.Records.{faults}
 use Rattle.dayfile.proofs.Good.{three-numbered}
-use Rattle.rules.specs.Refusals.{namedRow, needOver, newMargin, losesCover, notRetirable, refusalOf}
+use Rattle.rules.specs.Refusals.{namedRow, needPasses, newMargin, losesCover, notRetirable, refusalOf}
 use Rattle.rules.proofs.Falls.{stays-covered, same-as-any, rises-at-13}
 use Rattle.promises.specs.Before.{asBefore}
 
 -- A live account's margin not above the present one: at a sound book the CM's need doesn't pass its collateral after it, ..
 pub a-margin-that-doesn't-rise-stays-covered : (b : Book) (r : Record) → soundB b ≡ true → isLive b (r .account) ≡ true → r .margin ≤ namedRow b r .margin
-    → needOver (view (newMargin b r)) ≡ false
+    → needPasses (view (newMargin b r)) ≡ false
 a-margin-that-doesn't-rise-stays-covered b r s live h =
     let given = and-split (ltb (r .account) (b .count)) (namedRow b r .live) live in
     stays-covered b (sound→ b s) r (ltb-true _ _ (given .0)) (given .1) h
@@ -36,8 +36,8 @@ no-answer-moved b r =
     first-on 9 _ _ _ (λ e₉. first-on 10 _ _ _ (λ e₁₀. first-on 11 _ _ _ (λ e₁₁. first-on 17 _ _ _ (λ e₁₇. first-on 12 _ _ _ (λ e₁₂. same (not-false _ e₁) (not-false _ e₇)))))))))))
   where
     same : soundB b ≡ true → isLive b (r .account) ≡ true
-        → first ((13 when losesCover (namedRow b r) (needOver (view (newMargin b r))) r) ∷ (14 when notRetirable (namedRow b r) (hasLiveClient b (r .account)) r) ∷ [])
-        ≡ first ((13 when (eqb (r .code) 10 && needOver (view (newMargin b r)))) ∷ (14 when notRetirable (namedRow b r) (hasLiveClient b (r .account)) r) ∷ [])
+        → first ((13 when losesCover (namedRow b r) (needPasses (view (newMargin b r))) r) ∷ (14 when notRetirable (namedRow b r) (hasLiveClient b (r .account)) r) ∷ [])
+        ≡ first ((13 when (eqb (r .code) 10 && needPasses (view (newMargin b r)))) ∷ (14 when notRetirable (namedRow b r) (hasLiveClient b (r .account)) r) ∷ [])
     same s live =
         let given = and-split (ltb (r .account) (b .count)) (namedRow b r .live) live in
         ap (λ t. first ((13 when t) ∷ (14 when notRetirable (namedRow b r) (hasLiveClient b (r .account)) r) ∷ [])) (same-as-any b (sound→ b s) r (ltb-true _ _ (given .0)) (given .1))

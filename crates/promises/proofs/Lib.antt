@@ -11,3 +11,4 @@ pub mod Needs
 pub mod OneResult
 pub mod Quick
 pub mod Claim
+pub mod PieceByPiece

@@ -12,7 +12,7 @@ use borrow.Author.Tests.{ltb-true}
 use Rattle.sums.specs.Choice.{pick, unlessRefused}
 use Rattle.sums.specs.Listed.{listTo}
 use Rattle.sums.specs.Sum.{sum}
-use Rattle.sums.proofs.Choices.{clash, and-left}
+use Rattle.sums.proofs.Choices.{test-clash, and-left}
 use Rattle.sums.proofs.Lists.{getD-same}
 use Rattle.rows.specs.declared.Book.{Book}
 use Rattle.rows.specs.View.{View, needTM, needCM, need, deemed}
@@ -182,7 +182,7 @@ any-other-is-off b s i l n gone = by (modeAt b i) refl
   where
     not-on : (i ≡ 0) ⊎ ((rowAt b i .sort ≡ 1) × (rowAt b i .live ≡ true)) → modeAt b i ≡ false
     not-on (inl e) = absurd (n e)
-    not-on (inr e) = clash (e .1) (gone (e .0))
+    not-on (inr e) = test-clash (e .1) (gone (e .0))
 
     by : (x : Bool) → modeAt b i ≡ x → modeAt b i ≡ false
     by true e = not-on (only-a-live-TM-or-the-CM b s i l e)

@@ -26,8 +26,8 @@ use Rattle.book.specs.declared.Amount.{Amount}
 use Rattle.book.proofs.SoundTest.{sound→}
 use Rattle.book.proofs.Settled.{sound-rows, retired-need}
 use Rattle.book.proofs.StandingRefusals.{unsound-refused}
-use Rattle.book.proofs.NeedsTold.{needs-unsound, needs-no-room}
-use Rattle.book.proofs.EveningTold.{unsound-evening}
+use Rattle.book.proofs.NeedsAnswers.{needs-unsound, needs-no-room}
+use Rattle.book.proofs.EveningAnswers.{unsound-evening}
 use Rattle.dayfile.specs.declared.Record.{Record}
 use Rattle.rules.specs.Refusals.{isOpening, namedRow, refusals, refusalOf}
 use Rattle.rules.specs.Effects.{amended, effectOf, movedOn, changedBy, bookAfter}
@@ -39,7 +39,7 @@ use Rattle.desk.proofs.Doing.{unsound-next}
 use Rattle.desk.proofs.ModesAfter.{carried-book, needs-after, needs-stay, other-needs-stay}
 use Rattle.records.specs.declared.Closing.the-variants.{Unsound}
 use Rattle.records.specs.Runs.{endedWith, ranOf}
-use Rattle.records.proofs.Tellings.{ran-unsound}
+use Rattle.records.proofs.NumbersPut.{ran-unsound}
 use Rattle.closeout.specs.Closing.{closeOutRefusals, closeOutRefusal, lossAt}
 use Rattle.closeout.specs.Columns.{four, total}
 use Rattle.closeout.proofs.Answers.{refused-sound}
@@ -62,8 +62,9 @@ module _ (b : Book) (s : soundB b ≡ true) where
   pub no-other-need-is-kept : (i : ℕ) → i < 256 → (i ≡ 0 → ⊥) → (rowAt b i .sort ≡ 1 → ⊥) → needAt b i ≡ 0
   no-other-need-is-kept i l n c = sound→ b s .kept i l ∙ kept-none (view b) i n (ne-eqb _ 1 c)
 
--- "and a wrong one is refusal 1": a book with one kept need that isn't the one worked out afresh isn't sound, ..
+-- "and a wrong one is refusal 1": with one kept need that isn't the one worked out afresh ..
 module _ (b : Book) (i : ℕ) (l : i < 256) (wrong : needAt b i ≡ keptNeed (view b) i → ⊥) where
+  -- .. a book isn't sound, ..
   pub a-wrong-need-is-not-sound : soundB b ≡ false
   a-wrong-need-is-not-sound = by (soundB b) refl
     where
@@ -103,7 +104,7 @@ module _ (b : Book) (r : Record) where
   a-refusal-changes-no-kept-need = needs-stay b r
 
   -- "from the one row that changed": of a sound book's those of the account named, its TM (0, the CM, for any account but a client) and the CM
-  -- may move, and no other. What the code puts at these three is `steps.Looks.neededSince`; that it is the same, `rules.Kept.put-needs`.
+  -- may move, and no other. What the code puts at these three is `steps.Looks.neededSince`; that it is the same, `rules.Moves.put-needs`.
   pub no-other-need-moves : soundB b ≡ true → (i : ℕ) → i < 256 → (i ≡ r .account → ⊥) → (i ≡ namedRow b r .tm → ⊥) → (i ≡ 0 → ⊥)
       → needAt (stepOf b r .book) i ≡ needAt b i
   no-other-need-moves s = other-needs-stay b r (sound→ b s)
@@ -128,45 +129,53 @@ every-sequence-keeps-them rs = sym (ap (λ b. b .needs) (every-sequence-is-looke
 
 -- "Other answers stay": only 1 looks at what is kept. With any list in the place of the kept needs the same are ..
 module _ (b : Book) (needs : List ℕ) where
-  -- .. the lines of the table for a record after 1, what it does where none applies, and the book after that, ..
+  -- .. the lines of the table for a record after 1, ..
   pub same-lines-after-1 : (r : Record) → drop 1 (refusals (withNeeds b needs) r) ≡ drop 1 (refusals b r)
   unfolding hasLiveClient
   same-lines-after-1 r = refl
 
+  -- .. a record's effect, ..
   pub same-effect : (r : Record) → effectOf (namedRow (withNeeds b needs) r) (placeOf (withNeeds b needs) (r .account)) r ≡ effectOf (namedRow b r) (placeOf b (r .account)) r
   same-effect r = refl
 
+  -- .. the book after a row is put anew, ..
   pub same-book-after-a-row : (place : ℕ) (row : Row) → bookAfter (withNeeds b needs) place (Put row) ≡ bookAfter b place (Put row)
   same-book-after-a-row place row = refl
 
+  -- .. and after one is opened, ..
   pub same-book-after-an-opening : (place : ℕ) (row : Row) → bookAfter (withNeeds b needs) place (Open row) ≡ bookAfter b place (Open row)
   same-book-after-an-opening place row = refl
 
-  -- .. the lines of a standing after 1 and its figures, ..
+  -- .. the lines of a standing after 1, ..
   pub same-standing-after-1 : (account : ℕ) → drop 1 (standingRefusals (withNeeds b needs) account) ≡ drop 1 (standingRefusals b account)
   same-standing-after-1 account = refl
 
+  -- .. and so are its figures; ..
   pub same-figures-whatever-is-kept : (i : ℕ) → figuresOf (view (withNeeds b needs)) (modeAt (withNeeds b needs) i) i ≡ figuresOf (view b) (modeAt b i) i
   same-figures-whatever-is-kept i = refl
 
-  -- .. those of a close-out, its four columns and its total, ..
+  -- .. the lines of a close-out after 1, ..
   pub same-close-out-after-1 : (losses room : List ℕ) → drop 1 (closeOutRefusals (withNeeds b needs) losses room) ≡ drop 1 (closeOutRefusals b losses room)
   same-close-out-after-1 losses room = refl
 
+  -- .. its four columns ..
   pub same-columns-whatever-is-kept : (loss : ℕ → ℕ) (i : ℕ) → four (view (withNeeds b needs)) loss i ≡ four (view b) loss i
   same-columns-whatever-is-kept loss i = refl
 
+  -- .. and its total; ..
   pub same-total-whatever-is-kept : (losses : List ℕ) → total (view (withNeeds b needs)) (lossAt losses) ≡ total (view b) (lossAt losses)
   same-total-whatever-is-kept losses = refl
 
-  -- .. an evening sum, and the list of needs.
+  -- .. an evening sum, ..
   pub same-evening-sum : (a : Amount) → eveningSum (withNeeds b needs) a ≡ eveningSum b a
   unfolding eveningSum
   same-evening-sum a = refl
 
+  -- .. the lines of the list of needs after 1 ..
   pub same-needs-after-1 : (room : List ℕ) → drop 1 (needsRefusals (withNeeds b needs) room) ≡ drop 1 (needsRefusals b room)
   same-needs-after-1 room = refl
 
+  -- .. and the list itself.
   pub same-list : allNeeds (withNeeds b needs) ≡ allNeeds b
   unfolding allNeeds
   same-list = refl

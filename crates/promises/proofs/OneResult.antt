@@ -2,6 +2,7 @@
 -- `book.needs.Reads.Learnt` is what the check itself makes of the `ensures` clauses of `book::needs` in crates/book/src, and what the proof
 -- of each caller is given as `.ensures`; `book.needs.ended` is the call's signature. `needs-word-for-word` shows it for one call. The check makes
 -- no `Learnt` of the reader's three calls: their clauses are written out below, and held to the source's.
+use mathlib.Core.Bool.{false}
 use mathlib.Core.List.{List}
 use mathlib.Core.Path.{_≡_, refl, sym, ap, _∙_}
 use Prim.Native.Nat.{ℕ}
@@ -17,8 +18,10 @@ use Rattle.table.specs.Words.{turnedBack}
 use Rattle.book.specs.NeedsListed.{needsRefusal, needsRoom}
 use Rattle.dayfile.specs.Files.{Bytes}
 use Rattle.dayfile.specs.Reading.{placeAfter}
-use Rattle.dayfile.specs.Reader.{startOf, seenBy, movedTo}
-use Rattle.feed.specs.Fed.{wholeDay}
+use Rattle.dayfile.specs.Reader.{startOf, readBy, movedTo}
+use Rattle.sums.specs.Choice.{pick}
+use Rattle.streams.specs.declared.Moved.{Moved}
+use Rattle.feed.specs.Fed.{noDay, wholeDay}
 use Rattle.table.proofs as table
 use Rattle.book.proofs as book
 use Rattle.dayfile.proofs as dayfile
@@ -29,6 +32,10 @@ use Rattle.closeout.proofs as closeout
 use Rattle.feed.proofs as feed
 use Rattle.report.proofs as report
 use Rattle.promises.specs.OneResult.{Promise, OneResultOnly}
+
+-- two ends of a write that didn't fail
+one-moved : (x y : Moved) → x .failed ≡ false → y .failed ≡ false → x .count ≡ y .count → x ≡ y
+one-moved x y f g e = ap (λ t. record { failed = t; count = x .count }) (f ∙ sym g) ∙ ap (λ n. record { failed = y .failed; count = n }) e
 
 -- two results, of which each is what the promise says, are the same; so are two rooms
 one-result : {A : Type 0} {said x y : A} → x ≡ said → y ≡ said → x ≡ y
@@ -104,10 +111,10 @@ abbrev newSays : Promise dayfile.reader.new.ended
 newSays κs (piece, _) x e = x ≡ startOf piece
 
 abbrev peekSays : Promise dayfile.reader.peek.ended
-peekSays κs (r, _) x e = x ≡ seenBy r
+peekSays κs (r, _) x e = x ≡ readBy r
 
 abbrev nextAnswer : Promise dayfile.reader.next.ended
-nextAnswer κs (r, _) x e = x ≡ seenBy (now r)
+nextAnswer κs (r, _) x e = x ≡ readBy (now r)
 
 abbrev nextReader : Promise dayfile.reader.next.ended
 nextReader κs (r, _) x (after, _) = now after ≡ movedTo (now r) (placeAfter x (now r .place))
@@ -164,8 +171,8 @@ pub of-run-day : OneResultOnly run.day.ended run.day.Reads.Learnt
 of-run-day κs a x y u v p q = (one-result p q, refl)
 
 -- the same, and the room with each record's numbers
-pub of-run-day-told : OneResultOnly run.day_told.ended run.day_told.Reads.Learnt
-of-run-day-told κs a x y u v p q = (one-result (p .0) (q .0), ap (λ room. (tt, (tt, (tt, (room, tt))))) (one-result (p .1) (q .1)))
+pub of-run-day-with-numbers : OneResultOnly run.day_with_numbers.ended run.day_with_numbers.Reads.Learnt
+of-run-day-with-numbers κs a x y u v p q = (one-result (p .0) (q .0), ap (λ room. (tt, (tt, (tt, (room, tt))))) (one-result (p .1) (q .1)))
 
 -- ---- lines
 
@@ -174,8 +181,8 @@ pub of-lines-lines : OneResultOnly lines.lines.ended lines.lines.Reads.Learnt
 of-lines-lines κs a x y u v p q = (one-result (p .0) (q .0), ap (λ room. (tt, (tt, (tt, (room, tt))))) (one-result (p .1) (q .1)))
 
 -- how long the lines are, and the room with them
-pub of-lines-told-lines : OneResultOnly lines.told_lines.ended lines.told_lines.Reads.Learnt
-of-lines-told-lines κs a x y u v p q = (one-result (p .0) (q .0), ap (λ room. (tt, (tt, (room, tt)))) (one-result (p .1) (q .1)))
+pub of-lines-lines-of-numbers : OneResultOnly lines.lines_of_numbers.ended lines.lines_of_numbers.Reads.Learnt
+of-lines-lines-of-numbers κs a x y u v p q = (one-result (p .0) (q .0), ap (λ room. (tt, (tt, (room, tt)))) (one-result (p .1) (q .1)))
 
 -- how long the closing line is, and the room with it
 pub of-lines-closing-line : OneResultOnly lines.closing_line.ended lines.closing_line.Reads.Learnt
@@ -201,34 +208,40 @@ of-report-needs-text κs a x y u v p q = (one-result (p .0) (q .0), ap (λ room.
 pub of-report-close-out-text : OneResultOnly report.close_out_text.ended report.close_out_text.Reads.Learnt
 of-report-close-out-text κs a x y u v p q = (one-result (p .0) (q .0), ap (λ room. (tt, (tt, (tt, (tt, (room, tt)))))) (one-result (p .1) (q .1)))
 
--- the closing line's length
-pub of-report-closing : OneResultOnly report.closing.ended report.closing.Reads.Learnt
-of-report-closing κs a x y u v p q = (one-result p q, refl)
+-- how much of the closing line was handed over: all of it, unless a write failed, which no promise can say. Where none failed the results are the same.
+pub of-report-closing :
+    (κs : Lfts 1) (a : Args report.closing.signature κs) (x y : Res report.closing.signature κs) (e : AtExit report.closing.ended κs)
+    (p : report.closing.Reads.Learnt κs a x e) (q : report.closing.Reads.Learnt κs a y e) →
+    x .failed ≡ false → y .failed ≡ false → x ≡ y
+of-report-closing κs a x y e p q f g = one-moved x y f g (one-result (p f) (q g))
 
--- the length of the standings' lines
-pub of-report-standings : OneResultOnly report.standings.ended report.standings.Reads.Learnt
-of-report-standings κs a x y u v p q = (one-result p q, refl)
+-- of the standings' lines
+pub of-report-standings :
+    (κs : Lfts 1) (a : Args report.standings.signature κs) (x y : Res report.standings.signature κs) (e : AtExit report.standings.ended κs)
+    (p : report.standings.Reads.Learnt κs a x e) (q : report.standings.Reads.Learnt κs a y e) →
+    x .failed ≡ false → y .failed ≡ false → x ≡ y
+of-report-standings κs a x y e p q f g = one-moved x y f g (one-result (p f) (q g))
 
--- the length of the needs' lines
-pub of-report-needs : OneResultOnly report.needs.ended report.needs.Reads.Learnt
-of-report-needs κs a x y u v p q = (one-result p q, refl)
+-- of the needs' lines
+pub of-report-needs :
+    (κs : Lfts 1) (a : Args report.needs.signature κs) (x y : Res report.needs.signature κs) (e : AtExit report.needs.ended κs)
+    (p : report.needs.Reads.Learnt κs a x e) (q : report.needs.Reads.Learnt κs a y e) →
+    x .failed ≡ false → y .failed ≡ false → x ≡ y
+of-report-needs κs a x y e p q f g = one-moved x y f g (one-result (p f) (q g))
 
--- ---- feed. Both print the records' lines where that is asked for: of this too no promise can speak.
+-- ---- feed. It prints the records' lines where that is asked for: of this too no promise can speak.
 
--- the day of a piece that is held whole
-pub of-feed-day-of : OneResultOnly feed.day_of.ended feed.day_of.Reads.Learnt
-of-feed-day-of κs a x y u v p q = (one-result p q, refl)
-
--- The day of standard input, the one exception: its promise is that some bytes came, of which this is the day. Where the bytes that came are
--- the same, so are the results,
+-- The day of standard input: its promise is that some bytes came, of which this is the day, unless a read or a write failed. Where the bytes that came are
+-- the same, and neither failed or both did, so are the results,
 pub of-feed-whole-day :
-    (κs : Lfts 0) (a : Args feed.whole_day.signature κs) (x y : Res feed.whole_day.signature κs) (e : AtExit feed.whole_day.ended κs)
+    (κs : Lfts 1) (a : Args feed.whole_day.signature κs) (x y : Res feed.whole_day.signature κs) (e : AtExit feed.whole_day.ended κs)
     (p : feed.whole_day.Reads.Learnt κs a x e) (q : feed.whole_day.Reads.Learnt κs a y e) →
-    p .input ≡ q .input → x ≡ y
-of-feed-whole-day κs a x y e p q same = p .is ∙ ap wholeDay same ∙ sym (q .is)
+    p .input ≡ q .input → x .failed ≡ y .failed → x ≡ y
+of-feed-whole-day κs a x y e p q same luck = p .is ∙ ap (λ t. pick t noDay (wholeDay (p .input))) luck ∙ ap (λ s. pick (y .failed) noDay (wholeDay s)) same ∙ sym (q .is)
 
--- and which bytes came is all that it leaves open: the day of any bytes meets it.
+-- and that is all that it leaves open: the day of any bytes meets it, and so does a failure.
 pub whatever-bytes-came :
-    (κs : Lfts 0) (a : Args feed.whole_day.signature κs) (e : AtExit feed.whole_day.ended κs) (s : List ℕ) →
-    Bytes s → feed.whole_day.Reads.Learnt κs a (wholeDay s) e
-whatever-bytes-came κs a e s bytes = record { input = s; bytes = bytes; is = refl }
+    (κs : Lfts 1) (a : Args feed.whole_day.signature κs) (e : AtExit feed.whole_day.ended κs) (s : List ℕ) →
+    Bytes s → feed.whole_day.Reads.Learnt κs a (wholeDay s) e × feed.whole_day.Reads.Learnt κs a noDay e
+unfolding pick wholeDay noDay
+whatever-bytes-came κs a e s bytes = (record { input = s; bytes = bytes; is = refl }, record { input = s; bytes = bytes; is = refl })

@@ -14,8 +14,8 @@ use Rattle.book.specs.Facts.{Sound}
 use Rattle.book.proofs.SoundTest.{sound←}
 use Rattle.dayfile.specs.declared.Record.{Record}
 use Rattle.rules.specs.Refusals.{namedRow}
-use Rattle.rules.specs.Inner.{SeenOf, changeBy}
-use Rattle.rules.proofs.WhatIsSeen.{toSee, sees-all, change-seen}
+use Rattle.rules.specs.Inner.{IsBeside, changeBy}
+use Rattle.rules.proofs.WhatIsBeside.{besideOf, beside-is, change-beside}
 use Rattle.records.proofs.SoundRun.{step-sound}
 use Rattle.desk.specs.declared.Done.{Done}
 use Rattle.desk.specs.Steps.{doneBy, stepOf}
@@ -25,11 +25,11 @@ use Rattle.closeout.specs.Closing.{lossAt, noTotal, closeOutRefusals, closeOutR
 use Rattle.promises.specs.Sequences.{afterAll}
 
 abbrev pub quickStep : Book → Record → Done
-quickStep b r = doneBy b r (changeBy (namedRow b r) (b .count) (b .serial) (toSee b r) r)
+quickStep b r = doneBy b r (changeBy (namedRow b r) (b .count) (b .serial) (besideOf b r) r)
 
 pub quick-step : (b : Book) (r : Record) → Sound b → stepOf b r ≡ quickStep b r
 unfolding stepOf
-quick-step b r s = ap (doneBy b r) (sym (change-seen b s r (toSee b r) (sees-all b r)))
+quick-step b r s = ap (doneBy b r) (sym (change-beside b s r (besideOf b r) (beside-is b r)))
 
 pub all-sound : (b : Book) (rs : List Record) → Sound b → Sound (afterAll b rs)
 unfolding afterAll

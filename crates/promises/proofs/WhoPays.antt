@@ -16,7 +16,7 @@ use Rattle.rows.proofs.BySort.{client-sort, client-tm}
 use Rattle.closeout.specs.Columns.{ownColumn, tmColumn, cmColumn, uncovered, four, total}
 use Rattle.closeout.specs.Bound.{cellOf}
 use Rattle.closeout.specs.Closing.{lossAt, closeOutRefusal, closedOf}
-use Rattle.closeout.proofs.Cells.{cell, four-long}
+use Rattle.closeout.proofs.Cells.{cell-of-rows, four-long}
 use Rattle.closeout.proofs.Carried.{carried-sound, carried-total, carried-room}
 use Rattle.promises.specs.Payers.{takenOut, paysInAll}
 use Rattle.promises.proofs.Payments.{amountOf, each-column-from-the-one-it-names, nothing-from-any-other, taken-and-uncovered-add-up, a-client-or-CP-pays, nobody-pays-more, payments-and-total-add-up}
@@ -27,7 +27,7 @@ module _ (b : Book) (losses room : List ℕ) (carried : closeOutRefusal b losses
   shaped = carried-sound b losses room carried .shaped
 
   cells : (i : ℕ) → i < b .count → (k : ℕ) → k < 4 → cellOf b losses room i k ≡ amountOf (view b) (lossAt losses) i k
-  cells i m k h = rw (carried-room b losses room carried) (cell (four (view b) (lossAt losses)) (four-long (view b) (lossAt losses)) (b .count) i k m h)
+  cells i m k h = rw (carried-room b losses room carried) (cell-of-rows (four (view b) (lossAt losses)) (four-long (view b) (lossAt losses)) (b .count) i k m h)
 
   taken : (p i : ℕ) → i < b .count → takenOut (view b) (cellOf b losses room) p i ≡ takenOut (view b) (amountOf (view b) (lossAt losses)) p i
   unfolding takenOut

@@ -9,7 +9,7 @@ use Rattle.rows.specs.Rows.{modeAt, placeOf, view, hasLiveClient, isLive}
 use Rattle.book.specs.Sound.{soundB}
 use Rattle.dayfile.specs.declared.Record.{Record}
 use Rattle.dayfile.specs.Records.{faults}
-use Rattle.rules.specs.Refusals.{namedRow, wrongSort, noNumberLeft, pastCeiling, tooMuch, heldByMode, beyondFree, needOver, newMargin, notRetirable}
+use Rattle.rules.specs.Refusals.{namedRow, wrongSort, noNumberLeft, pastCeiling, tooMuch, heldByMode, beyondFree, needPasses, newMargin, notRetirable}
 
 -- as `refusals`, but "13: after the new margin the CM's need would pass its collateral"
 abbrev pub asBefore : Book → Record → List Line
@@ -24,6 +24,6 @@ asBefore b r =
     ∷ (11 when tooMuch (namedRow b r) r)
     ∷ (17 when heldByMode (modeAt b (placeOf b (r .account))) r)
     ∷ (12 when beyondFree (free (view b) (placeOf b (r .account))) r)
-    ∷ (13 when (eqb (r .code) 10 && needOver (view (newMargin b r))))
+    ∷ (13 when (eqb (r .code) 10 && needPasses (view (newMargin b r))))
     ∷ (14 when notRetirable (namedRow b r) (hasLiveClient b (placeOf b (r .account))) r)
     ∷ []))

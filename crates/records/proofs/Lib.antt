@@ -1,6 +1,6 @@
 pub mod Numbers
 pub mod Turning
-pub mod Tellings
+pub mod NumbersPut
 pub mod SoundRun
 pub mod Stops
 pub mod Pieces

@@ -20,7 +20,7 @@ use Rattle.rules.proofs.Deciding.{never-one, refuse-number}
 use Rattle.desk.specs.declared.Outcome.the-variants.{Refused}
 use Rattle.desk.specs.Answers.{nobody, ofRecord, answerOf, carriedIn}
 use Rattle.desk.specs.Steps.{stepOf}
-use Rattle.records.specs.Told.{five}
+use Rattle.records.specs.LineNumbers.{numbersOfLine}
 use Rattle.steps.specs.Steps.{refusalShown, givenShown, carriedShown}
 
 -- the numbers of a record at a sound book, by its change
@@ -37,12 +37,12 @@ carried-shown count r (Refuse n) = by (eqb n 1)
 carried-shown count r (Put x) = refl
 carried-shown count r (Open x) = refl
 
-pub numbers-by : (b : Book) (r : Record) (c : Change) → Sound b → c ≡ changeOf b r → five (stepOf b r .answer) ≡ numbersBy r (b .count) c
-unfolding five stepOf
+pub numbers-by : (b : Book) (r : Record) (c : Change) → Sound b → c ≡ changeOf b r → numbersOfLine (stepOf b r .answer) ≡ numbersBy r (b .count) c
+unfolding numbersOfLine stepOf
 numbers-by b r (Refuse n) s e =
-    ap five (ap (answerOf (b .count) r) (sym e) ∙ pick-no (eqb n 1) _ _ (ne-eqb n 1 (λ q. never-one b r s (refuse-number b r n (sym e) ∙ q))))
-numbers-by b r (Put x) s e = ap (λ c. five (answerOf (b .count) r c)) (sym e)
-numbers-by b r (Open x) s e = ap (λ c. five (answerOf (b .count) r c)) (sym e)
+    ap numbersOfLine (ap (answerOf (b .count) r) (sym e) ∙ pick-no (eqb n 1) _ _ (ne-eqb n 1 (λ q. never-one b r s (refuse-number b r n (sym e) ∙ q))))
+numbers-by b r (Put x) s e = ap (λ c. numbersOfLine (answerOf (b .count) r c)) (sym e)
+numbers-by b r (Open x) s e = ap (λ c. numbersOfLine (answerOf (b .count) r c)) (sym e)
 
 -- five stores, one after the other
 pub five-stores : (l : List ℕ) (at a b c d e : ℕ)

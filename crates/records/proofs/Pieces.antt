@@ -22,7 +22,7 @@ use Rattle.records.specs.declared.Ran.{Ran}
 use Rattle.records.specs.Runs.{endedWith, stopped, onward, runOf, ranOf}
 use Rattle.records.proofs.SoundRun.{run-sound}
 use Rattle.records.proofs.Stops.{run-stops}
-use Rattle.records.proofs.Tellings.{ran-sound, ran-unsound}
+use Rattle.records.proofs.NumbersPut.{ran-sound, ran-unsound}
 
 -- what a run came to, after place bytes and with these counts before it
 abbrev pub onFrom : ℕ → ℕ → ℕ → Ran → Ran

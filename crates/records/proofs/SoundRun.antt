@@ -22,8 +22,8 @@ use Rattle.desk.specs.Steps.{stepOf, onFound, nextOf}
 use Rattle.desk.proofs.Doing.{sound-next}
 use Rattle.records.specs.declared.Closing.the-variants.{Unsound}
 use Rattle.records.specs.Runs.{endedWith, stopped, onward, runOf, ranOf}
-use Rattle.records.specs.Told.{answering, answersOf, carriedOf}
-use Rattle.records.proofs.Tellings.{ran-sound}
+use Rattle.records.specs.LineNumbers.{answering, answersOf, carriedOf}
+use Rattle.records.proofs.NumbersPut.{ran-sound}
 
 pub step-sound : (b : Book) (r : Record) → Sound b → Sound (stepOf b r .book)
 unfolding stepOf

@@ -22,7 +22,7 @@ use Rattle.records.specs.declared.Closing.{Closing}
 use Rattle.records.specs.declared.Closing.the-variants.{End, Cut, Long, Unsound}
 use Rattle.records.specs.declared.Ran.{Ran}
 use Rattle.records.specs.Runs.{endedWith, stopped, onward, runOf, ranOf}
-use Rattle.records.proofs.Tellings.{ran-sound, ran-unsound}
+use Rattle.records.proofs.NumbersPut.{ran-sound, ran-unsound}
 
 -- two closing words that differ
 never : {A : Type 0} → _≡_ {A = ℕ} 0 1 → A

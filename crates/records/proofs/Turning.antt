@@ -21,21 +21,21 @@ use Rattle.desk.specs.Steps.{stepOf}
 use Rattle.records.specs.declared.Closing.{Closing}
 use Rattle.records.specs.declared.Closing.the-variants.{End, Cut, Long}
 use Rattle.records.specs.Runs.{endedWith, stopped, runOf}
-use Rattle.records.specs.Told.{five}
-use Rattle.records.specs.Inner.{putFive, tellOf}
+use Rattle.records.specs.LineNumbers.{numbersOfLine}
+use Rattle.records.specs.Inner.{putLineNumbers, putNumbersFrom}
 use Rattle.steps.specs.Steps.{carriedShown}
 use Rattle.records.proofs.Numbers.{numbersBy, carried-shown, numbers-by}
 
 -- s is the piece; with ₀ what was there where the loop began
-module _ (s : List ℕ) (most : ℕ) (tell : Bool) (room₀ : List ℕ) (b₀ : Book) (place₀ read₀ done₀ : ℕ) where
+module _ (s : List ℕ) (most : ℕ) (numbered : Bool) (room₀ : List ℕ) (b₀ : Book) (place₀ read₀ done₀ : ℕ) where
   pub record Loop (room : List ℕ) (b : Book) (place read done : ℕ) : Type 0 where
     pub within : read ≤ most
     pub fewer : done ≤ read
     pub sound : Sound b
     pub same : length room ≡ length room₀
-    pub space : tell ≡ true → 5 * most ≤ length room₀
+    pub space : numbered ≡ true → 5 * most ≤ length room₀
     pub runs : runOf s (most - read) b place read done ≡ runOf s most b₀ place₀ read₀ done₀
-    pub tells : pick tell (tellOf s (most - read) b place read room) room ≡ pick tell (tellOf s most b₀ place₀ read₀ room₀) room₀
+    pub numbers : pick numbered (putNumbersFrom s (most - read) b place read room) room ≡ pick numbered (putNumbersFrom s most b₀ place₀ read₀ room₀) room₀
 
 pub carried-most : (c : Change) → carriedShown c ≤ 1
 carried-most (Refuse n) = omega arith
@@ -60,70 +60,70 @@ module _ (s : List ℕ) (most : ℕ) (b : Book) (place read : ℕ) (r : Record) 
   unfolding runOf
   run-turn done = rw (fuel, f)
 
-  tell-turn : (room : List ℕ) → tellOf s (most - read) b place read room
-      ≡ tellOf s (most - (read + 1)) (stepOf b r .book) next (read + 1) (putFive room read (five (stepOf b r .answer)))
-  unfolding tellOf
-  tell-turn room = rw (fuel, f)
+  numbers-turn : (room : List ℕ) → putNumbersFrom s (most - read) b place read room
+      ≡ putNumbersFrom s (most - (read + 1)) (stepOf b r .book) next (read + 1) (putLineNumbers room read (numbersOfLine (stepOf b r .answer)))
+  unfolding putNumbersFrom
+  numbers-turn room = rw (fuel, f)
 
-module _ (s : List ℕ) (most : ℕ) (tell : Bool) (room₀ : List ℕ) (b₀ : Book) (place₀ read₀ done₀ : ℕ)
-    (room : List ℕ) (b : Book) (place read done : ℕ) (g : Loop s most tell room₀ b₀ place₀ read₀ done₀ room b place read done) where
+module _ (s : List ℕ) (most : ℕ) (numbered : Bool) (room₀ : List ℕ) (b₀ : Book) (place₀ read₀ done₀ : ℕ)
+    (room : List ℕ) (b : Book) (place read done : ℕ) (g : Loop s most numbered room₀ b₀ place₀ read₀ done₀ room b place read done) where
   -- one record more, whose change is c
-  pub turn : (r : Record) (next : ℕ) (c : Change) (room′ : List ℕ) (b′ : Book) → read < most → foundAt s place ≡ Whole r next → c ≡ changeOf b r
-      → room′ ≡ pick tell (putFive room read (numbersBy r (b .count) c)) room → b′ ≡ bookAfter b (r .account) c
-      → Loop s most tell room₀ b₀ place₀ read₀ done₀ room′ b′ next (read + 1) (done + carriedShown c)
+  pub turn-one-more : (r : Record) (next : ℕ) (c : Change) (room′ : List ℕ) (b′ : Book) → read < most → foundAt s place ≡ Whole r next → c ≡ changeOf b r
+      → room′ ≡ pick numbered (putLineNumbers room read (numbersBy r (b .count) c)) room → b′ ≡ bookAfter b (r .account) c
+      → Loop s most numbered room₀ b₀ place₀ read₀ done₀ room′ b′ next (read + 1) (done + carriedShown c)
   unfolding pick
-  turn r next c room′ b′ l f e er eb = record {
+  turn-one-more r next c room′ b′ l f e er eb = record {
     within = omega arith;
     fewer = omega (arith, g .fewer, carried-most c);
     sound = rw (eb, e) (change-sound b r (g .sound));
-    same = size tell er ∙ g .same;
+    same = size numbered er ∙ g .same;
     space = g .space;
     runs = rw (eb, ← (step-book b r c e), ← (step-carried b r c e)) (sym (run-turn s most b place read r next l f done) ∙ g .runs);
-    tells = rw (eb, ← (step-book b r c e)) (told tell er ∙ g .tells);
+    numbers = rw (eb, ← (step-book b r c e)) (numbers-on numbered er ∙ g .numbers);
   }
     where
-      size : (t : Bool) → room′ ≡ pick t (putFive room read (numbersBy r (b .count) c)) room → length room′ ≡ length room
+      size : (t : Bool) → room′ ≡ pick t (putLineNumbers room read (numbersBy r (b .count) c)) room → length room′ ≡ length room
       size true q = ap length q ∙ length-sets room (5 * read) (numbersBy r (b .count) c)
       size false q = ap length q
 
-      told : (t : Bool) → room′ ≡ pick t (putFive room read (numbersBy r (b .count) c)) room
-          → pick t (tellOf s (most - (read + 1)) (stepOf b r .book) next (read + 1) room′) room′ ≡ pick t (tellOf s (most - read) b place read room) room
-      told true q =
-          ap (tellOf s (most - (read + 1)) (stepOf b r .book) next (read + 1)) (q ∙ ap (putFive room read) (sym (numbers-by b r c (g .sound) e)))
-          ∙ sym (tell-turn s most b place read r next l f room)
-      told false q = q
+      numbers-on : (t : Bool) → room′ ≡ pick t (putLineNumbers room read (numbersBy r (b .count) c)) room
+          → pick t (putNumbersFrom s (most - (read + 1)) (stepOf b r .book) next (read + 1) room′) room′ ≡ pick t (putNumbersFrom s (most - read) b place read room) room
+      numbers-on true q =
+          ap (putNumbersFrom s (most - (read + 1)) (stepOf b r .book) next (read + 1)) (q ∙ ap (putLineNumbers room read) (sym (numbers-by b r c (g .sound) e)))
+          ∙ sym (numbers-turn s most b place read r next l f room)
+      numbers-on false q = q
 
-  -- where the loop stops, nothing more is told
-  nothing-told : (t : Bool) → tellOf s (most - read) b place read room ≡ room → pick t (tellOf s (most - read) b place read room) room ≡ room
+  -- where the loop stops, no more numbers are put
+  no-more-numbers : (t : Bool) → putNumbersFrom s (most - read) b place read room ≡ room → pick t (putNumbersFrom s (most - read) b place read room) room ≡ room
   unfolding pick
-  nothing-told true h = h
-  nothing-told false h = refl
+  no-more-numbers true h = h
+  no-more-numbers false h = refl
 
   abbrev Finished : Closing → Type 0
   Finished word =
       (endedWith word b place read done ≡ runOf s most b₀ place₀ read₀ done₀)
-      × (room ≡ pick tell (tellOf s most b₀ place₀ read₀ room₀) room₀)
+      × (room ≡ pick numbered (putNumbersFrom s most b₀ place₀ read₀ room₀) room₀)
 
-  finish : (word : Closing) → runOf s (most - read) b place read done ≡ endedWith word b place read done → tellOf s (most - read) b place read room ≡ room → Finished word
-  finish word p q = (sym p ∙ g .runs, sym (nothing-told tell q) ∙ g .tells)
+  finish : (word : Closing) → runOf s (most - read) b place read done ≡ endedWith word b place read done → putNumbersFrom s (most - read) b place read room ≡ room → Finished word
+  finish word p q = (sym p ∙ g .runs, sym (no-more-numbers numbered q) ∙ g .numbers)
 
-  at-end : (n : ℕ) → foundAt s place ≡ NoBytes → (runOf s n b place read done ≡ endedWith End b place read done) × (tellOf s n b place read room ≡ room)
-  unfolding runOf tellOf
+  at-end : (n : ℕ) → foundAt s place ≡ NoBytes → (runOf s n b place read done ≡ endedWith End b place read done) × (putNumbersFrom s n b place read room ≡ room)
+  unfolding runOf putNumbersFrom
   at-end zero f = (rw f, refl)
   at-end (suc n) f = (rw f, rw f)
 
-  pub ends : foundAt s place ≡ NoBytes → Finished End
-  ends f = finish End (at-end (most - read) f .0) (at-end (most - read) f .1)
+  pub turn-ends : foundAt s place ≡ NoBytes → Finished End
+  turn-ends f = finish End (at-end (most - read) f .0) (at-end (most - read) f .1)
 
-  at-cut : (n : ℕ) → n ≡ suc (most - (read + 1)) → foundAt s place ≡ TooFew → (runOf s n b place read done ≡ endedWith Cut b place read done) × (tellOf s n b place read room ≡ room)
-  unfolding runOf tellOf
+  at-cut : (n : ℕ) → n ≡ suc (most - (read + 1)) → foundAt s place ≡ TooFew → (runOf s n b place read done ≡ endedWith Cut b place read done) × (putNumbersFrom s n b place read room ≡ room)
+  unfolding runOf putNumbersFrom
   at-cut n e f = rw e (rw f, rw f)
 
-  pub cuts : read < most → foundAt s place ≡ TooFew → Finished Cut
-  cuts l f = let h = at-cut (most - read) (omega arith) f in finish Cut (h .0) (h .1)
+  pub turn-cuts : read < most → foundAt s place ≡ TooFew → Finished Cut
+  turn-cuts l f = let h = at-cut (most - read) (omega arith) f in finish Cut (h .0) (h .1)
 
-  at-most : (n : ℕ) → n ≡ 0 → (runOf s n b place read done ≡ stopped (foundAt s place) b place read done) × (tellOf s n b place read room ≡ room)
-  unfolding runOf tellOf
+  at-most : (n : ℕ) → n ≡ 0 → (runOf s n b place read done ≡ stopped (foundAt s place) b place read done) × (putNumbersFrom s n b place read room ≡ room)
+  unfolding runOf putNumbersFrom
   at-most n e = rw e (refl, refl)
 
   pub long-cut : most ≤ read → foundAt s place ≡ TooFew → Finished Long

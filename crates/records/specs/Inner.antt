@@ -12,22 +12,22 @@ use Rattle.dayfile.specs.Reading.{foundAt}
 use Rattle.desk.specs.Steps.{stepOf}
 use Rattle.records.specs.declared.Ran.{Ran}
 use Rattle.records.specs.declared.Went.{Went}
-use Rattle.records.specs.Told.{five}
+use Rattle.records.specs.LineNumbers.{numbersOfLine}
 
 -- the room with the numbers of the record that is number k put in
-abbrev pub putFive : List ℕ → ℕ → List ℕ → List ℕ
-putFive room k numbers = sets room (5 * k) numbers
+abbrev pub putLineNumbers : List ℕ → ℕ → List ℕ → List ℕ
+putLineNumbers room k numbers = sets room (5 * k) numbers
 
--- the room after what stands at a place, record number k, is told, and then what go tells
-abbrev pub telling : (Book → ℕ → ℕ → List ℕ → List ℕ) → Found → Book → ℕ → List ℕ → List ℕ
-telling go NoBytes b k room = room
-telling go TooFew b k room = room
-telling go (Whole r next) b k room = go (stepOf b r .book) next (k + 1) (putFive room k (five (stepOf b r .answer)))
+-- the room after what stands at a place, record number k, has its numbers put, and then those that go puts
+abbrev pub numbering : (Book → ℕ → ℕ → List ℕ → List ℕ) → Found → Book → ℕ → List ℕ → List ℕ
+numbering go NoBytes b k room = room
+numbering go TooFew b k room = room
+numbering go (Whole r next) b k room = go (stepOf b r .book) next (k + 1) (putLineNumbers room k (numbersOfLine (stepOf b r .answer)))
 
 -- the room after the records from a place on, the first of which is number k
-unfoldable pub tellOf : List ℕ → ℕ → Book → ℕ → ℕ → List ℕ → List ℕ
-tellOf s zero b place k room = room
-tellOf s (suc most) b place k room = telling (tellOf s most) (foundAt s place) b k room
+unfoldable pub putNumbersFrom : List ℕ → ℕ → Book → ℕ → ℕ → List ℕ → List ℕ
+putNumbersFrom s zero b place k room = room
+putNumbersFrom s (suc most) b place k room = numbering (putNumbersFrom s most) (foundAt s place) b k room
 
 -- what the loop came to, with the words that it left
 abbrev pub ranIn : Went → Marks → List ℕ → List Bool → List Bool → List ℕ → Ran

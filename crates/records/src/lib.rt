@@ -8,7 +8,7 @@ ghost use Rattle.sums.specs.Choice.{pick};
 ghost use Rattle.table.specs.Words.{marksFrom};
 ghost use Rattle.steps.specs.Steps.{bookAt, Going};
 ghost use Rattle.records.specs.Runs.{runOf};
-ghost use Rattle.records.specs.Inner.{putFive, tellOf, ranIn};
+ghost use Rattle.records.specs.Inner.{putLineNumbers, putNumbersFrom, ranIn};
 use dayfile::Found;
 use dayfile::Record;
 use rows::Book;
@@ -44,9 +44,9 @@ pub struct Went {
 }
 
 // Puts the numbers of the record that is number k.
-fn put_five(room: &mut [u16], k: u64, r: Record, gone: Gone)
+fn put_line_numbers(room: &mut [u16], k: u64, r: Record, gone: Gone)
     requires { ⌜ 5 * (k + 1) ≤ length (now room) ⌝ }
-    ensures { λ _. ⌜ now (room .exit) ≡ putFive (now (room .entry)) k (r .serial ∷ r .code ∷ r .account ∷ gone .refusal ∷ gone .given ∷ []) ⌝ }
+    ensures { λ _. ⌜ now (room .exit) ≡ putLineNumbers (now (room .entry)) k (r .serial ∷ r .code ∷ r .account ∷ gone .refusal ∷ gone .given ∷ []) ⌝ }
 {
     let at = 5 * k as usize;
     room[at] = r.serial;
@@ -56,7 +56,7 @@ fn put_five(room: &mut [u16], k: u64, r: Record, gone: Gone)
     room[at + 4] = gone.given;
 }
 
-// The records of a piece at a sound table, whose arrays are lent, with their numbers told where that is asked for.
+// The records of a piece at a sound table, whose arrays are lent, with their numbers put into the room where that is asked for.
 pub fn go(
     sort: &mut [u8; 256],
     live: &mut [bool; 256],
@@ -64,17 +64,17 @@ pub fn go(
     w: &mut [u64; 2560],
     modes: &mut [bool; 256],
     needs: &mut [u64; 256],
-    used: &mut [u64; 256],
+    excess: &mut [u64; 256],
     was: &[bool; 256],
     first: At,
     piece: &[u8],
     most: u64,
     room: &mut [u16],
-    tell: bool,
+    numbered: bool,
 ) -> Went
-    requires { ⌜ Going first (marksFrom (now sort) (now live) (now tm)) (now w) (now was) (now modes) (now needs) (now used) × (tell ≡ true → 5 * most ≤ length (now room)) ⌝ }
+    requires { ⌜ Going first (marksFrom (now sort) (now live) (now tm)) (now w) (now was) (now modes) (now needs) (now excess) × (numbered ≡ true → 5 * most ≤ length (now room)) ⌝ }
     ensures { λ x. ⌜ ranIn x (marksFrom (now (sort .exit)) (now (live .exit)) (now (tm .exit))) (now (w .exit)) (now (was .entry)) (now (modes .exit)) (now (needs .exit)) ≡ runOf (now (piece .entry)) most (bookAt first (marksFrom (now (sort .entry)) (now (live .entry)) (now (tm .entry))) (now (w .entry)) (now (was .entry)) (now (modes .entry)) (now (needs .entry))) 0 0 0 ⌝ }
-    ensures { λ x. ⌜ Going (x .at) (marksFrom (now (sort .exit)) (now (live .exit)) (now (tm .exit))) (now (w .exit)) (now (was .entry)) (now (modes .exit)) (now (needs .exit)) (now (used .exit)) × (now (room .exit) ≡ pick tell (tellOf (now (piece .entry)) most (bookAt first (marksFrom (now (sort .entry)) (now (live .entry)) (now (tm .entry))) (now (w .entry)) (now (was .entry)) (now (modes .entry)) (now (needs .entry))) 0 0 (now (room .entry))) (now (room .entry))) ⌝ }
+    ensures { λ x. ⌜ Going (x .at) (marksFrom (now (sort .exit)) (now (live .exit)) (now (tm .exit))) (now (w .exit)) (now (was .entry)) (now (modes .exit)) (now (needs .exit)) (now (excess .exit)) × (now (room .exit) ≡ pick numbered (putNumbersFrom (now (piece .entry)) most (bookAt first (marksFrom (now (sort .entry)) (now (live .entry)) (now (tm .entry))) (now (w .entry)) (now (was .entry)) (now (modes .entry)) (now (needs .entry))) 0 0 (now (room .entry))) (now (room .entry))) ⌝ }
 {
     let mut at = first;
     let mut place: usize = 0;
@@ -96,9 +96,9 @@ pub fn go(
                 if most <= read {
                     break Closing::Long;
                 }
-                let gone = step(sort, live, tm, w, modes, needs, used, was, at, r);
-                if tell {
-                    put_five(room, read, r, gone);
+                let gone = step(sort, live, tm, w, modes, needs, excess, was, at, r);
+                if numbered {
+                    put_line_numbers(room, read, r, gone);
                 }
                 at = on(at, gone);
                 place = next;

@@ -4,9 +4,9 @@ use mathlib.Core.List.{[], _∷_}
 use mathlib.Core.Path.{_≡_}
 use native.Mathlib.Omega.{arith}
 use Rattle.rows.specs.Rows.{openedRow}
-use Rattle.lines.specs.Lines.{spaced}
-use Rattle.lines.proofs.Digits.{decimal-one}
-use Rattle.report.specs.Reports.{andSpaces, standingLine, needLine, totalWord, refusedWord, wordLine}
+use Rattle.text.specs.Numbers.{spaced, andSpaces}
+use Rattle.text.proofs.Digits.{decimal-one}
+use Rattle.report.specs.Reports.{standingLine, needLine, totalWord, refusedWord, wordLine}
 
 pub client-line : standingLine 2 (openedRow 2 1) (record { refusal = 0; collateral = 3; need = 6; blocked = 3; deemed = 3; free = 0; mode = false })
     ≡ 50 ∷ 32 ∷ 99 ∷ 108 ∷ 105 ∷ 101 ∷ 110 ∷ 116 ∷ 32 ∷ 108 ∷ 105 ∷ 118 ∷ 101 ∷ 32 ∷ 49 ∷ 32 ∷ 51 ∷ 32 ∷ 54 ∷ 32 ∷ 51 ∷ 32 ∷ 51 ∷ 32 ∷ 48 ∷ 32 ∷ 111 ∷ 102 ∷ 102 ∷ 10 ∷ []

@@ -1,5 +1,3 @@
-pub mod Puts
-pub mod Digits
 pub mod Listed
 pub mod NeedLines
 pub mod Example

@@ -14,7 +14,7 @@ use Rattle.rows.specs.Rows.{view}
 use Rattle.book.specs.Sound.{soundB}
 use Rattle.book.specs.NeedsListed.{needsRefusal, needsRoom, allNeeds}
 use Rattle.book.proofs.SoundTest.{sound→}
-use Rattle.book.proofs.NeedsTold.{needs-unsound, needs-given}
+use Rattle.book.proofs.NeedsAnswers.{needs-unsound, needs-given}
 use Rattle.report.specs.Reports.{accounts, needLines, needsText}
 
 -- the same needs give the same lines

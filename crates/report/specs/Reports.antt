@@ -12,15 +12,12 @@ use Rattle.rows.specs.Rows.{rowAt, view}
 use Rattle.book.specs.declared.Figures.{Figures}
 use Rattle.book.specs.Sound.{soundB}
 use Rattle.book.specs.Asked.{standingOf}
-use Rattle.lines.specs.Lines.{space, newline, followed, spaced}
+use Rattle.text.specs.Numbers.{space, followed, spaced, andSpaces}
+use Rattle.text.specs.Words.{andSpace, andNewline}
 
 -- "A book holds at most 256 accounts, numbered from 0": a count beyond that names no further one
 abbrev pub accounts : ℕ → ℕ
 accounts count = min count 256
-
--- a word and the space behind it
-abbrev pub andSpace : List ℕ → List ℕ
-andSpace word = word ++ (space ∷ [])
 
 -- `cm`, `tm`, `client` or `cp`
 abbrev pub sortWord : ℕ → List ℕ
@@ -38,15 +35,6 @@ stateWord false = 114 ∷ 101 ∷ 116 ∷ 105 ∷ 114 ∷ 101 ∷ 100 ∷ []  --
 abbrev pub modeWord : Bool → List ℕ
 modeWord true = 111 ∷ 110 ∷ []  -- o n
 modeWord false = 111 ∷ 102 ∷ 102 ∷ []  -- o f f
-
--- a word and the line's end behind it
-abbrev pub andNewline : List ℕ → List ℕ
-andNewline word = word ++ (newline ∷ [])
-
--- numbers, the space behind each
-unfoldable pub andSpaces : List ℕ → List ℕ
-andSpaces [] = []
-andSpaces (n ∷ rest) = followed n space ++ andSpaces rest
 
 -- its TM or 0, the five figures
 abbrev pub numbersOf : Row → Figures → List ℕ

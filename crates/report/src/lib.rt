@@ -1,18 +1,19 @@
 // What the programs print behind the records' lines: each text is made in a room and then handed over at once.
+ghost use mathlib.Core.Bool.{false};
 ghost use mathlib.Core.Path.{_≡_};
 ghost use Prim.Native.Nat.{min};
 ghost use lib.ListN.{length};
 ghost use Rattle.lines.specs.Lines.{closingLineOf};
-ghost use Rattle.sums.specs.Room.{over};
+ghost use Rattle.sums.specs.Room.{atStart};
 ghost use Rattle.table.specs.Words.{turnedBack};
 ghost use Rattle.report.specs.Reports.{accounts as Reports·accounts, standingsText, needsText, closeOutText};
-use libc::STDOUT_FILENO;
-use records::Closing;
-use table::Table;
+pub use records::Closing;
+pub use streams::Moved;
+use streams::standard::write_output;
+pub use table::Table;
 
 mod loss;
 mod need;
-mod put;
 mod standing;
 
 fn lesser(a: usize, b: usize) -> usize
@@ -31,7 +32,7 @@ fn accounts(count: usize) -> usize
 // The lines of all accounts' standings: how long they are, and the lines in the room.
 pub fn standings_text(t: Table, room: &mut [u8; 65536]) -> usize
     ensures { λ n. ⌜ n ≡ length (standingsText (turnedBack t)) ⌝ }
-    ensures { λ _. ⌜ now (room .exit) ≡ over (standingsText (turnedBack t)) (now (room .entry)) ⌝ }
+    ensures { λ _. ⌜ now (room .exit) ≡ atStart (standingsText (turnedBack t)) (now (room .entry)) ⌝ }
 {
     let n = accounts(t.count as usize);
     standing::put_standings(room, t, n)
@@ -40,7 +41,7 @@ pub fn standings_text(t: Table, room: &mut [u8; 65536]) -> usize
 // The lines of all accounts' needs: how long they are, and the lines in the room.
 pub fn needs_text(t: Table, room: &mut [u8; 65536]) -> usize
     ensures { λ n. ⌜ n ≡ length (needsText (turnedBack t)) ⌝ }
-    ensures { λ _. ⌜ now (room .exit) ≡ over (needsText (turnedBack t)) (now (room .entry)) ⌝ }
+    ensures { λ _. ⌜ now (room .exit) ≡ atStart (needsText (turnedBack t)) (now (room .entry)) ⌝ }
 {
     let n = accounts(t.count as usize);
     need::put_needs(room, t, n)
@@ -55,37 +56,34 @@ pub fn close_out_text(
     room: &mut [u8; 65536],
 ) -> usize
     ensures { λ n. ⌜ n ≡ length (closeOutText refusal total (now (losses .entry)) (now (amounts .entry))) ⌝ }
-    ensures { λ _. ⌜ now (room .exit) ≡ over (closeOutText refusal total (now (losses .entry)) (now (amounts .entry))) (now (room .entry)) ⌝ }
+    ensures { λ _. ⌜ now (room .exit) ≡ atStart (closeOutText refusal total (now (losses .entry)) (now (amounts .entry))) (now (room .entry)) ⌝ }
 {
     loss::put_close_out(room, refusal, total, losses, amounts)
 }
 
-// Prints the closing line, and gives its length: "`end`, `cut` or `long`, then records read .. and records carried out".
-pub fn closing(word: Closing, read: u64, done: u64) -> usize
-    ensures { λ n. ⌜ n ≡ length (closingLineOf word read done) ⌝ }
+// Prints the closing line for the program named: "`end`, `cut` or `long`, then records read .. and records carried out".
+pub fn closing(program: &[u8], word: Closing, read: u64, done: u64) -> Moved
+    ensures { λ m. ⌜ (m .failed ≡ false → m .count ≡ length (closingLineOf word read done)) ⌝ }
 {
     let mut room = [0u8; 64];
     let n = lines::closing_line(word, read, done, &mut room);
-    io::write_all(STDOUT_FILENO, &room[..n]);
-    n
+    write_output(program, &room[..n])
 }
 
-// Prints the lines of all accounts' standings, and gives their length.
-pub fn standings(t: Table) -> usize
-    ensures { λ n. ⌜ n ≡ length (standingsText (turnedBack t)) ⌝ }
+// Prints the lines of all accounts' standings for the program named.
+pub fn standings(program: &[u8], t: Table) -> Moved
+    ensures { λ m. ⌜ (m .failed ≡ false → m .count ≡ length (standingsText (turnedBack t))) ⌝ }
 {
     let mut room = [0u8; 65536];
     let n = standings_text(t, &mut room);
-    io::write_all(STDOUT_FILENO, &room[..n]);
-    n
+    write_output(program, &room[..n])
 }
 
-// Prints the lines of all accounts' needs, and gives their length.
-pub fn needs(t: Table) -> usize
-    ensures { λ n. ⌜ n ≡ length (needsText (turnedBack t)) ⌝ }
+// Prints the lines of all accounts' needs for the program named.
+pub fn needs(program: &[u8], t: Table) -> Moved
+    ensures { λ m. ⌜ (m .failed ≡ false → m .count ≡ length (needsText (turnedBack t))) ⌝ }
 {
     let mut room = [0u8; 65536];
     let n = needs_text(t, &mut room);
-    io::write_all(STDOUT_FILENO, &room[..n]);
-    n
+    write_output(program, &room[..n])
 }

@@ -2,14 +2,14 @@
 ghost use mathlib.Core.List.{[], _∷_, _++_};
 ghost use Prim.Native.Nat.{_+_, _*_, _≤_};
 ghost use lib.ListN.{length};
-ghost use Rattle.lines.specs.Lines.{spaced};
-ghost use Rattle.lines.specs.Inner.{Puts};
+ghost use Rattle.text.specs.Numbers.{spaced};
+ghost use Rattle.text.specs.Inner.{Puts};
 ghost use Rattle.report.specs.Reports.{lossLines, closeOutText};
 use crate::accounts;
 use crate::lesser;
-use crate::put::put_number;
-use crate::put::put_six;
-use crate::put::put_text;
+use text::put_number;
+use text::put_spaced;
+use text::put_text;
 
 // Puts a word with the space behind it, then a number.
 fn put_labelled(room: &mut [u8], at: usize, word: &[u8], n: u64) -> usize
@@ -18,6 +18,16 @@ fn put_labelled(room: &mut [u8], at: usize, word: &[u8], n: u64) -> usize
 {
     let p = put_text(room, at, word);
     put_number(room, p, n, b'\n')
+}
+
+// Puts a line of six numbers: they take 126 bytes at most.
+fn put_six(room: &mut [u8], at: usize, a: u64, b: u64, c: u64, d: u64, e: u64, f: u64) -> usize
+    requires { ⌜ at + 126 ≤ length (now room) ⌝ }
+    ensures { λ after. ⌜ Puts (now (room .entry)) at (spaced (a ∷ b ∷ c ∷ d ∷ e ∷ f ∷ [])) (now (room .exit)) after ⌝ }
+    ensures { λ after. ⌜ after ≤ at + 126 ⌝ }
+{
+    let list = [a, b, c, d, e, f];
+    put_spaced(room, at, &list)
 }
 
 // Puts the lines of the accounts below n, and gives how long they are.

@@ -2,12 +2,12 @@
 ghost use mathlib.Core.Path.{_≡_};
 ghost use Prim.Native.Nat.{_*_, _≤_};
 ghost use lib.ListN.{length, getD};
-ghost use Rattle.lines.specs.Inner.{Puts};
 ghost use Rattle.table.specs.Words.{turnedBack};
+ghost use Rattle.text.specs.Inner.{Puts};
 ghost use Rattle.report.specs.Reports.{accounts as Reports·accounts, needLines, needsText};
-use crate::put::put_spaced;
 use rows::needs::zeros;
 use table::Table;
+use text::put_spaced;
 
 // Puts the lines of the accounts that a list has the needs of, at most 42 bytes each, and gives how long they are.
 fn put_list(room: &mut [u8], needs: &[u64]) -> usize

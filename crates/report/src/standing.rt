@@ -1,16 +1,18 @@
 // The lines of `standings`, put into a room.
 ghost use Prim.Native.Nat.{_+_, _*_, _≤_};
 ghost use lib.ListN.{length};
-ghost use Rattle.lines.specs.Inner.{Puts};
 ghost use Rattle.table.specs.Words.{turnedBack};
-ghost use Rattle.report.specs.Reports.{andSpace, andSpaces, andNewline, sortWord, stateWord, modeWord, numbersOf, standingLine, standingLines};
-use crate::put::put_each;
-use crate::put::put_number;
-use crate::put::put_text;
+ghost use Rattle.text.specs.Numbers.{andSpaces};
+ghost use Rattle.text.specs.Words.{andSpace, andNewline};
+ghost use Rattle.text.specs.Inner.{Puts};
+ghost use Rattle.report.specs.Reports.{sortWord, stateWord, modeWord, numbersOf, standingLine, standingLines};
 use book::Figures;
 use rows::Row;
 use table::Table;
 use table::places::row_of;
+use text::put_each;
+use text::put_number;
+use text::put_text;
 
 fn put_sort(room: &mut [u8], at: usize, sort: u8) -> usize
     requires { ⌜ at + 7 ≤ length (now room) ⌝ }

@@ -16,11 +16,11 @@ use Rattle.rows.specs.declared.Book.{Book}
 use Rattle.rows.specs.View.{View, isTM, isClient, isCP, isClientOf, ownDeemed, deemedTM, needTM, members}
 use Rattle.rows.specs.Rows.{ceiling, view}
 use Rattle.rows.specs.Facts.{Shaped}
-use Rattle.rows.specs.Under.{Under, accountAt}
+use Rattle.rows.specs.DeemedUnder.{DeemedUnder, accountAt}
 use Rattle.rows.specs.Inner.{Ranged, clientsBelow, membersBelow, viewAs}
 use Rattle.rows.proofs.BySort.{Sort, cm, tm, client, cp, sort-of}
 use Rattle.rows.proofs.NeedSums.{member-most, need-cm-sum, need-tm-sum}
-use Rattle.rows.proofs.Unders.{cm-is, tm-is, none-under}
+use Rattle.rows.proofs.DeemedUnder.{cm-is, tm-is, none-under}
 
 -- no margin of a view passes a cap, and it has at most 256 accounts
 pub record Bounded (v : View) (cap : ℕ) : Type 0 where
@@ -96,7 +96,7 @@ module _ (v : View) (cap : ℕ) (h : Bounded v cap) where
         mul-le-mul-right cap (h .most),
       )
 
-  module _ (s : Shaped v) (under : List ℕ) (u : Under v under) where
+  module _ (s : Shaped v) (under : List ℕ) (u : DeemedUnder v under) where
     pub under-cap : (i : ℕ) → getD under i 0 ≤ 256 * cap
     under-cap i = by (decLt i (v .count))
       where

@@ -14,11 +14,11 @@ use Rattle.sums.proofs.Choices.{pick-yes, pick-no}
 use Rattle.sums.proofs.Lists.{length-listTo, at-listTo, listTo-eq, list-is}
 use Rattle.rows.specs.View.{View, isTM, needTM, needCM, need}
 use Rattle.rows.specs.Facts.{Shaped, NoneBeyond, NeedsKept}
-use Rattle.rows.specs.Under.{Under, accountAt, undersBy, needBy}
+use Rattle.rows.specs.DeemedUnder.{DeemedUnder, accountAt, deemedUnderBy, needBy}
 use Rattle.rows.specs.KeptNeeds.{keptNeed, needsAfresh}
 use Rattle.rows.specs.Inner.{keptWith}
 use Rattle.rows.proofs.BySort.{Sort, cm, tm, client, cp, sort-of, need-CM, need-TM, need-client, need-CP}
-use Rattle.rows.proofs.Unders.{cm-is, tm-is}
+use Rattle.rows.proofs.DeemedUnder.{cm-is, tm-is}
 
 module _ (v : View) where
   pub afresh-size : length (needsAfresh v) ≡ 256
@@ -48,7 +48,7 @@ unfolding needsAfresh
 needs-same v w h = listTo-eq (keptNeed w) (keptNeed v) 256 h
 
 -- a kept need is the margin and what is deemed under the account
-module _ (v : View) (s : Shaped v) (under : List ℕ) (h : Under v under) where
+module _ (v : View) (s : Shaped v) (under : List ℕ) (h : DeemedUnder v under) where
   pub kept-top : keptNeed v 0 ≡ v .margin 0 + getD under 0 0
   kept-top = kept-CM v ∙ cm-is v s under h
 
@@ -87,15 +87,15 @@ afresh-is v needs l h = sym (list-is (keptNeed v) 256 0 needs l h)
 
 -- what is deemed under each account is its kept need less its margin
 module _ (v : View) (s : Shaped v) (none : NoneBeyond v) (margin : ℕ → ℕ) (same : (i : ℕ) → i < 256 → margin i ≡ v .margin i) (needs : List ℕ) (kept : NeedsKept v needs) where
-  abbrev unders : List ℕ
-  unders = undersBy margin needs
+  abbrev deemed-under : List ℕ
+  deemed-under = deemedUnderBy margin needs
 
-  at : (i : ℕ) → i < 256 → getD unders i 0 ≡ keptNeed v i - v .margin i
+  at : (i : ℕ) → i < 256 → getD deemed-under i 0 ≡ keptNeed v i - v .margin i
   at i l =
       at-listTo (λ j. getD needs j 0 - margin j) 256 i 0 l ∙ ap (λ n. n - margin i) (kept i l)
       ∙ ap (λ n. keptNeed v i - n) (same i l)
 
-  pub kept-under : v .count ≤ 256 → Under v unders
+  pub kept-under : v .count ≤ 256 → DeemedUnder v deemed-under
   unfolding needTM needCM
   kept-under most = record {
     size = length-listTo (λ j. getD needs j 0 - margin j) 256;
@@ -103,12 +103,12 @@ module _ (v : View) (s : Shaped v) (none : NoneBeyond v) (margin : ℕ → ℕ) 
     beyond = λ i l. far i l (decLt i 256);
   }
     where
-      by : (i : ℕ) → i < v .count → Sort v i → need v i ≡ v .margin i + getD unders i 0
+      by : (i : ℕ) → i < v .count → Sort v i → need v i ≡ v .margin i + getD deemed-under i 0
       by i l (cm e c) = rw e (omega (arith, at 0 (omega arith), kept-CM v, need-CM v 0 (s .top)))
       by i l (tm g c) = omega (arith, at i (omega arith), kept-TM v i (λ e. omega arith) c, need-TM v i c)
       by i l (client g c) = omega (arith, at i (omega arith), kept-none v i (λ e. omega arith) (ap (λ n. eqb n 1) c), need-client v i c)
       by i l (cp g c) = omega (arith, at i (omega arith), kept-none v i (λ e. omega arith) (ap (λ n. eqb n 1) c), need-CP v i c)
 
-      far : (i : ℕ) → v .count ≤ i → Dec (i < 256) → getD unders i 0 ≡ 0
+      far : (i : ℕ) → v .count ≤ i → Dec (i < 256) → getD deemed-under i 0 ≡ 0
       far i l (yes q) = omega (arith, at i q, kept-none v i (λ e. omega (arith, s .some)) (none i l))
-      far i l (no q) = List·getD-eq-default unders 0 (omega (arith, length-listTo (λ j. getD needs j 0 - margin j) 256))
+      far i l (no q) = List·getD-eq-default deemed-under 0 (omega (arith, length-listTo (λ j. getD needs j 0 - margin j) 256))

@@ -1,6 +1,6 @@
 pub mod BySort
 pub mod NeedSums
-pub mod Unders
+pub mod DeemedUnder
 pub mod Bounds
 pub mod Tenths
 pub mod Looks

@@ -13,7 +13,7 @@ use Rattle.sums.proofs.Choices.{and-same}
 use Rattle.sums.proofs.Lists.{length-listTo, at-listTo, listTo-eq, list-is, filled-step, getD-same}
 use Rattle.rows.specs.View.{View, isTM}
 use Rattle.rows.specs.Facts.{Shaped, NoneBeyond}
-use Rattle.rows.specs.Under.{Under}
+use Rattle.rows.specs.DeemedUnder.{DeemedUnder}
 use Rattle.rows.specs.Inner.{inTenths}
 use Rattle.rows.specs.Modes.{hasMode, useOf, turnsOn, turnsOff, modeAfter, lookAt, looked}
 use Rattle.rows.proofs.Tenths.{use-by}
@@ -67,7 +67,7 @@ look-twice v modes = listTo-eq (lookAt v (looked v modes)) (lookAt v modes) 256 
         ∙ look-again (useOf v i) (v .collateral i) (getD modes i false))
 
 -- one account's look, by the list of what is under each account in tenths
-pub look-by : (v : View) → Shaped v → (under : List ℕ) → Under (inTenths v) under → (modes : List Bool) (i : ℕ) → i < v .count
+pub look-by : (v : View) → Shaped v → (under : List ℕ) → DeemedUnder (inTenths v) under → (modes : List Bool) (i : ℕ) → i < v .count
     → (hasMode v i && modeAfter (10 * v .margin i + getD under i 0) (v .collateral i) (getD modes i false)) ≡ lookAt v modes i
 look-by v s under h modes i l =
     and-same (hasMode v i) (λ e. ap (λ u. modeAfter u (v .collateral i) (getD modes i false)) (sym (use-by v s under h i l e)))

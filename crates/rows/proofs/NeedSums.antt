@@ -1,8 +1,8 @@
 -- The sums of needs a row at a time, the most that one account adds, and what a client adds to which place.
-use mathlib.Core.Path.{_≡_, refl, sym, _∙_}
+use mathlib.Core.Path.{_≡_, refl, sym, ap, _∙_}
 use mathlib.Core.Bool.{Bool, true, false, _&&_, and-false}
 use mathlib.Core.List.{List}
-use Prim.Native.Nat.{ℕ, _+_, _*_, _≤_, _<_}
+use Prim.Native.Nat.{ℕ, _+_, _-_, _*_, _≤_, _<_}
 use native.Mathlib.Omega.{arith}
 use native.Mathlib.Decide.{decLt, ℕ-discrete}
 use lib.Dec.{eqb, ltb}
@@ -14,7 +14,7 @@ use Rattle.sums.proofs.Choices.{pick-no}
 use Rattle.sums.proofs.Sums.{sum-step, only-most}
 use Rattle.rows.specs.declared.Account.{Account}
 use Rattle.rows.specs.View.{View, isCM, isTM, isClientOf, ownDeemed, deemedOf, deemedTM, needTM, needCM, need, members}
-use Rattle.rows.specs.Under.{accountAt, clientDue, memberDue, underTM, underCM}
+use Rattle.rows.specs.DeemedUnder.{accountAt, clientDue, memberDue, deemedUnderTM, deemedUnderCM}
 use Rattle.rows.specs.Inner.{Slot, clientsBelow, membersBelow}
 
 pub clients-none : (v : View) (t : ℕ) → clientsBelow v t 0 ≡ 0
@@ -48,9 +48,17 @@ member-most a d =
     )
 
 -- what is deemed under the CM after a change
-pub under-cm-most : (old new tm : Account) (under owed all : ℕ)
-    → underCM old new under tm owed all ≤ all + owed + under + 3 * new .margin + 2 * tm .margin
-under-cm-most old new tm under owed all = omega (arith, member-most new under, member-most tm (underTM old new owed), due-most new)
+pub deemed-under-cm-most : (old new tm : Account) (under clients all : ℕ)
+    → deemedUnderCM old new under tm clients all ≤ all + clients + under + 3 * new .margin + 2 * tm .margin
+deemed-under-cm-most old new tm under clients all = omega (arith, member-most new under, member-most tm (deemedUnderTM old new clients), due-most new)
+
+-- nothing moves under the TM of an account that is no client
+pub no-client-moves : (old new tm : Account) (under clients all : ℕ) → eqb (old .sort) 2 ≡ false → eqb (new .sort) 2 ≡ false
+    → all + memberDue new under - memberDue old under ≡ deemedUnderCM old new under tm clients all
+no-client-moves old new tm under clients all p q =
+    let e : deemedUnderTM old new clients ≡ clients = rw (p, q) (omega arith) in
+    let f : memberDue tm (deemedUnderTM old new clients) ≡ memberDue tm clients = ap (memberDue tm) e in
+    omega arith
 
 pub need-cm-sum : (v : View) → needCM v ≡ v .margin 0 + membersBelow v (v .count)
 unfolding needCM membersBelow

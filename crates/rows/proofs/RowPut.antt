@@ -28,11 +28,11 @@ module _ (b : Book) (r : Row) where
 
   -- where the table has room
   module _ (room : b .count < places b) where
-    pub new : rowAt (withNew b r) (b .count) ≡ r
-    new = getD-set-same (b .rows) (b .count) r noRow room
+    pub opened-new : rowAt (withNew b r) (b .count) ≡ r
+    opened-new = getD-set-same (b .rows) (b .count) r noRow room
 
-    pub below : (i : ℕ) → i < b .count → rowAt (withNew b r) i ≡ rowAt b i
-    below i q = getD-set-other (b .rows) (b .count) i r noRow (λ e. omega arith)
+    pub opened-below : (i : ℕ) → i < b .count → rowAt (withNew b r) i ≡ rowAt b i
+    opened-below i q = getD-set-other (b .rows) (b .count) i r noRow (λ e. omega arith)
 
-    pub above : (i : ℕ) → b .count < i → rowAt (withNew b r) i ≡ rowAt b i
-    above i q = getD-set-other (b .rows) (b .count) i r noRow (λ e. omega arith)
+    pub opened-above : (i : ℕ) → b .count < i → rowAt (withNew b r) i ≡ rowAt b i
+    opened-above i q = getD-set-other (b .rows) (b .count) i r noRow (λ e. omega arith)

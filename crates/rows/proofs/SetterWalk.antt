@@ -82,8 +82,8 @@ pub record Value (F : RattleType) (τ : Ty) (val : F .Denot → Val) : Type 2 wh
   pub bound : (n : F .Denot) → Last (F .exit yes) n
   pub silent : (n : F .Denot) (w : Last (F .exit yes) n) → left (F .exit yes) n w ≡ ftrue
 
-pub number : Value u64 (tyInt w64) (vint w64)
-number = record {
+pub value-of-number : Value u64 (tyInt w64) (vint w64)
+value-of-number = record {
   tells = uint-tells w64;
   makes = λ 𝓤 H A W. uint-makes 𝓤 H A W w64;
   typed = λ 𝓤 H A W n is. (tt, record { fits = is .1 });
@@ -91,8 +91,8 @@ number = record {
   silent = λ n w. refl;
 }
 
-pub truth : Value bool tyBool vbool
-truth = record {
+pub value-of-truth : Value bool tyBool vbool
+value-of-truth = record {
   tells = bool-tells;
   makes = λ 𝓤 H A W. bool-makes 𝓤 H A W;
   typed = λ 𝓤 H A W n is. (tt, tt);
@@ -100,8 +100,8 @@ truth = record {
   silent = λ n w. refl;
 }
 
-pub kinds : Value K.the-row K′.mir K′.lowered
-kinds = record {
+pub value-of-kinds : Value K.the-row K′.mir K′.lowered
+value-of-kinds = record {
   tells = LL.tells K.the-type K′.the-laws;
   makes = λ 𝓤 H A W. LL.makes K.the-type K′.the-plain 𝓤 H A;
   typed = λ 𝓤 H A W n is. LL.lawful K.the-type K′.the-laws 𝓤 H A W .typed n _ is .0;

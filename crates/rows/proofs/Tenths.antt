@@ -14,17 +14,17 @@ use Rattle.sums.proofs.Sums.{sum-eq}
 use Rattle.sums.proofs.Choices.{pick-no}
 use Rattle.rows.specs.View.{View, isTM, isCP, isClientOf, members, deemedOf, ownDeemed, needTM, deemedTM, needCM}
 use Rattle.rows.specs.Facts.{Shaped}
-use Rattle.rows.specs.Under.{Under}
+use Rattle.rows.specs.DeemedUnder.{DeemedUnder}
 use Rattle.rows.specs.Modes.{ownExcess, useTM, excessTM, useCM, hasMode, useOf}
 use Rattle.rows.specs.Inner.{viewAs, inTenths}
-use Rattle.rows.proofs.Unders.{cm-is, tm-is}
+use Rattle.rows.proofs.DeemedUnder.{cm-is, tm-is}
 
 -- a need less what is blocked of it is the need less the collateral, or 0
-over : (n c : ℕ) → deemedOf n c ≡ n - c
-over n c = omega arith
+deemed-is : (n c : ℕ) → deemedOf n c ≡ n - c
+deemed-is n c = omega arith
 
 pub own-excess : (v : View) (i : ℕ) → ownDeemed (inTenths v) i ≡ ownExcess v i
-own-excess v i = over (10 * v .margin i) (9 * v .collateral i)
+own-excess v i = deemed-is (10 * v .margin i) (9 * v .collateral i)
 
 pub TM's-use : (v : View) (t : ℕ) → needTM (inTenths v) t ≡ useTM v t
 unfolding needTM useTM
@@ -34,7 +34,7 @@ TM's-use v t =
     (λ i m. ap (only (isClientOf v t i)) (own-excess v i)))
 
 pub TM's-excess : (v : View) (t : ℕ) → deemedTM (inTenths v) t ≡ excessTM v t
-TM's-excess v t = over (needTM (inTenths v) t) (9 * v .collateral t) ∙ ap (λ n. n - 9 * v .collateral t) (TM's-use v t)
+TM's-excess v t = deemed-is (needTM (inTenths v) t) (9 * v .collateral t) ∙ ap (λ n. n - 9 * v .collateral t) (TM's-use v t)
 
 pub CM's-use : (v : View) → needCM (inTenths v) ≡ useCM v
 unfolding needCM useCM
@@ -57,7 +57,7 @@ pub shaped-in : (tenths : Bool) {v : View} → Shaped v → Shaped (viewAs tenth
 shaped-in tenths s = record { some = s .some; top = s .top; sorts = s .sorts; tms = s .tms }
 
 -- by the list of what is under each account in tenths
-pub use-by : (v : View) → Shaped v → (under : List ℕ) → Under (inTenths v) under → (i : ℕ) → i < v .count → hasMode v i ≡ true
+pub use-by : (v : View) → Shaped v → (under : List ℕ) → DeemedUnder (inTenths v) under → (i : ℕ) → i < v .count → hasMode v i ≡ true
     → useOf v i ≡ 10 * v .margin i + getD under i 0
 use-by v s under h i l e = by (ℕ-discrete i 0)
   where

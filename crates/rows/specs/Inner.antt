@@ -12,7 +12,7 @@ use Rattle.rows.specs.declared.Book.{Book}
 use Rattle.rows.specs.View.{View, isClientOf, ownDeemed, deemedTM, members}
 use Rattle.rows.specs.Rows.{places, rowAt}
 use Rattle.rows.specs.Facts.{InRange}
-use Rattle.rows.specs.Under.{accountAt, needToKeep}
+use Rattle.rows.specs.DeemedUnder.{accountAt, needToKeep}
 
 -- what the sums need of a book so that none of them passes a word: part of `Sound`
 pub record Ranged (b : Book) : Type 0 where
@@ -34,9 +34,9 @@ unfoldable pub membersBelow : View → ℕ → ℕ
 membersBelow v n = sum n (members v (deemedTM v) (ownDeemed v))
 
 -- the list holds what each account's clients are deemed
-pub record ClientSums (v : View) (owed : List ℕ) : Type 0 where
-  pub size : length owed ≡ 256
-  pub each : (t : ℕ) → t < 256 → getD owed t 0 ≡ clientsBelow v t (v .count)
+pub record ClientSums (v : View) (under : List ℕ) : Type 0 where
+  pub size : length under ≡ 256
+  pub each : (t : ℕ) → t < 256 → getD under t 0 ≡ clientsBelow v t (v .count)
 
 -- the need to keep at place i, where so much is deemed under the account
 abbrev pub keptWith : View → ℕ → ℕ → ℕ

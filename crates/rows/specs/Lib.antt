@@ -2,7 +2,7 @@ pub mod View
 pub mod Rows
 pub mod Ranges
 pub mod Facts
-pub mod Under
+pub mod DeemedUnder
 pub mod Modes
 pub mod KeptNeeds
 pub mod Inner

@@ -1,5 +1,5 @@
 // The rows of the old order's book, and what one account adds to what is deemed under others.
-pub mod kept;
+pub mod deemed;
 pub mod modes;
 pub mod needs;
 pub mod ranges;

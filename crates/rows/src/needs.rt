@@ -7,7 +7,7 @@ ghost use Rattle.sums.specs.Sum.{only};
 ghost use Rattle.rows.specs.View.{blockedOf, deemedOf};
 ghost use Rattle.rows.specs.Rows.{collateral, accountOf};
 ghost use Rattle.rows.specs.Facts.{InRange};
-ghost use Rattle.rows.specs.Under.{clientDue, memberDue};
+ghost use Rattle.rows.specs.DeemedUnder.{clientDue, memberDue};
 ghost use Rattle.rows.specs.Inner.{Slot, accountAs};
 use super::Account;
 use super::Row;

@@ -1,4 +1,4 @@
--- The eleven codes, one by one.
+-- A known code is one of eleven: proofs go by cases over `Code`.
 use mathlib.Core.Bool.{true}
 use mathlib.Core.Path.{_≡_}
 use Prim.Native.Nat.{ℕ, _≤_}
@@ -24,8 +24,8 @@ pub data Code (n : ℕ) : Type 0 where
   retire : n ≡ 11 → Code n
 
 -- a known code is one of them
-pub which : (n : ℕ) → knownCode n ≡ true → Code n
-which n e = at₁ (ℕ-discrete n 1)
+pub known-code-cases : (n : ℕ) → knownCode n ≡ true → Code n
+known-code-cases n e = at₁ (ℕ-discrete n 1)
   where
     low : 1 ≤ n
     low = leb-true 1 n (and-split (leb 1 n) (leb n 11) e .0)

@@ -21,7 +21,7 @@ use Rattle.rules.specs.declared.Change.the-variants.{Refuse, Put, Open}
 use Rattle.rules.specs.Refusals.{isOpening, namedRow, refusalOf}
 use Rattle.rules.specs.Effects.{amended, effectOf, changeOf}
 use Rattle.rules.specs.Inner.{refusalsBy}
-use Rattle.rules.proofs.WhatIsSeen.{toSee}
+use Rattle.rules.proofs.WhatIsBeside.{besideOf}
 use Rattle.rules.proofs.Passing.{Passes, passes-all}
 
 -- a change other than a refusal is made where no refusal applies
@@ -40,7 +40,7 @@ no-refusal b r = by (refusalOf b r)
 
 -- the table past 1
 abbrev rest : Book → Record → List Line
-rest b r = refusalsBy (namedRow b r) (b .count) (b .serial) (toSee b r) r
+rest b r = refusalsBy (namedRow b r) (b .count) (b .serial) (besideOf b r) r
 
 module _ (b : Book) (r : Record) (x : Row) where
   pub put-passes : changeOf b r ≡ Put x → Passes b r

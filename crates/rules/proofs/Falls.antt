@@ -16,17 +16,17 @@ use Rattle.rows.specs.Rows.{modeAt, view, hasLiveClient}
 use Rattle.book.specs.Facts.{Sound}
 use Rattle.book.proofs.SoundAfter.{margin-falls}
 use Rattle.dayfile.specs.declared.Record.{Record}
-use Rattle.rules.specs.Refusals.{namedRow, heldByMode, beyondFree, needOver, newMargin, losesCover, notRetirable, refusalOf}
+use Rattle.rules.specs.Refusals.{namedRow, heldByMode, beyondFree, needPasses, newMargin, losesCover, notRetirable, refusalOf}
 use Rattle.rules.proofs.HeldByMode.{ahead}
 
 module _ (b : Book) (s : Sound b) (r : Record) (l : r .account < b .count) (live : namedRow b r .live ≡ true) where
-  pub stays-covered : r .margin ≤ namedRow b r .margin → needOver (view (newMargin b r)) ≡ false
+  pub stays-covered : r .margin ≤ namedRow b r .margin → needPasses (view (newMargin b r)) ≡ false
   stays-covered h = le-ltb _ _ (margin-falls b s (r .account) l live (r .margin) h .covered)
 
-  pub same-as-any : losesCover (namedRow b r) (needOver (view (newMargin b r))) r ≡ (eqb (r .code) 10 && needOver (view (newMargin b r)))
+  pub same-as-any : losesCover (namedRow b r) (needPasses (view (newMargin b r))) r ≡ (eqb (r .code) 10 && needPasses (view (newMargin b r)))
   same-as-any = ap (λ t. eqb (r .code) 10 && t) (by (ltb (namedRow b r .margin) (r .margin)) refl)
     where
-      by : (t : Bool) → ltb (namedRow b r .margin) (r .margin) ≡ t → (t && needOver (view (newMargin b r))) ≡ needOver (view (newMargin b r))
+      by : (t : Bool) → ltb (namedRow b r .margin) (r .margin) ≡ t → (t && needPasses (view (newMargin b r))) ≡ needPasses (view (newMargin b r))
       by true e = refl
       by false e = sym (stays-covered (ltb-false _ _ e))
 
@@ -38,6 +38,6 @@ rises-at-13 b r e =
     (ahead b r ++ ((17 when heldByMode (modeAt b (r .account)) r) ∷ (12 when beyondFree (free (view b) (r .account)) r) ∷ []))
     ((14 when notRetirable (namedRow b r) (hasLiveClient b (r .account)) r) ∷ [])
     (omega arith, (omega arith, (omega arith, (omega arith, (omega arith, (omega arith, (omega arith, (omega arith, (omega arith, (omega arith, (omega arith, (omega arith, tt)))))))))))) refl refl
-    (losesCover (namedRow b r) (needOver (view (newMargin b r))) r) e in
-    let rise = and-split (eqb (r .code) 10) (ltb (namedRow b r .margin) (r .margin) && needOver (view (newMargin b r))) lost .1 in
-    ltb-true _ _ (and-split (ltb (namedRow b r .margin) (r .margin)) (needOver (view (newMargin b r))) rise .0)
+    (losesCover (namedRow b r) (needPasses (view (newMargin b r))) r) e in
+    let rise = and-split (eqb (r .code) 10) (ltb (namedRow b r .margin) (r .margin) && needPasses (view (newMargin b r))) lost .1 in
+    ltb-true _ _ (and-split (ltb (namedRow b r .margin) (r .margin)) (needPasses (view (newMargin b r))) rise .0)

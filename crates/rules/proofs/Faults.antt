@@ -1,4 +1,4 @@
--- What the absence of faults says of a record's amounts.
+-- What the absence of faults says of a record's amounts: they are within the ceiling, so that no sum of a verdict passes a word.
 use Rattle.dayfile.specs.declared.Record.{Record}
 use Rattle.dayfile.specs.Records.{bit}
 use Rattle.dayfile.proofs.Good.{Good, amount-most}

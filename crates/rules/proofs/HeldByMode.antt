@@ -7,7 +7,7 @@ use native.Mathlib.Omega.{arith}
 use lib.Dec.{eqb}
 use borrow.Author.Tests.{ltb-true}
 use Rattle.sums.specs.Table.{Line, _when_, first}
-use Rattle.sums.proofs.Choices.{clash, and-left}
+use Rattle.sums.proofs.Choices.{test-clash, and-left}
 use Rattle.sums.proofs.Tables.{first-here, first-beyond, first-passes, first-names, first-but}
 use Rattle.rows.specs.declared.Book.{Book}
 use Rattle.rows.specs.View.{free}
@@ -15,7 +15,7 @@ use Rattle.rows.specs.Rows.{modeAt, view, hasLiveClient, isLive}
 use Rattle.book.specs.Sound.{soundB}
 use Rattle.dayfile.specs.declared.Record.{Record}
 use Rattle.dayfile.specs.Records.{faults}
-use Rattle.rules.specs.Refusals.{namedRow, wrongSort, noNumberLeft, pastCeiling, tooMuch, heldByMode, beyondFree, needOver, newMargin, losesCover, notRetirable, refusalOf}
+use Rattle.rules.specs.Refusals.{namedRow, wrongSort, noNumberLeft, pastCeiling, tooMuch, heldByMode, beyondFree, needPasses, newMargin, losesCover, notRetirable, refusalOf}
 
 module _ (b : Book) (r : Record) where
   -- the lines ahead of 17
@@ -35,7 +35,7 @@ module _ (b : Book) (r : Record) where
   abbrev behind : List Line
   behind =
       (12 when beyondFree (free (view b) (r .account)) r)
-      ∷ (13 when losesCover (namedRow b r) (needOver (view (newMargin b r))) r)
+      ∷ (13 when losesCover (namedRow b r) (needPasses (view (newMargin b r))) r)
       ∷ (14 when notRetirable (namedRow b r) (hasLiveClient b (r .account)) r)
       ∷ []
 
@@ -76,7 +76,7 @@ module _ (b : Book) (r : Record) where
 
       by : (t : Bool) → isLive b (r .account) ≡ t → r .account < b .count
       by true q = ltb-true _ _ (and-left _ _ q)
-      by false q = clash (first-passes (λ n. not (eqb n 17)) (early ++ (seven ∷ [])) refl) (ap (λ n. not (eqb n 17)) (stops q))
+      by false q = test-clash (first-passes (λ n. not (eqb n 17)) (early ++ (seven ∷ [])) refl) (ap (λ n. not (eqb n 17)) (stops q))
 
   -- whether the account is held makes no difference where neither answer is 17
   pub held-or-not : (s t : Bool) → (first (withHeld s) ≡ 17 → ⊥) → (first (withHeld t) ≡ 17 → ⊥) → first (withHeld s) ≡ first (withHeld t)

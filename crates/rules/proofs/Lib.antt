@@ -1,11 +1,11 @@
 pub mod Faults
 pub mod Amending
-pub mod WhatIsSeen
+pub mod WhatIsBeside
 pub mod Codes
 pub mod Passing
 pub mod SoundChange
 pub mod Deciding
-pub mod Kept
+pub mod Moves
 pub mod HeldByMode
 pub mod Falls
 pub mod ModesAside

@@ -17,10 +17,10 @@ use Rattle.book.specs.Facts.{Sound}
 use Rattle.book.proofs.SoundTest.{sound→}
 use Rattle.dayfile.specs.declared.Record.{Record}
 use Rattle.dayfile.specs.Records.{faults, faultOf}
-use Rattle.rules.specs.Refusals.{namedRow, wrongSort, noNumberLeft, pastCeiling, tooMuch, heldByMode, beyondFree, losesCover, notRetirable, needOver, newMargin, refusalOf}
+use Rattle.rules.specs.Refusals.{namedRow, wrongSort, noNumberLeft, pastCeiling, tooMuch, heldByMode, beyondFree, losesCover, notRetirable, needPasses, newMargin, refusalOf}
 use Rattle.rules.specs.Inner.{from7}
-use Rattle.dayfile.proofs.Good.{Good, good, three-numbered}
-use Rattle.rules.proofs.WhatIsSeen.{toSee}
+use Rattle.dayfile.proofs.Good.{Good, no-fault-good, three-numbered}
+use Rattle.rules.proofs.WhatIsBeside.{besideOf}
 
 pub record Passes (b : Book) (r : Record) : Type 0 where
   pub sound : Sound b
@@ -34,29 +34,29 @@ pub record Passes (b : Book) (r : Record) : Type 0 where
   pub enough : tooMuch (namedRow b r) r ≡ false
   pub notHeld : heldByMode (modeAt b (r .account)) r ≡ false
   pub isFree : beyondFree (free (view b) (r .account)) r ≡ false
-  pub covered : losesCover (namedRow b r) (needOver (view (newMargin b r))) r ≡ false
+  pub covered : losesCover (namedRow b r) (needPasses (view (newMargin b r))) r ≡ false
   pub retirable : notRetirable (namedRow b r) (hasLiveClient b (r .account)) r ≡ false
 
 pub passes-all : (b : Book) (r : Record) → refusalOf b r ≡ 0 → Passes b r
 unfolding refusalOf faultOf
 passes-all b r e =
     let f₁ = first-fails 1 (not (soundB b)) _ (omega arith) e in
-    let f₃ = first-fails 3 (not (eqb (r .serial) (b .serial))) (faults r ++ from7 (namedRow b r) (b .count) (toSee b r) r) (omega arith) (f₁ .1) in
+    let f₃ = first-fails 3 (not (eqb (r .serial) (b .serial))) (faults r ++ from7 (namedRow b r) (b .count) (besideOf b r) r) (omega arith) (f₁ .1) in
     let none : first (faults r) ≡ 0 = first-clear (faults r) _ (f₃ .1) in
-    let f₇ = first-fails 7 (not (isLive b (r .account))) _ (omega arith) (sym (first-none (faults r) (from7 (namedRow b r) (b .count) (toSee b r) r) (three-numbered r) none) ∙ f₃ .1) in
+    let f₇ = first-fails 7 (not (isLive b (r .account))) _ (omega arith) (sym (first-none (faults r) (from7 (namedRow b r) (b .count) (besideOf b r) r) (three-numbered r) none) ∙ f₃ .1) in
     let f₈ = first-fails 8 (wrongSort (namedRow b r) r) _ (omega arith) (f₇ .1) in
     let f₉ = first-fails 9 (noNumberLeft (b .count) r) _ (omega arith) (f₈ .1) in
     let f₁₀ = first-fails 10 (pastCeiling (namedRow b r) r) _ (omega arith) (f₉ .1) in
     let f₁₁ = first-fails 11 (tooMuch (namedRow b r) r) _ (omega arith) (f₁₀ .1) in
     let f₁₇ = first-fails 17 (heldByMode (modeAt b (r .account)) r) _ (omega arith) (f₁₁ .1) in
     let f₁₂ = first-fails 12 (beyondFree (free (view b) (r .account)) r) _ (omega arith) (f₁₇ .1) in
-    let f₁₃ = first-fails 13 (losesCover (namedRow b r) (needOver (view (newMargin b r))) r) _ (omega arith) (f₁₂ .1) in
+    let f₁₃ = first-fails 13 (losesCover (namedRow b r) (needPasses (view (newMargin b r))) r) _ (omega arith) (f₁₂ .1) in
     let f₁₄ = first-fails 14 (notRetirable (namedRow b r) (hasLiveClient b (r .account)) r) _ (omega arith) (f₁₃ .1) in
     let there = and-split (ltb (r .account) (b .count)) (namedRow b r .live) (not-false _ (f₇ .0)) in
     record {
       sound = sound→ b (not-false _ (f₁ .0));
       serial = eqb-true _ _ (not-false _ (f₃ .0));
-      good = good r none;
+      good = no-fault-good r none;
       account = ltb-true _ _ (there .0);
       live = there .1;
       sort = f₈ .0;

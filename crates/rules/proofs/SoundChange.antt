@@ -23,10 +23,10 @@ use Rattle.book.proofs.Settled.{sound-rows, settled-sound}
 use Rattle.dayfile.specs.declared.Record.{Record}
 use Rattle.rules.specs.declared.Change.{Change}
 use Rattle.rules.specs.declared.Change.the-variants.{Refuse, Put, Open}
-use Rattle.rules.specs.Refusals.{isOpening, namedRow, needOver, newMargin, refusalOf}
+use Rattle.rules.specs.Refusals.{isOpening, namedRow, needPasses, newMargin, refusalOf}
 use Rattle.rules.specs.Effects.{amended, effectOf, changeOf, nextSerial, movedOn, changedBy, bookAfter}
 use Rattle.rules.proofs.Faults.{amounts-in}
-use Rattle.rules.proofs.Codes.{Code, openTM, openClient, openCP, receive, handBack, allocate, release, pledge, unpledge, margin, retire, which}
+use Rattle.rules.proofs.Codes.{Code, openTM, openClient, openCP, receive, handBack, allocate, release, pledge, unpledge, margin, retire, known-code-cases}
 use Rattle.rules.proofs.Passing.{Passes, passes-all}
 use Rattle.rules.proofs.Amending.{by-receive, by-hand-back, by-allocate, by-release, by-pledge, by-unpledge, by-margin, by-retire}
 
@@ -108,7 +108,7 @@ module _ (b : Book) (r : Record) (p : Passes b r) where
       -- a rising margin passed 13, and another lowers no cover
       by : (t : Bool) → ltb (row .margin) (r .margin) ≡ t → SoundRows (newMargin b r)
       by true q =
-          let h : needOver (view (newMargin b r)) ≡ false = rw (e, q) at (p .covered) in
+          let h : needPasses (view (newMargin b r)) ≡ false = rw (e, q) at (p .covered) in
           margin-sound b (p .sound) (r .account) (p .account) (p .live) (r .margin) (amounts-in r (p .good) .margin) (ltb-false _ _ h)
       by false q = margin-falls b (p .sound) (r .account) (p .account) (p .live) (r .margin) (ltb-false _ _ q)
 
@@ -151,7 +151,7 @@ module _ (b : Book) (r : Record) (p : Passes b r) where
   opening e s = rw (pick-yes (isOpening r) (Open (openedRow (r .code) (r .account))) (Put (amended row r)) e) s
 
   pub passing-sound : SoundRows (rowsAfter b r (effectOf row (r .account) r))
-  passing-sound = by (which (r .code) (p .good .known))
+  passing-sound = by (known-code-cases (r .code) (p .good .known))
     where
       by : Code (r .code) → SoundRows (rowsAfter b r (effectOf row (r .account) r))
       by (openTM e) = opening (rw e) (opens-TM e)

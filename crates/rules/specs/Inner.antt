@@ -14,13 +14,13 @@ use Rattle.rows.specs.View.{blockedOf, freeOf, free}
 use Rattle.rows.specs.Rows.{ceiling, modeAt, placeOf, view, hasLiveClient}
 use Rattle.rows.specs.Facts.{KindsWithin}
 use Rattle.rows.specs.Ranges.{ceilings}
-use Rattle.rows.specs.Under.{atMargin, underCM}
+use Rattle.rows.specs.DeemedUnder.{atMargin, deemedUnderCM}
 use Rattle.dayfile.specs.declared.Record.{Record}
 use Rattle.dayfile.specs.Records.{faults}
 use Rattle.rules.specs.declared.Change.{Change}
 use Rattle.rules.specs.declared.Change.the-variants.{Refuse}
-use Rattle.rules.specs.declared.Seen.{Seen}
-use Rattle.rules.specs.Refusals.{wrongSort, noNumberLeft, pastCeiling, tooMuch, heldByMode, beyondFree, losesCover, notRetirable, needOver, newMargin}
+use Rattle.rules.specs.declared.Beside.{Beside}
+use Rattle.rules.specs.Refusals.{wrongSort, noNumberLeft, pastCeiling, tooMuch, heldByMode, beyondFree, losesCover, notRetirable, needPasses, newMargin}
 use Rattle.rules.specs.Effects.{effectOf}
 
 -- no amount of the record passes the ceiling
@@ -29,49 +29,49 @@ pub record AmountsIn (r : Record) : Type 0 where
   pub pledged : r .pledged ≤ ceiling
   pub margin : r .margin ≤ ceiling
 
--- the table from 7 on, by the row named, its mode and what was seen of the others
-abbrev pub from7 : Row → ℕ → Seen → Record → List Line
-from7 row count seen r =
+-- the table from 7 on, by the row named and what stands beside it
+abbrev pub from7 : Row → ℕ → Beside → Record → List Line
+from7 row count beside r =
     (7 when not (ltb (r .account) count && row .live))
     ∷ (8 when wrongSort row r)
     ∷ (9 when noNumberLeft count r)
     ∷ (10 when pastCeiling row r)
     ∷ (11 when tooMuch row r)
-    ∷ (17 when heldByMode (seen .mode) r)
-    ∷ (12 when beyondFree (seen .free) r)
-    ∷ (13 when losesCover row (seen .over) r)
-    ∷ (14 when notRetirable row (seen .tied) r)
+    ∷ (17 when heldByMode (beside .mode) r)
+    ∷ (12 when beyondFree (beside .free) r)
+    ∷ (13 when losesCover row (beside .passes) r)
+    ∷ (14 when notRetirable row (beside .client) r)
     ∷ []
 
 -- the table from 3 on
-abbrev pub refusalsBy : Row → ℕ → ℕ → Seen → Record → List Line
-refusalsBy row count serial seen r = (3 when not (eqb (r .serial) serial)) ∷ (faults r ++ from7 row count seen r)
+abbrev pub refusalsBy : Row → ℕ → ℕ → Beside → Record → List Line
+refusalsBy row count serial beside r = (3 when not (eqb (r .serial) serial)) ∷ (faults r ++ from7 row count beside r)
 
-unfoldable pub refusalBy : Row → ℕ → ℕ → Seen → Record → ℕ
-refusalBy row count serial seen r = first (refusalsBy row count serial seen r)
+unfoldable pub refusalBy : Row → ℕ → ℕ → Beside → Record → ℕ
+refusalBy row count serial beside r = first (refusalsBy row count serial beside r)
 
-unfoldable pub changeBy : Row → ℕ → ℕ → Seen → Record → Change
-changeBy row count serial seen r = unlessRefused (refusalBy row count serial seen r) (effectOf row (r .account) r) Refuse
+unfoldable pub changeBy : Row → ℕ → ℕ → Beside → Record → Change
+changeBy row count serial beside r = unlessRefused (refusalBy row count serial beside r) (effectOf row (r .account) r) Refuse
 
--- what was seen beside the row is right where the table asks for it
-pub record SeenOf (b : Book) (r : Record) (s : Seen) : Type 0 where
+-- what stands beside the row is right where the table asks for it
+pub record IsBeside (b : Book) (r : Record) (s : Beside) : Type 0 where
   pub mode-kinds : r .code ≡ 7 → r .account < b .count → s .mode ≡ modeAt b (placeOf b (r .account))
   pub mode-pledge : r .code ≡ 9 → r .account < b .count → s .mode ≡ modeAt b (placeOf b (r .account))
   pub free-kinds : r .code ≡ 7 → r .account < b .count → s .free ≡ free (view b) (placeOf b (r .account))
   pub free-pledge : r .code ≡ 9 → r .account < b .count → s .free ≡ free (view b) (placeOf b (r .account))
-  pub cover : r .code ≡ 10 → r .account < b .count → r .margin ≤ ceiling → s .over ≡ needOver (view (newMargin b r))
-  pub clients : r .code ≡ 11 → r .account < b .count → s .tied ≡ hasLiveClient b (placeOf b (r .account))
+  pub cover : r .code ≡ 10 → r .account < b .count → r .margin ≤ ceiling → s .passes ≡ needPasses (view (newMargin b r))
+  pub clients : r .code ≡ 11 → r .account < b .count → s .client ≡ hasLiveClient b (placeOf b (r .account))
 
 -- the CM's margin where the account gets the margin m
 abbrev pub topMargin : Account → Account → ℕ → ℕ
 topMargin a top m = only (eqb (a .sort) 0) m + only (not (eqb (a .sort) 0)) (top .margin)
 
--- what is seen by the mode, the account named, the one that it names as its TM, the CM, and what is deemed under each of them
-abbrev pub seenWith : Bool → Account → ℕ → Account → ℕ → Account → ℕ → Bool → Record → Seen
-seenWith mode a under tm owed top all tied r = record {
+-- what stands beside the row, by the mode, the account named, the one that it names as its TM, the CM, and what is deemed under each of them
+abbrev pub besideBy : Bool → Account → ℕ → Account → ℕ → Account → ℕ → Bool → Record → Beside
+besideBy mode a under tm clients top all liveClient r = record {
   mode = mode;
   free = freeOf (a .margin + under) (a .collateral);
-  over = ltb (top .collateral)
-      (topMargin a top (blockedOf (r .margin) ceiling) + underCM a (atMargin a (blockedOf (r .margin) ceiling)) under tm owed all);
-  tied = tied;
+  passes = ltb (top .collateral)
+      (topMargin a top (blockedOf (r .margin) ceiling) + deemedUnderCM a (atMargin a (blockedOf (r .margin) ceiling)) under tm clients all);
+  client = liveClient;
 }

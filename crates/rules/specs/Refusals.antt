@@ -57,8 +57,8 @@ abbrev pub beyondFree : ℕ → Record → Bool
 beyondFree left r = eqb (r .code) 7 && ltb left (addedUp (r .kinds)) || eqb (r .code) 9 && ltb left (r .pledged)
 
 -- the CM's need passes its collateral
-abbrev pub needOver : View → Bool
-needOver v = ltb (v .collateral 0) (needCM v)
+abbrev pub needPasses : View → Bool
+needPasses v = ltb (v .collateral 0) (needCM v)
 
 -- the book with the new margin of the account named
 abbrev pub newMargin : Book → Record → Book
@@ -66,11 +66,11 @@ newMargin b r = withRow b (placeOf b (r .account)) (withMargin (namedRow b r) (r
 
 -- "13: after a rising margin the CM's need would pass its collateral" (document 02, K6: "Document 01's line for 13 reads "a rising margin" from here on.")
 abbrev pub losesCover : Row → Bool → Record → Bool
-losesCover row over r = eqb (r .code) 10 && (ltb (row .margin) (r .margin) && over)
+losesCover row passes r = eqb (r .code) 10 && (ltb (row .margin) (r .margin) && passes)
 
 -- "14: retiring an account with any amount not zero, or a TM with a live client": in a sound book only a TM has clients
 abbrev pub notRetirable : Row → Bool → Record → Bool
-notRetirable row tied r = eqb (r .code) 11 && (not (noAmounts row) || tied)
+notRetirable row liveClient r = eqb (r .code) 11 && (not (noAmounts row) || liveClient)
 
 -- the table for a record; 4, 5, 6 are its faults. 2 is about bytes (`nextOf` of the crate desk), 15 is the writer's, the list of
 -- needs' and the close-out's, 16 the close-out's.
@@ -86,7 +86,7 @@ refusals b r =
     ∷ (11 when tooMuch (namedRow b r) r)
     ∷ (17 when heldByMode (modeAt b (placeOf b (r .account))) r)
     ∷ (12 when beyondFree (free (view b) (placeOf b (r .account))) r)
-    ∷ (13 when losesCover (namedRow b r) (needOver (view (newMargin b r))) r)
+    ∷ (13 when losesCover (namedRow b r) (needPasses (view (newMargin b r))) r)
     ∷ (14 when notRetirable (namedRow b r) (hasLiveClient b (placeOf b (r .account))) r)
     ∷ []))
 

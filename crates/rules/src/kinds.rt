@@ -1,6 +1,6 @@
 // Amounts kind by kind.
 use rows::Kinds;
-use rows::kept::less;
+use rows::deemed::less;
 ghost use mathlib.Core.Path.{_≡_};
 ghost use Prim.Native.Nat.{_+_};
 ghost use Rattle.rows.specs.Rows.{addedUp, plusKinds, lessKinds};

@@ -11,9 +11,9 @@ pub enum Change {
 }
 
 // What a record's verdict needs beside the row named: its mode, and what the other rows show.
-pub struct Seen {
+pub struct Beside {
     pub mode: bool,
     pub free: u64,
-    pub over: bool,
-    pub tied: bool,
+    pub passes: bool,
+    pub client: bool,
 }

@@ -7,15 +7,15 @@ ghost use Rattle.sums.specs.Choice.{pick};
 ghost use Rattle.book.specs.Facts.{Sound};
 ghost use Rattle.table.specs.Words.{turnedBack};
 ghost use Rattle.records.specs.Runs.{endedWith, runOf, ranOf};
-ghost use Rattle.records.specs.Told.{toldOf, roomFor};
-ghost use Rattle.records.specs.Inner.{tellOf};
+ghost use Rattle.records.specs.LineNumbers.{numbersRoom, roomFor};
+ghost use Rattle.records.specs.Inner.{putNumbersFrom};
 ghost use Rattle.run.specs.Over.{overRan};
-use records::Closing;
+pub use records::Closing;
 use records::go;
 use steps::At;
-use table::Table;
+pub use table::Table;
 use table::modes::look_all;
-use table::needs::unders;
+use table::needs::deemed_under;
 
 // The table after the records, the place reached, why they stopped, and the two counts.
 pub struct Ended {
@@ -27,10 +27,10 @@ pub struct Ended {
 }
 
 // The records of a piece at a sound table.
-fn run(t: Table, piece: &[u8], most: u64, room: &mut [u16], tell: bool) -> Ended
-    requires { ⌜ Sound (turnedBack t) × (tell ≡ true → 5 * most ≤ length (now room)) ⌝ }
+fn run(t: Table, piece: &[u8], most: u64, room: &mut [u16], numbered: bool) -> Ended
+    requires { ⌜ Sound (turnedBack t) × (numbered ≡ true → 5 * most ≤ length (now room)) ⌝ }
     ensures { λ r. ⌜ r ≡ overRan (runOf (now (piece .entry)) most (turnedBack t) 0 0 0) ⌝ }
-    ensures { λ r. ⌜ now (room .exit) ≡ pick tell (tellOf (now (piece .entry)) most (turnedBack t) 0 0 (now (room .entry))) (now (room .entry)) ⌝ }
+    ensures { λ r. ⌜ now (room .exit) ≡ pick numbered (putNumbersFrom (now (piece .entry)) most (turnedBack t) 0 0 (now (room .entry))) (now (room .entry)) ⌝ }
 {
     let mut sort = t.sort;
     let mut live = t.live;
@@ -42,9 +42,9 @@ fn run(t: Table, piece: &[u8], most: u64, room: &mut [u16], tell: bool) -> Ended
     table::modes::size(was);
     table::needs::size(needs);
     let count = t.count;
-    let mut used = [0u64; 256];
-    unders(&sort, &tm, &amounts, count, true, &mut used);
-    let mut modes = look_all(&sort, &tm, &amounts, count, &used, &was);
+    let mut excess = [0u64; 256];
+    deemed_under(&sort, &tm, &amounts, count, true, &mut excess);
+    let mut modes = look_all(&sort, &tm, &amounts, count, &excess, &was);
     let first = At {
         count,
         serial: t.serial,
@@ -57,13 +57,13 @@ fn run(t: Table, piece: &[u8], most: u64, room: &mut [u16], tell: bool) -> Ended
         &mut amounts,
         &mut modes,
         &mut needs,
-        &mut used,
+        &mut excess,
         &was,
         first,
         piece,
         most,
         room,
-        tell,
+        numbered,
     );
     let closing = went.closing;
     let at = went.at;
@@ -115,9 +115,9 @@ pub fn day(t: Table, piece: &[u8], most: u64) -> Ended
 }
 
 // The same, with each record's numbers put into a lent room, as far as there is room for five of each.
-pub fn day_told(t: Table, piece: &[u8], most: u64, room: &mut [u16]) -> Ended
+pub fn day_with_numbers(t: Table, piece: &[u8], most: u64, room: &mut [u16]) -> Ended
     ensures { λ r. ⌜ r ≡ overRan (ranOf (turnedBack t) (now (piece .entry)) (roomFor most (now (room .entry)))) ⌝ }
-    ensures { λ r. ⌜ now (room .exit) ≡ toldOf (turnedBack t) (now (piece .entry)) most (now (room .entry)) ⌝ }
+    ensures { λ r. ⌜ now (room .exit) ≡ numbersRoom (turnedBack t) (now (piece .entry)) most (now (room .entry)) ⌝ }
 {
     if !book::is_sound(t) {
         return unsound(t);

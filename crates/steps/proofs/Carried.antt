@@ -12,13 +12,13 @@ use borrow.Author.Tests.{ltb-true, le-ltb, leb-true, le-leb, lt-leb, not-false, 
 use Rattle.sums.specs.Choice.{pick, unlessRefused}
 use Rattle.sums.specs.Sum.{any}
 use Rattle.sums.specs.Table.{_when_, first}
-use Rattle.sums.proofs.Choices.{refused-by, and-split, and-join, clash, pick-yes, pick-no}
+use Rattle.sums.proofs.Choices.{refused-by, and-split, and-join, test-clash, pick-yes, pick-no}
 use Rattle.sums.proofs.Tables.{first-some, first-none, first-fails, first-clear}
 use Rattle.rows.specs.declared.Row.{Row}
 use Rattle.rows.specs.declared.Book.{Book}
 use Rattle.rows.specs.Rows.{rowAt, accountOf, view, openedRow, hasLiveClient, isLiveClientOf}
 use Rattle.rows.specs.Inner.{Slot}
-use Rattle.rows.specs.Under.{Under}
+use Rattle.rows.specs.DeemedUnder.{DeemedUnder}
 use Rattle.book.specs.Facts.{SoundRows}
 use Rattle.book.proofs.LiveClients.{no-TM-none-live}
 use Rattle.book.proofs.Settled.{sound-under}
@@ -26,22 +26,22 @@ use Rattle.book.proofs.SoundRanges.{sound-ranges}
 use Rattle.book.proofs.UnderMost.{under-most}
 use Rattle.dayfile.specs.declared.Record.{Record}
 use Rattle.dayfile.specs.Records.{faults, faultOf, knownCode}
-use Rattle.dayfile.proofs.Good.{Good, good, three-numbered}
-use Rattle.rules.specs.declared.Seen.{Seen}
+use Rattle.dayfile.proofs.Good.{Good, no-fault-good, three-numbered}
+use Rattle.rules.specs.declared.Beside.{Beside}
 use Rattle.rules.specs.declared.Change.{Change}
 use Rattle.rules.specs.declared.Change.the-variants.{Refuse, Put, Open}
 use Rattle.rules.specs.Refusals.{isOpening, namedRow, refusalOf}
 use Rattle.rules.specs.Effects.{amended, effectOf, changeOf, changedBy, nextSerial}
-use Rattle.rules.specs.Inner.{SeenOf, refusalBy, seenWith}
+use Rattle.rules.specs.Inner.{IsBeside, refusalBy, besideBy}
 use Rattle.rules.proofs.Faults.{amounts-in}
-use Rattle.rules.proofs.WhatIsSeen.{toSee, sees-all, refusal-seen}
+use Rattle.rules.proofs.WhatIsBeside.{besideOf, beside-is, refusal-beside}
 use Rattle.rules.proofs.SoundChange.{change-rows}
-use Rattle.rules.proofs.Kept.{sees-kept}
+use Rattle.rules.proofs.Moves.{beside-by-deemed}
 use Rattle.table.specs.Words.{Marks, wordAt, rowIn, bookFrom}
 use Rattle.table.proofs.Gathered.{row-in}
 use Rattle.table.specs.Inner.{Anew}
 use Rattle.steps.specs.Steps.{Ready, Decided, stayed, wentOn, goneWith}
-use Rattle.codes.specs.Own.{before8, earlyNumber, aliveIn, from8, clientIn, tiedIn, undersIn, seenIn, Held, Answered, Opens, Amending}
+use Rattle.codes.specs.Own.{before8, earlyNumber, aliveIn, from8, clientIn, hasLiveClientIn, deemedUnderIn, besideIn, Held, Answered, Opens, Amending}
 use Rattle.codes.proofs.Lines.{open-own}
 
 -- ---- which codes open
@@ -58,7 +58,7 @@ not-opening n e f = by (decLt 3 n)
   where
     by : Dec (3 < n) → 4 ≤ n
     by (yes l) = omega arith
-    by (no l) = clash (and-join (and-split (leb 1 n) (leb n 11) e .0) (le-leb n 3 (omega arith))) f
+    by (no l) = test-clash (and-join (and-split (leb 1 n) (leb n 11) e .0) (le-leb n 3 (omega arith))) f
 
 serial-picked : (count serial : ℕ) (m : Marks) (w : List ℕ) (modes : List Bool) (needs : List ℕ) (t : Bool)
     → bookFrom count (pick t serial (nextSerial serial)) m w modes needs ≡ pick t (bookFrom count serial m w modes needs) (bookFrom count (nextSerial serial) m w modes needs)
@@ -79,10 +79,10 @@ module _ (count serial : ℕ) (m : Marks) (w : List ℕ) (modes : List Bool) (ne
 
   -- what is deemed under each account, by the kept needs
   abbrev under : List ℕ
-  under = undersIn w needs
+  under = deemedUnderIn w needs
 
-  kept : Under (view b) under
-  kept = sound-under b (h .sound) (wordAt w 9) (λ i l. sym (ap (λ x. x .margin) (row-in m w i l)))
+  deemed-under : DeemedUnder (view b) under
+  deemed-under = sound-under b (h .sound) (wordAt w 9) (λ i l. sym (ap (λ x. x .margin) (row-in m w i l)))
 
   abbrev i : ℕ
   i = r .account
@@ -102,21 +102,21 @@ module _ (count serial : ℕ) (m : Marks) (w : List ℕ) (modes : List Bool) (ne
       by (yes l) = ap (λ x. ltb (r .account) count && x .live) (sym (row-in m w (r .account) (omega (arith, h .sound .most))))
       by (no l) = rw (le-ltb (r .account) count (omega arith))
 
-  table-is : (seen : Seen) → SeenOf b r seen → refusalOf b r ≡ first (before8 alive serial r ++ from8 (namedRow b r) count seen r)
+  table-is : (beside : Beside) → IsBeside b r beside → refusalOf b r ≡ first (before8 alive serial r ++ from8 (namedRow b r) count beside r)
   unfolding refusalBy
-  table-is seen sw = rw alive-is (sym (refusal-seen b (h .sound) r seen sw))
+  table-is beside sw = rw alive-is (sym (refusal-beside b (h .sound) r beside sw))
 
   module _ (k : ℕ) (ek : k ≡ earlyNumber alive serial r) where
     pub early-is : (k ≡ 0 → ⊥) → refusalOf b r ≡ k
     unfolding earlyNumber
     early-is ne =
-        table-is (toSee b r) (sees-all b r)
-        ∙ first-some (before8 alive serial r) (from8 (namedRow b r) count (toSee b r) r) (λ z. ne (ek ∙ z)) ∙ sym ek
+        table-is (besideOf b r) (beside-is b r)
+        ∙ first-some (before8 alive serial r) (from8 (namedRow b r) count (besideOf b r) r) (λ z. ne (ek ∙ z)) ∙ sym ek
 
     module _ (z : k ≡ 0) where
       good-record : Good r
       unfolding earlyNumber faultOf
-      good-record = good r (first-clear (faults r) _ (first-fails 3 _ _ (omega arith) (sym ek ∙ z) .1))
+      good-record = no-fault-good r (first-clear (faults r) _ (first-fails 3 _ _ (omega arith) (sym ek ∙ z) .1))
 
       given : r .account < count
       unfolding earlyNumber
@@ -128,11 +128,11 @@ module _ (count serial : ℕ) (m : Marks) (w : List ℕ) (modes : List Bool) (ne
       low : r .account < 256
       low = omega (arith, given, h .sound .most)
 
-      past : (seen : Seen) → SeenOf b r seen → refusalOf b r ≡ first (from8 (namedRow b r) count seen r)
+      past : (beside : Beside) → IsBeside b r beside → refusalOf b r ≡ first (from8 (namedRow b r) count beside r)
       unfolding earlyNumber
-      past seen sw =
-          table-is seen sw
-          ∙ first-none (before8 alive serial r) (from8 (namedRow b r) count seen r) (omega arith, (omega arith, (omega arith, (omega arith, (omega arith, tt))))) (sym ek ∙ z)
+      past beside sw =
+          table-is beside sw
+          ∙ first-none (before8 alive serial r) (from8 (namedRow b r) count beside r) (omega arith, (omega arith, (omega arith, (omega arith, (omega arith, tt))))) (sym ek ∙ z)
 
       row-is : namedRow b r ≡ rowIn m w (r .account)
       row-is = row-in m w (r .account) low
@@ -148,13 +148,13 @@ module _ (count serial : ℕ) (m : Marks) (w : List ℕ) (modes : List Bool) (ne
           by (yes c) = omega (arith, its, h .sound .shaped .tms (r .account) given c .0, low)
           by (no c) = omega (arith, its, h .sound .no-tm (r .account) given c)
 
-      pub held : Held m w under (r .account)
-      held = record {
+      pub ready-holds : Held m w under (r .account)
+      ready-holds = record {
         size = h .size;
         inside = low;
         tm = tm-low;
         ranges = λ j l. rw (row-in m w j l) at (sound-ranges b (h .sound) j);
-        most = under-most b (h .sound) under kept;
+        most = under-most b (h .sound) under deemed-under;
       }
 
       -- clients are looked for in three columns
@@ -166,9 +166,9 @@ module _ (count serial : ℕ) (m : Marks) (w : List ℕ) (modes : List Bool) (ne
           upto zero q = refl
           upto (suc j) q = rw (upto j (omega arith), row-in m w j (omega arith))
 
-      tied-is : tiedIn m count (r .account) ≡ hasLiveClient b (r .account)
-      unfolding tiedIn
-      tied-is = by (ℕ-discrete (getD (m .sort) (r .account) 0) 1)
+      live-client-is : hasLiveClientIn m count (r .account) ≡ hasLiveClient b (r .account)
+      unfolding hasLiveClientIn
+      live-client-is = by (ℕ-discrete (getD (m .sort) (r .account) 0) 1)
         where
           by : Dec (getD (m .sort) (r .account) 0 ≡ 1) → pick (eqb (getD (m .sort) (r .account) 0) 1) (any count (clientIn m (r .account))) false ≡ hasLiveClient b (r .account)
           by (yes e) = pick-yes _ _ _ (eq-eqb _ 1 e) ∙ clients-in
@@ -180,23 +180,23 @@ module _ (count serial : ℕ) (m : Marks) (w : List ℕ) (modes : List Bool) (ne
       slot-is : Slot (namedRow b r .tm) p
       slot-is = record { inside = tm-low; named = λ o. sym (ap (λ x. x .tm) row-is) }
 
-      sees-by : (row its top : Row) → namedRow b r ≡ row → rowAt b p ≡ its → rowAt b 0 ≡ top
-          → SeenOf b r (seenWith on (accountOf row) (getD under (r .account) 0) (accountOf its) (getD under p 0) (accountOf top) (getD under 0 0) (tiedIn m count (r .account)) r)
-      sees-by row its top er ei et =
-          rw (← er, ← ei, ← et) (sees-kept b (h .sound) under kept r p slot-is (tiedIn m count (r .account)) (λ e. tied-is))
+      beside-by : (row its top : Row) → namedRow b r ≡ row → rowAt b p ≡ its → rowAt b 0 ≡ top
+          → IsBeside b r (besideBy on (accountOf row) (getD under (r .account) 0) (accountOf its) (getD under p 0) (accountOf top) (getD under 0 0) (hasLiveClientIn m count (r .account)) r)
+      beside-by row its top er ei et =
+          rw (← er, ← ei, ← et) (beside-by-deemed b (h .sound) under deemed-under r p slot-is (hasLiveClientIn m count (r .account)) (λ e. live-client-is))
 
       -- the table past 7, by the words
-      pub decided : refusalOf b r ≡ first (from8 (rowIn m w (r .account)) count (seenIn count m w under on r) r)
+      pub decided : refusalOf b r ≡ first (from8 (rowIn m w (r .account)) count (besideIn count m w under on r) r)
       decided =
-          past (seenIn count m w under on r) (sees-by _ _ _ row-is (row-in m w p tm-low) (row-in m w 0 (omega arith)))
-          ∙ ap (λ x. first (from8 x count (seenIn count m w under on r) r)) row-is
+          past (besideIn count m w under on r) (beside-by _ _ _ row-is (row-in m w p tm-low) (row-in m w 0 (omega arith)))
+          ∙ ap (λ x. first (from8 x count (besideIn count m w under on r) r)) row-is
 
-      pub opening : r .code ≤ 3 → isOpening r ≡ true
-      opening l = and-join (and-split (leb 1 (r .code)) (leb (r .code) 11) (good-record .known) .0) (le-leb (r .code) 3 l)
+      pub code-opens : r .code ≤ 3 → isOpening r ≡ true
+      code-opens l = and-join (and-split (leb 1 (r .code)) (leb (r .code) 11) (good-record .known) .0) (le-leb (r .code) 3 l)
 
-      pub amending : (isOpening r ≡ false) → Amending count m w under r
-      amending e = record {
-        held = held;
+      pub ready-amends : (isOpening r ≡ false) → Amending count m w under r
+      ready-amends e = record {
+        held = ready-holds;
         amounts = amounts-in r good-record;
         low = not-opening (r .code) (good-record .known) e;
         known = good-record .known;
@@ -262,7 +262,7 @@ module _ (count serial : ℕ) (m : Marks) (w : List ℕ) (modes : List Bool) (ne
     opens-at o q n u a = by (ℕ-discrete q 0)
       where
         number : refusalOf b r ≡ q
-        number = decided k ek z ∙ open-own (rowIn m w (r .account)) count (seenIn count m w under on r) r (which-opening (r .code) o) ∙ sym (a .number)
+        number = decided k ek z ∙ open-own (rowIn m w (r .account)) count (besideIn count m w under on r) r (which-opening (r .code) o) ∙ sym (a .number)
 
         by : Dec (q ≡ 0) → Decided count serial m w modes needs r (goneWith q (isOpening r) count serial) n u
         by (yes e) =
@@ -272,9 +272,9 @@ module _ (count serial : ℕ) (m : Marks) (w : List ℕ) (modes : List Bool) (ne
         by (no e) = let s = a .stays e in rw (s .0, s .1) (refused-at q (isOpening r) number e)
 
 -- an opening that is carried out has room
-pub room : (count serial : ℕ) (m : Marks) (w : List ℕ) (modes : List Bool) (needs : List ℕ) (r : Record) (k : ℕ) (n : Marks) (u : List ℕ) → Decided count serial m w modes needs r (goneWith k (isOpening r) count serial) n u
+pub opening-has-room : (count serial : ℕ) (m : Marks) (w : List ℕ) (modes : List Bool) (needs : List ℕ) (r : Record) (k : ℕ) (n : Marks) (u : List ℕ) → Decided count serial m w modes needs r (goneWith k (isOpening r) count serial) n u
     → k ≡ 0 → isOpening r ≡ true → count < 256
 unfolding pick
-room count serial m w modes needs r k n u h e o =
+opening-has-room count serial m w modes needs r k n u h e o =
     let g : Decided count serial m w modes needs r (wentOn true count serial) n u = rw (e, o) at h in
     omega (arith, g .rows .most)

@@ -8,7 +8,7 @@ use Rattle.sums.specs.Choice.{pick}
 use Rattle.rows.specs.View.{View}
 use Rattle.rows.specs.Rows.{view}
 use Rattle.rows.specs.Facts.{Shaped, NoneBeyond}
-use Rattle.rows.specs.Under.{Under}
+use Rattle.rows.specs.DeemedUnder.{DeemedUnder}
 use Rattle.rows.specs.Modes.{looked}
 use Rattle.rows.specs.Inner.{Ranged, inTenths}
 use Rattle.table.specs.Words.{Marks, bookFrom}
@@ -30,17 +30,17 @@ module _ (count serial : ℕ) (m : Marks) (w : List ℕ) (modes : List Bool) (ne
   pub adds-up : Ranged (seenBook count (m .sort) (m .tm) w) × Shaped seen
   adds-up = (seen-ranged count serial m w modes needs (sound-ranged _ h), rw is-seen (h .shaped))
 
-  pub looks-up : (used : List ℕ) → Under (inTenths seen) used → NoneBeyond seen × Under (inTenths seen) used
-  looks-up used u = (subst NoneBeyond (sym is-seen) (none-beyond (bookFrom count serial m w modes needs) (sound-rows _ h)), u)
+  pub looks-up : (excess : List ℕ) → DeemedUnder (inTenths seen) excess → NoneBeyond seen × DeemedUnder (inTenths seen) excess
+  looks-up excess u = (subst NoneBeyond (sym is-seen) (none-beyond (bookFrom count serial m w modes needs) (sound-rows _ h)), u)
 
-  pub enters : Sized m w → length modes ≡ 256 → length needs ≡ 256 → (used : List ℕ) (after : List Bool) → Under (inTenths seen) used → after ≡ looked seen modes
-      → Going (record { count = count; serial = serial; waiting = true }) m w modes after needs used
+  pub sound-enters : Sized m w → length modes ≡ 256 → length needs ≡ 256 → (excess : List ℕ) (after : List Bool) → DeemedUnder (inTenths seen) excess → after ≡ looked seen modes
+      → Going (record { count = count; serial = serial; waiting = true }) m w modes after needs excess
   unfolding pick
-  enters s l n used after e k = record {
+  sound-enters s l n excess after e k = record {
     size = s;
     many = l;
     wide = n;
     sound = h;
-    uses = subst (λ v. Under (inTenths v) used) is-seen e;
+    in-excess = subst (λ v. DeemedUnder (inTenths v) excess) is-seen e;
     looks = k ∙ ap (λ v. looked v modes) is-seen;
   }

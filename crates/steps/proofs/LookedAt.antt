@@ -9,13 +9,13 @@ use lib.Dec.{eqb, ltb, leb}
 use lib.ListN.{length, getD, set}
 use borrow.Author.Tests.{leb-true, ltb-true, leb-false, ltb-false, le-leb}
 use Rattle.sums.specs.Choice.{pick}
-use Rattle.sums.proofs.Choices.{clash, or-split, or-fails, and-split}
+use Rattle.sums.proofs.Choices.{test-clash, or-split, or-fails, and-split}
 use mathlib.Core.Logic.{_⊎_, inl, inr}
 use Rattle.rows.specs.declared.Row.{Row}
 use Rattle.rows.specs.declared.Account.{Account}
 use Rattle.rows.specs.declared.Book.{Book}
 use Rattle.rows.specs.Rows.{rowAt, places, accountOf, view, withRow, withModes, withNeeds}
-use Rattle.rows.specs.Under.{Under, needToKeep}
+use Rattle.rows.specs.DeemedUnder.{DeemedUnder, needToKeep}
 use Rattle.rows.specs.Modes.{hasMode, modeAfter, lookAt, looked}
 use Rattle.rows.specs.KeptNeeds.{needsAfresh}
 use Rattle.rows.specs.Inner.{Slot, accountAs, inTenths}
@@ -35,19 +35,19 @@ use Rattle.rules.specs.declared.Change.the-variants.{Refuse, Put, Open}
 use Rattle.rules.specs.Refusals.{isOpening, namedRow}
 use Rattle.rules.specs.Effects.{amended, changeOf, movedOn, changedBy, bookAfter}
 use Rattle.rules.proofs.Deciding.{put-passes, made-put, refuse-some, only-openings, never-openings}
-use Rattle.rules.proofs.Codes.{Code, openTM, openClient, openCP, receive, handBack, allocate, release, pledge, unpledge, margin, retire, which}
+use Rattle.rules.proofs.Codes.{Code, openTM, openClient, openCP, receive, handBack, allocate, release, pledge, unpledge, margin, retire, known-code-cases}
 use Rattle.rules.proofs.Amending.{by-receive, by-hand-back, by-retire}
-use Rattle.rules.proofs.Kept.{put-keeps, put-looks, put-needs, open-keeps, open-looks, open-needs}
+use Rattle.rules.proofs.Moves.{put-deemed, put-looks, put-needs, open-deemed, open-looks, open-needs}
 use Rattle.rules.proofs.ModesAside.{same-change}
 use Rattle.rules.proofs.SoundChange.{change-sound}
 use Rattle.steps.specs.declared.At.{At}
 use Rattle.steps.specs.declared.Gone.{Gone}
 use Rattle.steps.specs.declared.looking.Past.{Past}
-use Rattle.codes.specs.declared.settling.Owed.{Owed}
+use Rattle.codes.specs.declared.settling.DeemedUnderAfter.{DeemedUnderAfter}
 use Rattle.steps.specs.Steps.{Ready, Decided, carriedShown, refusalShown, givenShown, modesIn, bookAt, atAfter, Going, Stepped}
-use Rattle.codes.specs.Own.{accountIn, underIn, undersIn, owedBy}
-use Rattle.steps.specs.Looks.{Placed, PastOf, lookIn, usedAfter, usedSince, lookedSince, owedSince, neededSince}
-use Rattle.steps.proofs.Placing.{placed}
+use Rattle.codes.specs.Own.{accountIn, deemedUnderAt, deemedUnderIn, deemedUnderAfter}
+use Rattle.steps.specs.Looks.{Placed, PastOf, lookIn, excessAfter, excessSince, lookedSince, deemedUnderSince, neededSince}
+use Rattle.steps.proofs.Placing.{sound-placed}
 use Rattle.codes.proofs.Made.{under-is}
 
 -- a row put anew whose figures are the same changes nothing that needs and uses see
@@ -65,7 +65,7 @@ same-figures b k x l e = λ j. record {
 
 -- receive, hand back and retire move no figure
 still : (row : Row) (r : Record) → isOpening r ≡ false → knownCode (r .code) ≡ true → (leb (r .code) 5 || ltb 10 (r .code)) ≡ true → accountOf (amended row r) ≡ accountOf row
-still row r o k l = by (which (r .code) k)
+still row r o k l = by (known-code-cases (r .code) k)
   where
     none : (n : ℕ) → 5 < n → n ≤ 10 → r .code ≡ n → accountOf (amended row r) ≡ accountOf row
     none n p q e = absurd (by′ (or-split (leb (r .code) 5) (ltb 10 (r .code)) l))
@@ -75,9 +75,9 @@ still row r o k l = by (which (r .code) k)
         by′ (inr h) = omega (arith, ltb-true 10 (r .code) h)
 
     by : Code (r .code) → accountOf (amended row r) ≡ accountOf row
-    by (openTM e) = clash (rw e) o
-    by (openClient e) = clash (rw e) o
-    by (openCP e) = clash (rw e) o
+    by (openTM e) = test-clash (rw e) o
+    by (openClient e) = test-clash (rw e) o
+    by (openCP e) = test-clash (rw e) o
     by (receive e) = ap accountOf (by-receive row r e)
     by (handBack e) = ap accountOf (by-hand-back row r e)
     by (allocate e) = none 6 (omega arith) (omega arith) e
@@ -87,7 +87,7 @@ still row r o k l = by (which (r .code) k)
     by (margin e) = none 10 (omega arith) (omega arith) e
     by (retire e) = ap accountOf (by-retire row r e)
 
-module _ (at : At) (m : Marks) (w : List ℕ) (was modes : List Bool) (needs used : List ℕ) (g : Going at m w was modes needs used) (r : Record) where
+module _ (at : At) (m : Marks) (w : List ℕ) (was modes : List Bool) (needs excess : List ℕ) (g : Going at m w was modes needs excess) (r : Record) where
   abbrev before : List Bool
   before = modesIn (at .waiting) was modes
 
@@ -98,25 +98,25 @@ module _ (at : At) (m : Marks) (w : List ℕ) (was modes : List Bool) (needs use
   pub many-modes : length modes ≡ 256
   many-modes = ap length (g .looks) ∙ looked-size (view b) before
 
-  pub decides : Ready (at .count) (at .serial) m w before needs × (length was ≡ 256) × (length modes ≡ 256)
-  decides = (record { size = g .size; sound = g .sound }, g .many, many-modes)
+  pub going-ready : Ready (at .count) (at .serial) m w before needs × (length was ≡ 256) × (length modes ≡ 256)
+  going-ready = (record { size = g .size; sound = g .sound }, g .many, many-modes)
 
   pub places-now : Placed m w
-  places-now = placed (at .count) (at .serial) m w before needs (g .size) (sound-rows b (g .sound))
+  places-now = sound-placed (at .count) (at .serial) m w before needs (g .size) (sound-rows b (g .sound))
 
   -- what is deemed under each account, by the kept needs
   under : List ℕ
-  under = undersIn w needs
+  under = deemedUnderIn w needs
 
-  deemed-under : Under (view b) under
+  deemed-under : DeemedUnder (view b) under
   unfolding under
   deemed-under = sound-under b (g .sound) (wordAt w 9) (λ i l. sym (ap (λ x. x .margin) (row-in m w i l)))
 
-  under-in : (j : ℕ) → j < 256 → underIn w needs j ≡ getD under j 0
+  under-in : (j : ℕ) → j < 256 → deemedUnderAt w needs j ≡ getD under j 0
   unfolding under
   under-in j l = sym (under-is w needs j l)
 
-  pub under-small : (j : ℕ) → j < 256 → underIn w needs j ≤ 25_600_000_000_000_000
+  pub under-small : (j : ℕ) → j < 256 → deemedUnderAt w needs j ≤ 25_600_000_000_000_000
   under-small j l = omega (arith, under-in j l, under-most b (g .sound) under deemed-under j)
 
   -- the kept needs are those worked out afresh
@@ -129,16 +129,16 @@ module _ (at : At) (m : Marks) (w : List ℕ) (was modes : List Bool) (needs use
     after = bookFrom (x .count) (x .serial) n u before needs
 
     pub places-after : Placed n u
-    places-after = placed (x .count) (x .serial) n u before needs (d .size) (d .rows)
+    places-after = sound-placed (x .count) (x .serial) n u before needs (d .size) (d .rows)
 
     module _ (c : Change) (e : changeOf b r ≡ c) where
       is-after : after ≡ changedBy b (r .account) c
       is-after = d .book ∙ ap (changedBy b (r .account)) e
 
       -- with the modes, the kept needs and the list of what is in excess after it
-      module _ (modes′ : List Bool) (needs′ used′ : List ℕ) (is-book : bookAt (atAfter at x) n u was modes′ needs′ ≡ bookAfter b (r .account) c) (wide : length needs′ ≡ 256)
-          (uses : Under (inTenths (view after)) used′) (looks : modes′ ≡ looked (view after) (modesIn (atAfter at x .waiting) was modes′)) where
-        steps-to : Stepped at m w was modes needs r x n u modes′ needs′ used′
+      module _ (modes′ : List Bool) (needs′ excess′ : List ℕ) (is-book : bookAt (atAfter at x) n u was modes′ needs′ ≡ bookAfter b (r .account) c) (wide : length needs′ ≡ 256)
+          (in-excess : DeemedUnder (inTenths (view after)) excess′) (looks : modes′ ≡ looked (view after) (modesIn (atAfter at x .waiting) was modes′)) where
+        steps-to : Stepped at m w was modes needs r x n u modes′ needs′ excess′
         steps-to = record {
           refusal = d .refusal;
           given = d .given;
@@ -149,7 +149,7 @@ module _ (at : At) (m : Marks) (w : List ℕ) (was modes : List Bool) (needs use
             many = g .many;
             wide = wide;
             sound = rw is-book (rw e at (change-sound b r (g .sound)));
-            uses = uses;
+            in-excess = in-excess;
             looks = looks;
           };
         }
@@ -157,28 +157,28 @@ module _ (at : At) (m : Marks) (w : List ℕ) (was modes : List Bool) (needs use
       -- carried out: the modes are those that a look leaves, and the needs those worked out afresh
       went : carriedShown c ≡ 1
           → bookAfter b (r .account) c ≡ withNeeds (withModes (changedBy b (r .account) c) (looked (view (changedBy b (r .account) c)) before)) (needsAfresh (view (changedBy b (r .account) c)))
-          → (modes′ : List Bool) (needs′ used′ : List ℕ) → modes′ ≡ looked (view after) before → needs′ ≡ needsAfresh (view after) → Under (inTenths (view after)) used′
-          → Stepped at m w was modes needs r x n u modes′ needs′ used′
+          → (modes′ : List Bool) (needs′ excess′ : List ℕ) → modes′ ≡ looked (view after) before → needs′ ≡ needsAfresh (view after) → DeemedUnder (inTenths (view after)) excess′
+          → Stepped at m w was modes needs r x n u modes′ needs′ excess′
       unfolding pick
-      went one after-is modes′ needs′ used′ look fresh uses =
+      went one after-is modes′ needs′ excess′ look fresh in-excess =
           let done : x .carried ≡ 1 = d .carried ∙ ap carriedShown e ∙ one in
           let its : modesIn (atAfter at x .waiting) was modes′ ≡ modes′ =
           ap (λ t. modesIn t was modes′) (ap (λ k. at .waiting && eqb k 0) done ∙ and-false (at .waiting)) in
-          steps-to modes′ needs′ used′
+          steps-to modes′ needs′ excess′
           (ap (λ l. withNeeds (withModes after l) needs′) (its ∙ look) ∙ ap (withNeeds (withModes after (looked (view after) before))) fresh
           ∙ ap (λ q. withNeeds (withModes q (looked (view q) before)) (needsAfresh (view q))) is-after ∙ sym after-is)
           (ap length fresh ∙ afresh-size (view after))
-          uses
+          in-excess
           (look ∙ sym (look-twice (view after) before) ∙ ap (looked (view after)) (sym look ∙ sym its))
 
     -- refused: all stays
-    refused : (k : ℕ) → changeOf b r ≡ Refuse k → Stepped at m w was modes needs r x n u modes needs used
+    refused : (k : ℕ) → changeOf b r ≡ Refuse k → Stepped at m w was modes needs r x n u modes needs excess
     unfolding pick
     refused k e =
-        steps-to (Refuse k) e modes needs used
+        steps-to (Refuse k) e modes needs excess
         (ap (withModes after) its ∙ ap (λ q. withModes q before) (is-after (Refuse k) e) ∙ with-modes-after (leb k 3))
         (g .wide)
-        (subst (λ q. Under (inTenths q) used) (sym same-view) (g .uses))
+        (subst (λ q. DeemedUnder (inTenths q) excess) (sym same-view) (g .in-excess))
         (g .looks ∙ ap (λ q. looked q before) (sym same-view) ∙ ap (looked (view after)) (sym its))
       where
         its : modesIn (atAfter at x .waiting) was modes ≡ before
@@ -196,28 +196,28 @@ module _ (at : At) (m : Marks) (w : List ℕ) (was modes : List Bool) (needs use
         same-view = ap view (is-after (Refuse k) e) ∙ unmoved (leb k 3)
 
     -- a code that moves no figure
-    pub still-step : (leb (r .code) 5 || ltb 10 (r .code)) ≡ true → Stepped at m w was modes needs r x n u modes needs used
+    pub still-step : (leb (r .code) 5 || ltb 10 (r .code)) ≡ true → Stepped at m w was modes needs r x n u modes needs excess
     still-step l = by (changeOf b r) refl
       where
-        by : (c : Change) → changeOf b r ≡ c → Stepped at m w was modes needs r x n u modes needs used
+        by : (c : Change) → changeOf b r ≡ c → Stepped at m w was modes needs r x n u modes needs excess
         by (Refuse k) e = refused k e
         by (Put y) e =
             let p = put-passes b r y e .account in
             let stays : view after ≡ view b =
             ap view (is-after (Put y) e)
             ∙ same-figures b (r .account) y (omega (arith, rows-length m w, p, (g .sound) .most)) (ap accountOf (made-put b r y e) ∙ still (namedRow b r) r (never-openings b r y e) (put-passes b r y e .good .known) l) in
-            went (Put y) e refl refl modes needs used (g .looks ∙ ap (λ q. looked q before) (sym stays)) (fresh-now ∙ ap needsAfresh (sym stays)) (subst (λ q. Under (inTenths q) used) (sym stays) (g .uses))
+            went (Put y) e refl refl modes needs excess (g .looks ∙ ap (λ q. looked q before) (sym stays)) (fresh-now ∙ ap needsAfresh (sym stays)) (subst (λ q. DeemedUnder (inTenths q) excess) (sym stays) (g .in-excess))
         by (Open y) e =
             let opens : view after ≡ view (changedBy b (r .account) (Open y)) = ap view (is-after (Open y) e) in
-            went (Open y) e refl refl modes needs used (g .looks ∙ sym (open-looks b r y (g .sound) e before) ∙ ap (λ q. looked q before) (sym opens))
+            went (Open y) e refl refl modes needs excess (g .looks ∙ sym (open-looks b r y (g .sound) e before) ∙ ap (λ q. looked q before) (sym opens))
             (fresh-now ∙ sym (open-needs b r y (g .sound) e) ∙ ap needsAfresh (sym opens))
-            (subst (λ q. Under (inTenths q) used) (sym opens) (open-keeps b r y (g .sound) e true used (g .uses)))
+            (subst (λ q. DeemedUnder (inTenths q) excess) (sym opens) (open-deemed b r y (g .sound) e true excess (g .in-excess)))
 
     -- refused, whatever its code
-    pub refused-step : (x .refusal ≡ 0 → ⊥) → Stepped at m w was modes needs r x n u modes needs used
+    pub refused-step : (x .refusal ≡ 0 → ⊥) → Stepped at m w was modes needs r x n u modes needs excess
     refused-step ne = by (changeOf b r) refl
       where
-        by : (c : Change) → changeOf b r ≡ c → Stepped at m w was modes needs r x n u modes needs used
+        by : (c : Change) → changeOf b r ≡ c → Stepped at m w was modes needs r x n u modes needs excess
         by (Refuse k) e = refused k e
         by (Put y) e = absurd (ne (d .refusal ∙ ap refusalShown e))
         by (Open y) e = absurd (ne (d .refusal ∙ ap refusalShown e))
@@ -225,15 +225,15 @@ module _ (at : At) (m : Marks) (w : List ℕ) (was modes : List Bool) (needs use
     -- a code that may move figures, carried out: three places are brought up to date and looked at
     module _ (past : Past) (o : PastOf m w needs (r .account) past) where
       pub moved-step : x .refusal ≡ 0 → (leb (r .code) 5 || ltb 10 (r .code)) ≡ false
-          → Stepped at m w was modes needs r x n u (lookedSince n u used before modes past) (neededSince n u needs past) (usedSince n u used past)
+          → Stepped at m w was modes needs r x n u (lookedSince n u excess before modes past) (neededSince n u needs past) (excessSince n u excess past)
       moved-step z l = by (changeOf b r) refl
         where
-          by : (c : Change) → changeOf b r ≡ c → Stepped at m w was modes needs r x n u (lookedSince n u used before modes past) (neededSince n u needs past) (usedSince n u used past)
+          by : (c : Change) → changeOf b r ≡ c → Stepped at m w was modes needs r x n u (lookedSince n u excess before modes past) (neededSince n u needs past) (excessSince n u excess past)
           by (Refuse k) e = absurd (refuse-some b r k e (sym (d .refusal ∙ ap refusalShown e) ∙ z))
           by (Open y) e =
               let c = and-split (leb 1 (r .code)) (leb (r .code) 3) (only-openings b r y e) .1 in
               absurd (omega (arith, leb-true (r .code) 3 c, leb-false (r .code) 5 (or-fails (leb (r .code) 5) (ltb 10 (r .code)) l .0)))
-          by (Put y) e = went (Put y) e refl refl _ _ _ looks fresh uses
+          by (Put y) e = went (Put y) e refl refl _ _ _ looks fresh in-excess
             where
               given : r .account < at .count
               given = put-passes b r y e .account
@@ -275,36 +275,36 @@ module _ (at : At) (m : Marks) (w : List ℕ) (was modes : List Bool) (needs use
                   ∙ ap (λ q. accountOf (rowAt q (r .account))) (is-after (Put y) e)
                   ∙ ap accountOf (row-same b (r .account) y (omega (arith, rows-length m w, low)))
 
-              list-is : usedSince n u used past ≡ usedAfter used (r .account) (accountOf (namedRow b r)) (accountOf y) (accountOf (rowAt b (namedRow b r .tm)))
+              list-is : excessSince n u excess past ≡ excessAfter excess (r .account) (accountOf (namedRow b r)) (accountOf y) (accountOf (rowAt b (namedRow b r .tm)))
               list-is =
-                  ap (λ i. usedAfter used i (past .own) (accountIn n u (past .place)) (past .its)) its-place
-                  ∙ ap (λ a. usedAfter used (r .account) a (accountIn n u (past .place)) (past .its)) own-is
-                  ∙ ap (λ a. usedAfter used (r .account) (accountOf (namedRow b r)) a (past .its)) new-is
-                  ∙ ap (usedAfter used (r .account) (accountOf (namedRow b r)) (accountOf y)) its-is
+                  ap (λ i. excessAfter excess i (past .own) (accountIn n u (past .place)) (past .its)) its-place
+                  ∙ ap (λ a. excessAfter excess (r .account) a (accountIn n u (past .place)) (past .its)) own-is
+                  ∙ ap (λ a. excessAfter excess (r .account) (accountOf (namedRow b r)) a (past .its)) new-is
+                  ∙ ap (excessAfter excess (r .account) (accountOf (namedRow b r)) (accountOf y)) its-is
 
-              uses : Under (inTenths (view after)) (usedSince n u used past)
-              uses =
-                  subst (λ q. Under (inTenths q) (usedSince n u used past)) (sym view-is)
-                  (subst (Under (inTenths (view (withRow b (r .account) y)))) (sym list-is) (put-keeps b r y (g .sound) e true used (g .uses) (namedRow b r .tm) slot))
+              in-excess : DeemedUnder (inTenths (view after)) (excessSince n u excess past)
+              in-excess =
+                  subst (λ q. DeemedUnder (inTenths q) (excessSince n u excess past)) (sym view-is)
+                  (subst (DeemedUnder (inTenths (view (withRow b (r .account) y)))) (sym list-is) (put-deemed b r y (g .sound) e true excess (g .in-excess) (namedRow b r .tm) slot))
 
               -- a look by the words is a look at the view
               by-words : (j : ℕ) → j < at .count
-                  → lookIn n u (usedSince n u used past) j (getD before j false) ≡ lookAt (view (withRow b (r .account) y)) before j
+                  → lookIn n u (excessSince n u excess past) j (getD before j false) ≡ lookAt (view (withRow b (r .account) y)) before j
               by-words j q =
-                  ap (λ (a : Account). (eqb j 0 || eqb (a .sort) 1) && modeAfter (10 * a .margin + getD (usedSince n u used past) j 0) (a .collateral) (getD before j false))
+                  ap (λ (a : Account). (eqb j 0 || eqb (a .sort) 1) && modeAfter (10 * a .margin + getD (excessSince n u excess past) j 0) (a .collateral) (getD before j false))
                   (sym (ap accountOf (row-in n u j (omega (arith, q, (g .sound) .most)))))
-                  ∙ look-by (view after) (d .rows .shaped) (usedSince n u used past) uses before j (rw (ap (λ k. k .count) (is-after (Put y) e)) q)
+                  ∙ look-by (view after) (d .rows .shaped) (excessSince n u excess past) in-excess before j (rw (ap (λ k. k .count) (is-after (Put y) e)) q)
                   ∙ ap (λ v. lookAt v before j) view-is
 
-              looks : lookedSince n u used before modes past ≡ looked (view after) before
+              looks : lookedSince n u excess before modes past ≡ looked (view after) before
               looks =
                   let w′ = view (withRow b (r .account) y) in
-                  let used′ = usedSince n u used past in
+                  let excess′ = excessSince n u excess past in
                   let i = past .place in
                   let k = past .own .tm in
-                  let own = lookIn n u used′ i (getD before i false) in
-                  let its = lookIn n u used′ k (getD before k false) in
-                  let top = lookIn n u used′ 0 (getD before 0 false) in
+                  let own = lookIn n u excess′ i (getD before i false) in
+                  let its = lookIn n u excess′ k (getD before k false) in
+                  let top = lookIn n u excess′ 0 (getD before 0 false) in
                   ap (λ t. set (set (set modes i t) k its) 0 top) (by-words i (rw its-place given))
                   ∙ ap (λ t. set (set (set modes i (lookAt w′ before i)) k t) 0 top) (by-words k p-given)
                   ∙ ap (λ t. set (set (set modes i (lookAt w′ before i)) k (lookAt w′ before k)) 0 t) (by-words 0 ((g .sound) .shaped .some))
@@ -321,32 +321,32 @@ module _ (at : At) (m : Marks) (w : List ℕ) (was modes : List Bool) (needs use
               own-under : past .under ≡ getD under (r .account) 0
               own-under = o .under ∙ under-in (past .place) (o .inside) ∙ ap (λ j. getD under j 0) its-place
 
-              its-under : past .owed ≡ getD under (namedRow b r .tm) 0
-              its-under = o .owed ∙ under-in (past .own .tm) p-low ∙ ap (λ j. getD under j 0) (sym tm-is)
+              its-under : past .clients ≡ getD under (namedRow b r .tm) 0
+              its-under = o .clients ∙ under-in (past .own .tm) p-low ∙ ap (λ j. getD under j 0) (sym tm-is)
 
               all-under : past .all ≡ getD under 0 0
               all-under = o .all ∙ under-in 0 (omega arith)
 
-              owed-is : owedSince n u past
-                  ≡ owedBy (getD under (r .account) 0) (getD under (namedRow b r .tm) 0) (getD under 0 0) (accountOf (namedRow b r)) (accountOf y) (accountOf (rowAt b (namedRow b r .tm)))
-              owed-is =
-                  ap (λ a. owedBy (past .under) (past .owed) (past .all) a (accountIn n u (past .place)) (past .its)) own-is
-                  ∙ ap (λ a. owedBy (past .under) (past .owed) (past .all) (accountOf (namedRow b r)) a (past .its)) new-is
-                  ∙ ap (owedBy (past .under) (past .owed) (past .all) (accountOf (namedRow b r)) (accountOf y)) its-is
-                  ∙ ap (λ k. owedBy k (past .owed) (past .all) (accountOf (namedRow b r)) (accountOf y) (accountOf (rowAt b (namedRow b r .tm)))) own-under
-                  ∙ ap (λ k. owedBy (getD under (r .account) 0) k (past .all) (accountOf (namedRow b r)) (accountOf y) (accountOf (rowAt b (namedRow b r .tm)))) its-under
-                  ∙ ap (λ k. owedBy (getD under (r .account) 0) (getD under (namedRow b r .tm) 0) k (accountOf (namedRow b r)) (accountOf y) (accountOf (rowAt b (namedRow b r .tm)))) all-under
+              clients-are : deemedUnderSince n u past
+                  ≡ deemedUnderAfter (getD under (r .account) 0) (getD under (namedRow b r .tm) 0) (getD under 0 0) (accountOf (namedRow b r)) (accountOf y) (accountOf (rowAt b (namedRow b r .tm)))
+              clients-are =
+                  ap (λ a. deemedUnderAfter (past .under) (past .clients) (past .all) a (accountIn n u (past .place)) (past .its)) own-is
+                  ∙ ap (λ a. deemedUnderAfter (past .under) (past .clients) (past .all) (accountOf (namedRow b r)) a (past .its)) new-is
+                  ∙ ap (deemedUnderAfter (past .under) (past .clients) (past .all) (accountOf (namedRow b r)) (accountOf y)) its-is
+                  ∙ ap (λ k. deemedUnderAfter k (past .clients) (past .all) (accountOf (namedRow b r)) (accountOf y) (accountOf (rowAt b (namedRow b r .tm)))) own-under
+                  ∙ ap (λ k. deemedUnderAfter (getD under (r .account) 0) k (past .all) (accountOf (namedRow b r)) (accountOf y) (accountOf (rowAt b (namedRow b r .tm)))) its-under
+                  ∙ ap (λ k. deemedUnderAfter (getD under (r .account) 0) (getD under (namedRow b r .tm) 0) k (accountOf (namedRow b r)) (accountOf y) (accountOf (rowAt b (namedRow b r .tm)))) all-under
 
               fresh : neededSince n u needs past ≡ needsAfresh (view after)
               fresh =
                   let own = needToKeep (accountOf y) (getD under (r .account) 0) in
-                  let d′ = owedSince n u past in
+                  let d′ = deemedUnderSince n u past in
                   ap (λ j. set (set (set needs j (needToKeep (accountIn n u (past .place)) (past .under))) (past .own .tm) (needToKeep (past .its) (d′ .tm))) 0 (accountIn n u 0 .margin + d′ .cm)) its-place
                   ∙ ap (λ a. set (set (set needs (r .account) (needToKeep a (past .under))) (past .own .tm) (needToKeep (past .its) (d′ .tm))) 0 (accountIn n u 0 .margin + d′ .cm)) new-is
                   ∙ ap (λ k. set (set (set needs (r .account) (needToKeep (accountOf y) k)) (past .own .tm) (needToKeep (past .its) (d′ .tm))) 0 (accountIn n u 0 .margin + d′ .cm)) own-under
                   ∙ ap (λ k. set (set (set needs (r .account) own) k (needToKeep (past .its) (d′ .tm))) 0 (accountIn n u 0 .margin + d′ .cm)) (sym tm-is)
                   ∙ ap (λ a. set (set (set needs (r .account) own) (namedRow b r .tm) (needToKeep a (d′ .tm))) 0 (accountIn n u 0 .margin + d′ .cm)) its-is
                   ∙ ap (λ k. set (set (set needs (r .account) own) (namedRow b r .tm) (needToKeep (accountOf (rowAt b (namedRow b r .tm))) (d′ .tm))) 0 (k + d′ .cm)) top-is
-                  ∙ ap (λ (z : Owed). set (set (set needs (r .account) own) (namedRow b r .tm) (needToKeep (accountOf (rowAt b (namedRow b r .tm))) (z .tm))) 0 (rowAt (withRow b (r .account) y) 0 .margin + z .cm)) owed-is
+                  ∙ ap (λ (z : DeemedUnderAfter). set (set (set needs (r .account) own) (namedRow b r .tm) (needToKeep (accountOf (rowAt b (namedRow b r .tm))) (z .tm))) 0 (rowAt (withRow b (r .account) y) 0 .margin + z .cm)) clients-are
                   ∙ put-needs b r y (g .sound) e needs (g .wide) ((g .sound) .kept) under deemed-under (namedRow b r .tm) slot
                   ∙ ap needsAfresh (sym view-is)

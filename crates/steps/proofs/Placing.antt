@@ -10,17 +10,17 @@ use lib.Seq.{getD-set-same, getD-set-other}
 use Rattle.rows.specs.declared.Account.{Account}
 use Rattle.rows.specs.declared.Book.{Book}
 use Rattle.rows.specs.Rows.{rowAt}
-use Rattle.rows.specs.Under.{underTM, underCM}
+use Rattle.rows.specs.DeemedUnder.{deemedUnderTM, deemedUnderCM}
 use Rattle.rows.specs.Inner.{accountAs}
-use Rattle.rows.proofs.NeedSums.{under-cm-most, due-most}
+use Rattle.rows.proofs.NeedSums.{deemed-under-cm-most, due-most}
 use Rattle.table.specs.Words.{Marks, rowIn, bookFrom}
 use Rattle.table.specs.Facts.{Sized}
 use Rattle.table.proofs.Gathered.{row-in}
 use Rattle.book.specs.Facts.{SoundRows}
 use Rattle.book.proofs.SoundRanges.{rows-ranges}
 use Rattle.steps.specs.declared.looking.Past.{Past}
-use Rattle.codes.specs.Own.{accountIn, underIn}
-use Rattle.steps.specs.Looks.{Placed, Borne, Light, Modest, PastOf, ModestPast, usedAfter}
+use Rattle.codes.specs.Own.{accountIn, deemedUnderAt}
+use Rattle.steps.specs.Looks.{Placed, Borne, Light, Modest, PastOf, ModestPast, excessAfter}
 
 pub modest-in : {m : Marks} {w : List ℕ} {j : ℕ} → Placed m w → j < 256 → Modest (accountIn m w j)
 modest-in {m} {w} {j} h l =
@@ -36,19 +36,19 @@ put-most l i x n s k e h j = by (ℕ-discrete j i)
     by (no q) = omega (arith, getD-set-other l i j x 0 q, h j)
 
 -- what is in excess after one account changed is within a word still
-pub light-after : (used : List ℕ) (i : ℕ) (old new its : Account) → old .tm < 256 → Borne used → Modest new → Modest its → Light (usedAfter used i old new its)
-light-after used i old new its l h n t =
+pub light-after : (excess : List ℕ) (i : ℕ) (old new its : Account) → old .tm < 256 → Borne excess → Modest new → Modest its → Light (excessAfter excess i old new its)
+light-after excess i old new its l h n t =
     let a = accountAs true old in
     let x = accountAs true new in
     let m = accountAs true its in
-    let d = getD used (old .tm) 0 in
-    let tm : underTM a x d ≤ 8_000_000_000_000_000_000 = omega (arith, due-most x, h .most (old .tm), n .margin) in
-    let cm : underCM a x (getD used i 0) m d (getD used 0 0) ≤ 8_000_000_000_000_000_000 =
-    omega (arith, under-cm-most a x m (getD used i 0) d (getD used 0 0), h .most i, h .most (old .tm), h .most 0, n .margin, t .margin) in
+    let d = getD excess (old .tm) 0 in
+    let tm : deemedUnderTM a x d ≤ 8_000_000_000_000_000_000 = omega (arith, due-most x, h .most (old .tm), n .margin) in
+    let cm : deemedUnderCM a x (getD excess i 0) m d (getD excess 0 0) ≤ 8_000_000_000_000_000_000 =
+    omega (arith, deemed-under-cm-most a x m (getD excess i 0) d (getD excess 0 0), h .most i, h .most (old .tm), h .most 0, n .margin, t .margin) in
     record {
-      size = length-set (set used (old .tm) _) 0 _ ∙ length-set used (old .tm) _ ∙ h .size;
-      most = put-most (set used (old .tm) _) 0 _ _ (length-set used (old .tm) _ ∙ h .size) (omega arith) cm
-          (put-most used (old .tm) _ _ (h .size) l tm (λ j. omega (arith, h .most j)));
+      size = length-set (set excess (old .tm) _) 0 _ ∙ length-set excess (old .tm) _ ∙ h .size;
+      most = put-most (set excess (old .tm) _) 0 _ _ (length-set excess (old .tm) _ ∙ h .size) (omega arith) cm
+          (put-most excess (old .tm) _ _ (h .size) l tm (λ j. omega (arith, h .most j)));
     }
 
 -- the TM word of every row of a sound book is a place
@@ -60,8 +60,8 @@ tm-low b s j = by (decLt j (b .count)) (ℕ-discrete (rowAt b j .sort) 2)
     by (yes l) (no c) = omega (arith, s .no-tm j l c)
     by (no l) d = omega (arith, ap (λ r. r .tm) (s .blank j (omega arith)))
 
-pub placed : (count serial : ℕ) (m : Marks) (w : List ℕ) (modes : List Bool) (needs : List ℕ) → Sized m w → SoundRows (bookFrom count serial m w modes needs) → Placed m w
-placed count serial m w modes needs z s =
+pub sound-placed : (count serial : ℕ) (m : Marks) (w : List ℕ) (modes : List Bool) (needs : List ℕ) → Sized m w → SoundRows (bookFrom count serial m w modes needs) → Placed m w
+sound-placed count serial m w modes needs z s =
     let b = bookFrom count serial m w modes needs in
     record {
       size = z;
@@ -69,7 +69,7 @@ placed count serial m w modes needs z s =
       tms = λ j l. omega (arith, ap (λ r. r .tm) (row-in m w j l), tm-low b s j);
     }
 
-pub modest-past : {m : Marks} {w needs : List ℕ} {a : ℕ} {x : Past} → Placed m w → ((j : ℕ) → j < 256 → underIn w needs j ≤ 25_600_000_000_000_000) → PastOf m w needs a x → ModestPast x
+pub modest-past : {m : Marks} {w needs : List ℕ} {a : ℕ} {x : Past} → Placed m w → ((j : ℕ) → j < 256 → deemedUnderAt w needs j ≤ 25_600_000_000_000_000) → PastOf m w needs a x → ModestPast x
 modest-past {m} {w} {needs} {a} {x} h most o =
     let low : x .own .tm < 256 = rw (o .own) (h .tms (x .place) (o .inside)) in
     record {
@@ -78,7 +78,7 @@ modest-past {m} {w} {needs} {a} {x} h most o =
       own = rw (o .own) (modest-in h (o .inside));
       its = rw (o .its) (modest-in h low);
       under = rw (o .under) (most (x .place) (o .inside));
-      owed = rw (o .owed) (most (x .own .tm) low);
+      clients = rw (o .clients) (most (x .own .tm) low);
       all = rw (o .all) (most 0 (omega arith));
     }
 

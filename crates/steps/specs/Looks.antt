@@ -13,9 +13,9 @@ use Rattle.rows.specs.Inner.{accountAs}
 use Rattle.table.specs.Words.{Marks, rowIn}
 use Rattle.table.specs.Facts.{Sized}
 use Rattle.steps.specs.declared.looking.Past.{Past}
-use Rattle.rows.specs.Under.{needToKeep}
-use Rattle.codes.specs.declared.settling.Owed.{Owed}
-use Rattle.codes.specs.Own.{accountIn, underIn, owedBy}
+use Rattle.rows.specs.DeemedUnder.{needToKeep}
+use Rattle.codes.specs.declared.settling.DeemedUnderAfter.{DeemedUnderAfter}
+use Rattle.codes.specs.Own.{accountIn, deemedUnderAt, deemedUnderAfter}
 
 -- what a look, and the needs brought up to date, ask of the words
 pub record Placed (m : Marks) (w : List ℕ) : Type 0 where
@@ -24,14 +24,14 @@ pub record Placed (m : Marks) (w : List ℕ) : Type 0 where
   pub tms : (j : ℕ) → j < 256 → getD (m .tm) j 0 < 256
 
 -- a list of what is in excess under each account, nothing of it beyond 256 margins, in tenths
-pub record Borne (used : List ℕ) : Type 0 where
-  pub size : length used ≡ 256
-  pub most : (j : ℕ) → getD used j 0 ≤ 25_600_000_000_000_000
+pub record Borne (excess : List ℕ) : Type 0 where
+  pub size : length excess ≡ 256
+  pub most : (j : ℕ) → getD excess j 0 ≤ 25_600_000_000_000_000
 
 -- brought up to date, a use fits a word twice
-pub record Light (used : List ℕ) : Type 0 where
-  pub size : length used ≡ 256
-  pub most : (j : ℕ) → getD used j 0 ≤ 8_000_000_000_000_000_000
+pub record Light (excess : List ℕ) : Type 0 where
+  pub size : length excess ≡ 256
+  pub most : (j : ℕ) → getD excess j 0 ≤ 8_000_000_000_000_000_000
 
 -- an account's figures, as a sound book's are
 pub record Modest (a : Account) : Type 0 where
@@ -44,9 +44,9 @@ pub record PastOf (m : Marks) (w needs : List ℕ) (a : ℕ) (x : Past) : Type 0
   pub named : a < 256 → x .place ≡ a
   pub own : x .own ≡ accountIn m w (x .place)
   pub its : x .its ≡ accountIn m w (x .own .tm)
-  pub under : x .under ≡ underIn w needs (x .place)
-  pub owed : x .owed ≡ underIn w needs (x .own .tm)
-  pub all : x .all ≡ underIn w needs 0
+  pub under : x .under ≡ deemedUnderAt w needs (x .place)
+  pub clients : x .clients ≡ deemedUnderAt w needs (x .own .tm)
+  pub all : x .all ≡ deemedUnderAt w needs 0
 
 pub record ModestPast (x : Past) : Type 0 where
   pub inside : x .place < 256
@@ -54,40 +54,40 @@ pub record ModestPast (x : Past) : Type 0 where
   pub own : Modest (x .own)
   pub its : Modest (x .its)
   pub under : x .under ≤ 25_600_000_000_000_000
-  pub owed : x .owed ≤ 25_600_000_000_000_000
+  pub clients : x .clients ≤ 25_600_000_000_000_000
   pub all : x .all ≤ 25_600_000_000_000_000
 
 -- two places of a list put anew, its TM's and the CM's
-abbrev pub owedPut : List ℕ → ℕ → Owed → List ℕ
-owedPut used t d = set (set used t (d .tm)) 0 (d .cm)
+abbrev pub deemedUnderPut : List ℕ → ℕ → DeemedUnderAfter → List ℕ
+deemedUnderPut excess t d = set (set excess t (d .tm)) 0 (d .cm)
 
 -- the list of what is in excess, brought up to date
-abbrev pub usedAfter : List ℕ → ℕ → Account → Account → Account → List ℕ
-usedAfter used i old new its =
-    owedPut used (old .tm) (owedBy (getD used i 0) (getD used (old .tm) 0) (getD used 0 0) (accountAs true old) (accountAs true new) (accountAs true its))
+abbrev pub excessAfter : List ℕ → ℕ → Account → Account → Account → List ℕ
+excessAfter excess i old new its =
+    deemedUnderPut excess (old .tm) (deemedUnderAfter (getD excess i 0) (getD excess (old .tm) 0) (getD excess 0 0) (accountAs true old) (accountAs true new) (accountAs true its))
 
-abbrev pub usedSince : Marks → List ℕ → List ℕ → Past → List ℕ
-usedSince m w used x = usedAfter used (x .place) (x .own) (accountIn m w (x .place)) (x .its)
+abbrev pub excessSince : Marks → List ℕ → List ℕ → Past → List ℕ
+excessSince m w excess x = excessAfter excess (x .place) (x .own) (accountIn m w (x .place)) (x .its)
 
 -- a look at place j
 abbrev pub lookIn : Marks → List ℕ → List ℕ → ℕ → Bool → Bool
-lookIn m w used j before =
-    (eqb j 0 || eqb (accountIn m w j .sort) 1) && modeAfter (10 * accountIn m w j .margin + getD used j 0) (accountIn m w j .collateral) before
+lookIn m w excess j before =
+    (eqb j 0 || eqb (accountIn m w j .sort) 1) && modeAfter (10 * accountIn m w j .margin + getD excess j 0) (accountIn m w j .collateral) before
 
 -- the modes with three places looked at
 abbrev pub lookedOn : Marks → List ℕ → List ℕ → List Bool → List Bool → ℕ → ℕ → List Bool
-lookedOn m w used before modes i t =
-    set (set (set modes i (lookIn m w used i (getD before i false))) t (lookIn m w used t (getD before t false))) 0 (lookIn m w used 0 (getD before 0 false))
+lookedOn m w excess before modes i t =
+    set (set (set modes i (lookIn m w excess i (getD before i false))) t (lookIn m w excess t (getD before t false))) 0 (lookIn m w excess 0 (getD before 0 false))
 
 abbrev pub lookedSince : Marks → List ℕ → List ℕ → List Bool → List Bool → Past → List Bool
-lookedSince m w used before modes x = lookedOn m w (usedSince m w used x) before modes (x .place) (x .own .tm)
+lookedSince m w excess before modes x = lookedOn m w (excessSince m w excess x) before modes (x .place) (x .own .tm)
 
 -- what is deemed under its TM and under the CM after the record
-abbrev pub owedSince : Marks → List ℕ → Past → Owed
-owedSince m w x = owedBy (x .under) (x .owed) (x .all) (x .own) (accountIn m w (x .place)) (x .its)
+abbrev pub deemedUnderSince : Marks → List ℕ → Past → DeemedUnderAfter
+deemedUnderSince m w x = deemedUnderAfter (x .under) (x .clients) (x .all) (x .own) (accountIn m w (x .place)) (x .its)
 
 -- K3, "bring it up to date from the one row that changed": the kept needs with three places put anew
 abbrev pub neededSince : Marks → List ℕ → List ℕ → Past → List ℕ
 neededSince m w needs x =
-    set (set (set needs (x .place) (needToKeep (accountIn m w (x .place)) (x .under))) (x .own .tm) (needToKeep (x .its) (owedSince m w x .tm)))
-    0 (accountIn m w 0 .margin + owedSince m w x .cm)
+    set (set (set needs (x .place) (needToKeep (accountIn m w (x .place)) (x .under))) (x .own .tm) (needToKeep (x .its) (deemedUnderSince m w x .tm)))
+    0 (accountIn m w 0 .margin + deemedUnderSince m w x .cm)

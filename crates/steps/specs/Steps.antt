@@ -10,7 +10,7 @@ use Rattle.rows.specs.declared.Book.{Book}
 use Rattle.rows.specs.Rows.{view}
 use Rattle.rows.specs.Modes.{looked}
 use Rattle.rows.specs.Inner.{inTenths}
-use Rattle.rows.specs.Under.{Under}
+use Rattle.rows.specs.DeemedUnder.{DeemedUnder}
 use Rattle.book.specs.Facts.{SoundRows, Sound}
 use Rattle.dayfile.specs.declared.Record.{Record}
 use Rattle.rules.specs.declared.Change.{Change}
@@ -82,18 +82,18 @@ abbrev pub atAfter : At → Gone → At
 atAfter at x = record { count = x .count; serial = x .serial; waiting = at .waiting && eqb (x .carried) 0 }
 
 -- the arrays are a sound book's. Beside it stand what is in excess under each account, in tenths, and the modes that a look leaves
-pub record Going (at : At) (m : Marks) (w : List ℕ) (was modes : List Bool) (needs used : List ℕ) : Type 0 where
+pub record Going (at : At) (m : Marks) (w : List ℕ) (was modes : List Bool) (needs excess : List ℕ) : Type 0 where
   pub size : Sized m w
   pub many : length was ≡ 256
   pub wide : length needs ≡ 256
   pub sound : Sound (bookAt at m w was modes needs)
-  pub uses : Under (inTenths (view (bookAt at m w was modes needs))) used
+  pub in-excess : DeemedUnder (inTenths (view (bookAt at m w was modes needs))) excess
   pub looks : modes ≡ looked (view (bookAt at m w was modes needs)) (modesIn (at .waiting) was modes)
 
 -- a record at such arrays came to x, and left the arrays after it
-pub record Stepped (at : At) (m : Marks) (w : List ℕ) (was modes : List Bool) (needs : List ℕ) (r : Record) (x : Gone) (n : Marks) (u : List ℕ) (after : List Bool) (needs′ used : List ℕ) : Type 0 where
+pub record Stepped (at : At) (m : Marks) (w : List ℕ) (was modes : List Bool) (needs : List ℕ) (r : Record) (x : Gone) (n : Marks) (u : List ℕ) (after : List Bool) (needs′ excess : List ℕ) : Type 0 where
   pub refusal : x .refusal ≡ refusalShown (changeOf (bookAt at m w was modes needs) r)
   pub given : x .given ≡ givenShown (at .count) (changeOf (bookAt at m w was modes needs) r)
   pub carried : x .carried ≡ carriedShown (changeOf (bookAt at m w was modes needs) r)
   pub book : bookAt (atAfter at x) n u was after needs′ ≡ bookAfter (bookAt at m w was modes needs) (r .account) (changeOf (bookAt at m w was modes needs) r)
-  pub ready : Going (atAfter at x) n u was after needs′ used
+  pub ready : Going (atAfter at x) n u was after needs′ excess

@@ -12,7 +12,7 @@ use codes::own::open;
 use dayfile::Record;
 use looking::look_after;
 use looking::mode_of;
-use looking::past_of;
+use looking::past_if;
 use looking::settle_needs;
 
 mod looking;
@@ -59,7 +59,7 @@ fn decide(
     amend(sort, live, tm, w, needs, on, at.count, r)
 }
 
-fn told(n: u8, opening: bool, count: u16, serial: u16) -> Gone
+fn gone_with(n: u8, opening: bool, count: u16, serial: u16) -> Gone
     requires { ⌜ (n ≡ 0 → opening ≡ true → count < 256) ⌝ }
     ensures { λ x. ⌜ x ≡ goneWith n opening count serial ⌝ }
 {
@@ -91,7 +91,7 @@ fn told(n: u8, opening: bool, count: u16, serial: u16) -> Gone
     }
 }
 
-// One record decided, carried out on the words, and told, before needs and modes follow.
+// One record decided and carried out on the words, and what it came to, before needs and modes follow.
 fn carry(
     sort: &mut [u8; 256],
     live: &mut [bool; 256],
@@ -107,7 +107,7 @@ fn carry(
     ensures { λ x. ⌜ Decided (at .count) (at .serial) (marksFrom (now (sort .entry)) (now (live .entry)) (now (tm .entry))) (now (w .entry)) (modesIn (at .waiting) (now (was .entry)) (now (modes .entry))) (now (needs .entry)) r x (marksFrom (now (sort .exit)) (now (live .exit)) (now (tm .exit))) (now (w .exit)) ⌝ }
 {
     let n = decide(sort, live, tm, w, modes, needs, was, at, r);
-    told(n, (1 <= r.code) & (r.code <= 3), at.count, at.serial)
+    gone_with(n, (1 <= r.code) & (r.code <= 3), at.count, at.serial)
 }
 
 // One record at the arrays of a sound book. `modes` are those that a look leaves: where a record is carried out they are the book's. K3's needs and
@@ -119,22 +119,20 @@ pub fn step(
     w: &mut [u64; 2560],
     modes: &mut [bool; 256],
     needs: &mut [u64; 256],
-    used: &mut [u64; 256],
+    excess: &mut [u64; 256],
     was: &[bool; 256],
     at: At,
     r: Record,
 ) -> Gone
-    requires { ⌜ Going at (marksFrom (now sort) (now live) (now tm)) (now w) (now was) (now modes) (now needs) (now used) ⌝ }
-    ensures { λ x. ⌜ Stepped at (marksFrom (now (sort .entry)) (now (live .entry)) (now (tm .entry))) (now (w .entry)) (now (was .entry)) (now (modes .entry)) (now (needs .entry)) r x (marksFrom (now (sort .exit)) (now (live .exit)) (now (tm .exit))) (now (w .exit)) (now (modes .exit)) (now (needs .exit)) (now (used .exit)) ⌝ }
+    requires { ⌜ Going at (marksFrom (now sort) (now live) (now tm)) (now w) (now was) (now modes) (now needs) (now excess) ⌝ }
+    ensures { λ x. ⌜ Stepped at (marksFrom (now (sort .entry)) (now (live .entry)) (now (tm .entry))) (now (w .entry)) (now (was .entry)) (now (modes .entry)) (now (needs .entry)) r x (marksFrom (now (sort .exit)) (now (live .exit)) (now (tm .exit))) (now (w .exit)) (now (modes .exit)) (now (needs .exit)) (now (excess .exit)) ⌝ }
 {
-    if (r.code <= 5) | (10 < r.code) {
-        return carry(sort, live, tm, w, modes, needs, was, at, r);
-    }
-    let past = past_of(sort, live, tm, w, needs, r.account);
+    let still = (r.code <= 5) | (10 < r.code);
+    let past = past_if(still, sort, live, tm, w, needs, r.account);
     let gone = carry(sort, live, tm, w, modes, needs, was, at, r);
-    if gone.refusal == 0 {
+    if !still & (gone.refusal == 0) {
         settle_needs(sort, live, tm, w, needs, past);
-        look_after(sort, live, tm, w, modes, used, was, at.waiting, past);
+        look_after(sort, live, tm, w, modes, excess, was, at.waiting, past);
     }
     gone
 }

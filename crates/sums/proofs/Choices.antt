@@ -17,13 +17,13 @@ module _ {A : Type 0} where
   pick-no false a b e = refl
 
   -- what a return shows: the choice goes to the first, or to the second
-  pub pass : {t : Bool} {w a : A} (b : A) → t ≡ true → w ≡ a → w ≡ pick t a b
+  pub pick-first : {t : Bool} {w a : A} (b : A) → t ≡ true → w ≡ a → w ≡ pick t a b
   unfolding pick
-  pass b e h = rw e h
+  pick-first b e h = rw e h
 
-  pub stop : {t : Bool} {w b : A} (a : A) → t ≡ false → w ≡ b → w ≡ pick t a b
+  pub pick-second : {t : Bool} {w b : A} (a : A) → t ≡ false → w ≡ b → w ≡ pick t a b
   unfolding pick
-  stop a e h = rw e h
+  pick-second a e h = rw e h
 
   -- a refusal's number decides
   pub refused-by : (n : ℕ) (a : A) (f : ℕ → A) → (n ≡ 0 → ⊥) → f n ≡ unlessRefused n a f
@@ -31,8 +31,8 @@ module _ {A : Type 0} where
   refused-by (suc n) a f h = refl
 
 -- a test does not both hold and fail
-pub clash : {t : Bool} {A : Type 0} → t ≡ true → t ≡ false → A
-clash p q = absurd (false≢true (sym q ∙ p))
+pub test-clash : {t : Bool} {A : Type 0} → t ≡ true → t ≡ false → A
+test-clash p q = absurd (false≢true (sym q ∙ p))
 
 pub and-split : (a b : Bool) → (a && b) ≡ true → (a ≡ true) × (b ≡ true)
 and-split true b e = (refl, e)

@@ -10,7 +10,7 @@ use lib.Dec.{eqb}
 use borrow.Author.Tests.{eq-eqb}
 use Rattle.sums.specs.Choice.{pick}
 use Rattle.sums.specs.Table.{Line, _when_, first, Given, here, later, NoneHolds}
-use Rattle.sums.proofs.Choices.{pick-yes, pick-no, and-split, clash}
+use Rattle.sums.proofs.Choices.{pick-yes, pick-no, and-split, test-clash}
 
 -- the first line decides where its test holds, and otherwise the rest does
 pub first-here : (n : ℕ) (t : Bool) (rest : List Line) → t ≡ true → first ((n when t) ∷ rest) ≡ n
@@ -150,7 +150,7 @@ first-names k xs ys n p q true e = refl
 first-names k xs ys n p q false e = absurd (by (ℕ-discrete (first xs) 0))
   where
     never : (table : List Line) → allPass (λ n. not (eqb n k)) table ≡ true → first table ≡ k → ⊥
-    never table h z = clash (first-passes (λ n. not (eqb n k)) table h) (ap (λ n. not (eqb n k)) z ∙ ap not (eq-eqb k k refl))
+    never table h z = test-clash (first-passes (λ n. not (eqb n k)) table h) (ap (λ n. not (eqb n k)) z ∙ ap not (eq-eqb k k refl))
 
     by : Dec (first xs ≡ 0) → ⊥
     by (yes z) = never ys q (sym (first-none xs _ n z ∙ first-later k false ys refl) ∙ e)

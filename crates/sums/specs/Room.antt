@@ -4,5 +4,5 @@ use Prim.Native.Nat.{ℕ}
 use lib.ListN.{length, drop}
 
 -- a text at a room's start; the room past it stays as it was
-abbrev pub over : List ℕ → List ℕ → List ℕ
-over text room = text ++ drop (length text) room
+abbrev pub atStart : List ℕ → List ℕ → List ℕ
+atStart text room = text ++ drop (length text) room

@@ -39,21 +39,21 @@ row-eq s v t f g h = rw (
 )
 
 -- what holds of each of the ten amounts
-pub ten : (P : ℕ → Type 0) → P 0 → P 1 → P 2 → P 3 → P 4 → P 5 → P 6 → P 7 → P 8 → P 9 → (k : ℕ) → k < 10 → P k
-ten P p0 p1 p2 p3 p4 p5 p6 p7 p8 p9 zero l = p0
-ten P p0 p1 p2 p3 p4 p5 p6 p7 p8 p9 (suc zero) l = p1
-ten P p0 p1 p2 p3 p4 p5 p6 p7 p8 p9 (suc (suc zero)) l = p2
-ten P p0 p1 p2 p3 p4 p5 p6 p7 p8 p9 (suc (suc (suc zero))) l = p3
-ten P p0 p1 p2 p3 p4 p5 p6 p7 p8 p9 (suc (suc (suc (suc zero)))) l = p4
-ten P p0 p1 p2 p3 p4 p5 p6 p7 p8 p9 (suc (suc (suc (suc (suc zero))))) l = p5
-ten P p0 p1 p2 p3 p4 p5 p6 p7 p8 p9 (suc (suc (suc (suc (suc (suc zero)))))) l = p6
-ten P p0 p1 p2 p3 p4 p5 p6 p7 p8 p9 (suc (suc (suc (suc (suc (suc (suc zero))))))) l = p7
-ten P p0 p1 p2 p3 p4 p5 p6 p7 p8 p9 (suc (suc (suc (suc (suc (suc (suc (suc zero)))))))) l = p8
-ten P p0 p1 p2 p3 p4 p5 p6 p7 p8 p9 (suc (suc (suc (suc (suc (suc (suc (suc (suc zero))))))))) l = p9
-ten P p0 p1 p2 p3 p4 p5 p6 p7 p8 p9 (suc (suc (suc (suc (suc (suc (suc (suc (suc (suc k)))))))))) l = absurd (omega arith)
+pub each-of-ten : (P : ℕ → Type 0) → P 0 → P 1 → P 2 → P 3 → P 4 → P 5 → P 6 → P 7 → P 8 → P 9 → (k : ℕ) → k < 10 → P k
+each-of-ten P p0 p1 p2 p3 p4 p5 p6 p7 p8 p9 zero l = p0
+each-of-ten P p0 p1 p2 p3 p4 p5 p6 p7 p8 p9 (suc zero) l = p1
+each-of-ten P p0 p1 p2 p3 p4 p5 p6 p7 p8 p9 (suc (suc zero)) l = p2
+each-of-ten P p0 p1 p2 p3 p4 p5 p6 p7 p8 p9 (suc (suc (suc zero))) l = p3
+each-of-ten P p0 p1 p2 p3 p4 p5 p6 p7 p8 p9 (suc (suc (suc (suc zero)))) l = p4
+each-of-ten P p0 p1 p2 p3 p4 p5 p6 p7 p8 p9 (suc (suc (suc (suc (suc zero))))) l = p5
+each-of-ten P p0 p1 p2 p3 p4 p5 p6 p7 p8 p9 (suc (suc (suc (suc (suc (suc zero)))))) l = p6
+each-of-ten P p0 p1 p2 p3 p4 p5 p6 p7 p8 p9 (suc (suc (suc (suc (suc (suc (suc zero))))))) l = p7
+each-of-ten P p0 p1 p2 p3 p4 p5 p6 p7 p8 p9 (suc (suc (suc (suc (suc (suc (suc (suc zero)))))))) l = p8
+each-of-ten P p0 p1 p2 p3 p4 p5 p6 p7 p8 p9 (suc (suc (suc (suc (suc (suc (suc (suc (suc zero))))))))) l = p9
+each-of-ten P p0 p1 p2 p3 p4 p5 p6 p7 p8 p9 (suc (suc (suc (suc (suc (suc (suc (suc (suc (suc k)))))))))) l = absurd (omega arith)
 
 -- amount k of account i, by its row
 pub word-in : (m : Marks) (w : List ℕ) (k i : ℕ) → k < 10 → i < 256 → amountOf (getD (rowsOf m w) i noRow) k ≡ wordAt w k i
 word-in m w k i lk l =
     ap (λ r. amountOf r k) (row-in m w i l)
-    ∙ ten (λ j. amountOf (rowIn m w i) j ≡ wordAt w j i) refl refl refl refl refl refl refl refl refl refl k lk
+    ∙ each-of-ten (λ j. amountOf (rowIn m w i) j ≡ wordAt w j i) refl refl refl refl refl refl refl refl refl refl k lk

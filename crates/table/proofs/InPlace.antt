@@ -21,8 +21,8 @@ abbrev pub withAmount : ℕ → ℕ → Row → Row
 withAmount k x r = rowFrom (r .sort) (r .live) (r .tm) (λ j. pick (eqb j k) x (amountOf r j))
 
 -- put anew once more, by what the first time made of the row
-pub then : {m n p : Marks} {w u v : List ℕ} {i : ℕ} {r : Row} (f : Row → Row) → Anew m w i r n u → Anew n u i (f (rowIn n u i)) p v → Anew m w i (f r) p v
-then {m} {n} {p} {w} {u} {v} {i} {r} f h g = record {
+pub anew-again : {m n p : Marks} {w u v : List ℕ} {i : ℕ} {r : Row} (f : Row → Row) → Anew m w i r n u → Anew n u i (f (rowIn n u i)) p v → Anew m w i (f r) p v
+anew-again {m} {n} {p} {w} {u} {v} {i} {r} f h g = record {
   rows = g .rows ∙ ap (λ l. set l i (f (rowIn n u i))) (h .rows) ∙ set-set (rowsOf m w) i r (f (rowIn n u i)) ∙ ap (λ q. set (rowsOf m w) i (f q)) (h .row);
   row = g .row ∙ ap f (h .row);
   size = g .size;

@@ -12,12 +12,12 @@ use Rattle.rows.specs.Rows.{withLive, withReceived, withAllocated, withPledged,
 use Rattle.table.specs.Words.{Marks, marksFrom, rowIn}
 use Rattle.table.specs.Inner.{putKinds, putRow, Anew}
 use Rattle.table.specs.Facts.{Sized}
-use Rattle.table.proofs.InPlace.{withAmount, then, amount-put, marks-put}
+use Rattle.table.proofs.InPlace.{withAmount, anew-again, amount-put, marks-put}
 
 -- one amount more
 pub then-amount : {m n : Marks} {w u : List ℕ} {i : ℕ} {r : Row} (k x : ℕ) → k < 10 → i < 256 → Anew m w i r n u
     → Anew m w i (withAmount k x r) n (set u (256 * k + i) x)
-then-amount {m} {n} {w} {u} {i} k x lk l h = then (withAmount k x) h (amount-put n u i (h .size) l k x lk)
+then-amount {m} {n} {w} {u} {i} k x lk l h = anew-again (withAmount k x) h (amount-put n u i (h .size) l k x lk)
 
 module _ (m : Marks) (w : List ℕ) (i : ℕ) (s : Sized m w) (l : i < 256) where
   pub received-put : (x : Kinds) → Anew m w i (withReceived (rowIn m w i) x) m (putKinds w 0 i x)
@@ -49,8 +49,8 @@ pub row-put : (m : Marks) (w : List ℕ) (i : ℕ) → Sized m w → i < 256 →
     → Anew m w i r (marksFrom (set (m .sort) i (r .sort)) (set (m .live) i (r .live)) (set (m .tm) i (r .tm))) (putRow w i r)
 row-put m w i s l r =
     let received = received-put m w i s l (r .received) in
-    let allocated = then (λ q. withAllocated q (r .allocated)) received (allocated-put m _ i (received .size) l (r .allocated)) in
-    let pledged = then (λ q. withPledged q (r .pledged)) allocated (pledged-put m _ i (allocated .size) l (r .pledged)) in
-    let margin = then (λ q. withMargin q (r .margin)) pledged (margin-put m _ i (pledged .size) l (r .margin)) in
-    then (λ q. record { sort = r .sort; live = r .live; tm = r .tm; received = q .received; allocated = q .allocated; pledged = q .pledged; margin = q .margin })
+    let allocated = anew-again (λ q. withAllocated q (r .allocated)) received (allocated-put m _ i (received .size) l (r .allocated)) in
+    let pledged = anew-again (λ q. withPledged q (r .pledged)) allocated (pledged-put m _ i (allocated .size) l (r .pledged)) in
+    let margin = anew-again (λ q. withMargin q (r .margin)) pledged (margin-put m _ i (pledged .size) l (r .margin)) in
+    anew-again (λ q. record { sort = r .sort; live = r .live; tm = r .tm; received = q .received; allocated = q .allocated; pledged = q .pledged; margin = q .margin })
     margin (marks-put m _ i (margin .size) l (r .sort) (r .live) (r .tm))

@@ -7,7 +7,7 @@ use native.Mathlib.Omega.{arith}
 use native.Mathlib.Decide.{decLt}
 use Rattle.rows.specs.declared.Book.{Book}
 use Rattle.rows.specs.Rows.{rowAt, accountOf, view}
-use Rattle.rows.specs.Under.{accountAt}
+use Rattle.rows.specs.DeemedUnder.{accountAt}
 use Rattle.rows.specs.Inner.{Ranged}
 use Rattle.rows.proofs.RowPut.{row-far}
 use Rattle.table.specs.Words.{Marks, marksFrom, bookFrom}

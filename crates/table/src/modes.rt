@@ -3,24 +3,24 @@ ghost use mathlib.Core.Path.{_≡_};
 ghost use lib.ListN.{length};
 ghost use Rattle.rows.specs.Rows.{view};
 ghost use Rattle.rows.specs.Facts.{Shaped, NoneBeyond};
-ghost use Rattle.rows.specs.Under.{Under};
+ghost use Rattle.rows.specs.DeemedUnder.{DeemedUnder};
 ghost use Rattle.rows.specs.Modes.{looked};
 ghost use Rattle.rows.specs.Inner.{Ranged, inTenths};
 ghost use Rattle.table.specs.Facts.{seenBook};
 use super::needs::account_at;
 use rows::modes::look;
 
-// By the modes before and what is under each account in tenths (`needs::unders`).
+// By the modes before and what is under each account in tenths (`needs::deemed_under`).
 pub fn look_all<'a>(
     sort: &'a [u8; 256],
     tm: &'a [u16; 256],
     w: &'a [u64; 2560],
     count: u16,
-    used: &'a [u64; 256],
+    excess: &'a [u64; 256],
     modes: &'a [bool; 256],
 ) -> [bool; 256]
     requires { ⌜ Ranged (seenBook count (now sort) (now tm) (now w)) × Shaped (view (seenBook count (now sort) (now tm) (now w))) ⌝ }
-    requires { ⌜ NoneBeyond (view (seenBook count (now sort) (now tm) (now w))) × Under (inTenths (view (seenBook count (now sort) (now tm) (now w)))) (now used) ⌝ }
+    requires { ⌜ NoneBeyond (view (seenBook count (now sort) (now tm) (now w))) × DeemedUnder (inTenths (view (seenBook count (now sort) (now tm) (now w)))) (now excess) ⌝ }
     ensures { λ x. ⌜ x ≡ looked (view (seenBook count (now (sort .entry)) (now (tm .entry)) (now (w .entry)))) (now (modes .entry)) ⌝ }
 {
     let mut after = [false; 256];
@@ -28,7 +28,7 @@ pub fn look_all<'a>(
     let mut i: usize = 0;
     while i < n {
         let a = account_at(sort, tm, w, i);
-        after[i] = look(i, a, used[i], modes[i]);
+        after[i] = look(i, a, excess[i], modes[i]);
         i += 1;
     }
     after

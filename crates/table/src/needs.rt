@@ -5,14 +5,14 @@ ghost use Prim.Native.Nat.{_≤_, _<_};
 ghost use lib.ListN.{length, replicate};
 ghost use Rattle.rows.specs.Rows.{rowAt, accountOf, view};
 ghost use Rattle.rows.specs.Facts.{Shaped, NoneBeyond, InRange};
-ghost use Rattle.rows.specs.Under.{Under};
+ghost use Rattle.rows.specs.DeemedUnder.{DeemedUnder};
 ghost use Rattle.rows.specs.KeptNeeds.{allKept};
 ghost use Rattle.rows.specs.Inner.{Ranged, ClientSums, membersBelow, accountAs, viewAs, keptWith};
 ghost use Rattle.table.specs.Facts.{seenBook};
 use super::places::kinds_at;
 use super::places::word_at;
 use rows::Account;
-use rows::kept::need_to_keep;
+use rows::deemed::need_to_keep;
 use rows::needs::client_due;
 use rows::needs::in_tenths;
 use rows::needs::member_due;
@@ -59,10 +59,10 @@ fn client_sums<'a>(
     w: &'a [u64; 2560],
     count: u16,
     tenths: bool,
-    owed: &mut [u64; 256],
+    under: &mut [u64; 256],
 )
-    requires { ⌜ Ranged (seenBook count (now sort) (now tm) (now w)) × (now owed ≡ replicate 256 0) ⌝ }
-    ensures { λ _. ⌜ ClientSums (viewAs tenths (view (seenBook count (now (sort .entry)) (now (tm .entry)) (now (w .entry))))) (now (owed .exit)) ⌝ }
+    requires { ⌜ Ranged (seenBook count (now sort) (now tm) (now w)) × (now under ≡ replicate 256 0) ⌝ }
+    ensures { λ _. ⌜ ClientSums (viewAs tenths (view (seenBook count (now (sort .entry)) (now (tm .entry)) (now (w .entry))))) (now (under .exit)) ⌝ }
 {
     let n = count as usize;
     let mut i: usize = 0;
@@ -70,7 +70,7 @@ fn client_sums<'a>(
         let a = account_as(sort, tm, w, i, tenths);
         let t = slot(a.tm);
         let d = client_due(a);
-        owed[t] = owed[t] + d;
+        under[t] = under[t] + d;
         i += 1;
     }
 }
@@ -82,9 +82,9 @@ fn members_sum<'a>(
     w: &'a [u64; 2560],
     count: u16,
     tenths: bool,
-    owed: &'a [u64; 256],
+    under: &'a [u64; 256],
 ) -> u64
-    requires { ⌜ Ranged (seenBook count (now sort) (now tm) (now w)) × ClientSums (viewAs tenths (view (seenBook count (now sort) (now tm) (now w)))) (now owed) ⌝ }
+    requires { ⌜ Ranged (seenBook count (now sort) (now tm) (now w)) × ClientSums (viewAs tenths (view (seenBook count (now sort) (now tm) (now w)))) (now under) ⌝ }
     ensures { λ x. ⌜ x ≡ membersBelow (viewAs tenths (view (seenBook count (now (sort .entry)) (now (tm .entry)) (now (w .entry))))) count ⌝ }
 {
     let mut sum: u64 = 0;
@@ -92,7 +92,7 @@ fn members_sum<'a>(
     let mut i: usize = 0;
     while i < n {
         let a = account_as(sort, tm, w, i, tenths);
-        sum += member_due(a, owed[i]);
+        sum += member_due(a, under[i]);
         i += 1;
     }
     sum
@@ -100,7 +100,7 @@ fn members_sum<'a>(
 
 // What is deemed directly under each account, or in tenths its excess, put into a list of zeros: at the CM's place that of the TMs and CPs, at any other
 // that of its clients.
-pub fn unders<'a>(
+pub fn deemed_under<'a>(
     sort: &'a [u8; 256],
     tm: &'a [u16; 256],
     w: &'a [u64; 2560],
@@ -109,7 +109,7 @@ pub fn unders<'a>(
     under: &mut [u64; 256],
 )
     requires { ⌜ Ranged (seenBook count (now sort) (now tm) (now w)) × Shaped (view (seenBook count (now sort) (now tm) (now w))) × (now under ≡ replicate 256 0) ⌝ }
-    ensures { λ _. ⌜ Under (viewAs tenths (view (seenBook count (now (sort .entry)) (now (tm .entry)) (now (w .entry))))) (now (under .exit)) ⌝ }
+    ensures { λ _. ⌜ DeemedUnder (viewAs tenths (view (seenBook count (now (sort .entry)) (now (tm .entry)) (now (w .entry))))) (now (under .exit)) ⌝ }
 {
     client_sums(sort, tm, w, count, tenths, under);
     let all = members_sum(sort, tm, w, count, tenths, under);
@@ -150,7 +150,7 @@ pub fn needs_kept<'a>(
     ensures { λ x. ⌜ x ≡ allKept (view (seenBook count (now (sort .entry)) (now (tm .entry)) (now (w .entry)))) (now (needs .entry)) ⌝ }
 {
     let mut under = [0u64; 256];
-    unders(sort, tm, w, count, false, &mut under);
+    deemed_under(sort, tm, w, count, false, &mut under);
     let mut ok = true;
     let mut i: usize = 0;
     while i < 256 {

@@ -1,4 +1,4 @@
--- `book::amount_sum` meets its contract.
+-- `book::amount_sum` meets its contract: 1, or the words of that amount added up, which are the old order's rows'.
 use mathlib.Core.Bool.{true}
 use mathlib.Core.Path.{_≡_, sym, ap, _∙_}
 use borrow.Author.Needs.{needs}
@@ -8,10 +8,10 @@ use Rattle.table.specs.Words.{marksOf, turnedBack}
 use Rattle.table.specs.Inner.{amountSum}
 use Rattle.table.proofs.EveningSums.{capped-in}
 use Rattle.book.specs.Sound.{soundB}
-use Rattle.book.specs.Inner.{runOf}
+use Rattle.book.specs.Inner.{amountNumber}
 use Rattle.book.proofs.RowTests.{sound-test-ranged}
 use Rattle.book.proofs.SoundInPlace.{sound-serial}
-use Rattle.book.proofs.EveningTold.{unsound-evening, sound-evening, run-below, run-sum}
+use Rattle.book.proofs.EveningAnswers.{unsound-evening, sound-evening, number-below, number-sum}
 use Rattle.book.proofs.amount_sum.Statement.{statement}
 use Rattle.book.proofs.amount_sum.Tie as tie
 
@@ -42,8 +42,8 @@ ranged c = sound-test-ranged (turnedBack (start (c .before) .args .t1)) (holds c
 cast-n : tie.Need-cast-n
 cast-n c = search needs
 
-run-of-requires : tie.Need-run-of-requires
-run-of-requires c κs = search needs
+amount-number-requires : tie.Need-amount-number-requires
+amount-number-requires c κs = search needs
 
 amount-sum-requires : tie.Need-amount-sum-requires
 amount-sum-requires c κs =
@@ -52,7 +52,7 @@ amount-sum-requires c κs =
     let t = start (e .before) .args .t1 in
     let a = start (e .before) .args .amount in
     let r = ranged e in
-    rw (run .run-of .ensures) (run-below a, r .most, capped-in (marksOf t) (t .amounts) (runOf a) (t .count) (run-below a) (r .most) (r .ranges))
+    rw (run .amount-number .ensures) (number-below a, r .most, capped-in (marksOf t) (t .amounts) (amountNumber a) (t .count) (number-below a) (r .most) (r .ranges))
 
 returns-2 : tie.Need-returns-2
 returns-2 c =
@@ -60,10 +60,10 @@ returns-2 c =
     let e = run .before in
     let t = start (e .before) .args .t1 in
     let a = start (e .before) .args .amount in
-    let total = c .amount-sum .ensures ∙ ap (λ k. amountSum (t .amounts) k (t .count)) (run .run-of .ensures) ∙ run-sum t a (ranged e .most) in
+    let total = c .amount-sum .ensures ∙ ap (λ k. amountSum (t .amounts) k (t .count)) (run .amount-number .ensures) ∙ number-sum t a (ranged e .most) in
     ap (λ n. record { refusal = 0; total = n }) total ∙ sym (sound-evening (turnedBack t) a (holds e))
 
 pub amount-sum-spec : {M : Type 1} → statement M
 amount-sum-spec =
     tie.close
-    (tie.spec table-sound-requires returns cast-n run-of-requires amount-sum-requires returns-2)
+    (tie.spec table-sound-requires returns cast-n amount-number-requires amount-sum-requires returns-2)

@@ -1,4 +1,4 @@
--- `book::needs` meets its contract.
+-- `book::needs` meets its contract: 1, 15, or every account's need in the room.
 use mathlib.Core.Bool.{true}
 use mathlib.Core.Path.{_≡_, refl, sym, ap, subst, _∙_}
 use native.Mathlib.Omega.{arith}
@@ -14,7 +14,7 @@ use Rattle.book.specs.NeedsListed.{allNeeds}
 use Rattle.book.proofs.RowTests.{sound-ranged}
 use Rattle.book.proofs.SoundTest.{sound→}
 use Rattle.book.proofs.SoundInPlace.{sound-serial}
-use Rattle.book.proofs.NeedsTold.{needs-by, needs-unsound, needs-no-room, needs-given}
+use Rattle.book.proofs.NeedsAnswers.{needs-by, needs-unsound, needs-no-room, needs-given}
 use Rattle.book.proofs.needs.Statement.{statement}
 use Rattle.book.proofs.needs.Tie as tie
 

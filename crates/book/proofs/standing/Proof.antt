@@ -1,4 +1,4 @@
--- `book::standing` meets its contract.
+-- `book::standing` meets its contract: 1, 7 for a number never given, 7 for a retired account, or the figures by the kept need (K3).
 use mathlib.Core.Bool.{true, and-false}
 use mathlib.Core.Path.{_≡_, sym, ap, _∙_}
 use native.Mathlib.Omega.{arith}

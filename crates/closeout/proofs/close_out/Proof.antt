@@ -12,7 +12,7 @@ use Rattle.book.proofs.Settled.{all-off}
 use Rattle.book.proofs.SoundAfter.{serial-sound}
 use Rattle.book.proofs.SoundTest.{sound→}
 use Rattle.book.proofs.SoundInPlace.{sound-serial}
-use Rattle.closeout.proofs.Answers.{refused-sound, settled, serial-and-modes-aside}
+use Rattle.closeout.proofs.Answers.{refused-sound, answer-by-refusal, serial-and-modes-aside}
 use Rattle.closeout.proofs.close_out.Statement.{statement}
 use Rattle.closeout.proofs.close_out.Tie as tie
 
@@ -34,7 +34,7 @@ refused-requires c κs = search needs
 returns : tie.Need-returns
 returns c =
     let b = turnedBack (start (c .before .before) .args .t1) in
-    settled b _ _ 1 (refused-sound b _ _ (sym (tested (c .before .before)) ∙ not-true _ (c .before .if1 .taken))) (c .refused .ensures) refl
+    answer-by-refusal b _ _ 1 (refused-sound b _ _ (sym (tested (c .before .before)) ∙ not-true _ (c .before .if1 .taken))) (c .refused .ensures) refl
 
 holds : (c : tie.Else1) → soundB (turnedBack (start (c .before) .args .t1)) ≡ true
 holds c = sym (tested (c .before)) ∙ not-false _ (c .if1 .left)

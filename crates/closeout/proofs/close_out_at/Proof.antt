@@ -16,7 +16,7 @@ use Rattle.book.specs.Sound.{soundB}
 use Rattle.book.proofs.SoundTest.{sound→, sound←}
 use Rattle.closeout.specs.Closing.{lossAt, goodLoss, goodLosses}
 use Rattle.closeout.specs.Inner.{goodIn}
-use Rattle.closeout.proofs.Answers.{refused-losses, refused-room, refused-loss, none-refused, settled, losses-small}
+use Rattle.closeout.proofs.Answers.{refused-losses, refused-room, refused-loss, none-refused, answer-by-refusal, losses-small}
 use borrow.Author.Needs.{needs}
 use Rattle.closeout.proofs.close_out_at.Statement.{statement}
 use Rattle.closeout.proofs.close_out_at.Tie as tie
@@ -43,7 +43,7 @@ refused-requires c κs = search needs
 returns : tie.Need-returns
 returns c =
     let at = c .before .before in
-    settled (Bk at) (Ls at) (Rm at) 15 (refused-losses (Bk at) (Ls at) (Rm at) (sound at) (ne-eqb _ _ (c .before .if1 .taken))) (c .refused .ensures) refl
+    answer-by-refusal (Bk at) (Ls at) (Rm at) 15 (refused-losses (Bk at) (Ls at) (Rm at) (sound at) (ne-eqb _ _ (c .before .if1 .taken))) (c .refused .ensures) refl
 
 mul-if2 : tie.Need-mul-if2
 mul-if2 c = search needs
@@ -54,7 +54,7 @@ refused-requires-2 c κs = search needs
 returns-2 : tie.Need-returns-2
 returns-2 c =
     let at = c .before .before .before in
-    settled (Bk at) (Ls at) (Rm at) 15 (refused-room (Bk at) (Ls at) (Rm at) (sound at) (eq-eqb _ _ (c .before .before .if1 .left)) (ne-eqb _ _ (c .before .if2 .taken))) (c .refused2 .ensures) refl
+    answer-by-refusal (Bk at) (Ls at) (Rm at) 15 (refused-room (Bk at) (Ls at) (Rm at) (sound at) (eq-eqb _ _ (c .before .before .if1 .left)) (ne-eqb _ _ (c .before .if2 .taken))) (c .refused2 .ensures) refl
 
 good-losses-requires : tie.Need-good-losses-requires
 good-losses-requires c κs = (c .before .if1 .left, sound→ _ (sound (c .before .before)) .most)
@@ -88,7 +88,7 @@ returns-3 : tie.Need-returns-3
 returns-3 c =
     let tests = c .before .before .before in
     let at = of tests in
-    settled (Bk at) (Ls at) (Rm at) 16 (refused-loss (Bk at) (Ls at) (Rm at) (sound at) (each tests) (wide tests) (losses-tested (c .before .before) ∙ not-true _ (c .before .if3 .taken))) (c .refused3 .ensures) refl
+    answer-by-refusal (Bk at) (Ls at) (Rm at) 16 (refused-loss (Bk at) (Ls at) (Rm at) (sound at) (each tests) (wide tests) (losses-tested (c .before .before) ∙ not-true _ (c .before .if3 .taken))) (c .refused3 .ensures) refl
 
 fill-requires : tie.Need-fill-requires
 fill-requires c κs =
@@ -102,7 +102,7 @@ returns-4 : tie.Need-returns-4
 returns-4 c =
     let tests = c .before .before .before .before .before .before in
     let at = of tests in
-    settled (Bk at) (Ls at) (Rm at) 0 (none-refused (Bk at) (Ls at) (Rm at) (sound at) (each tests) (wide tests) (good (c .before .before .before .before)))
+    answer-by-refusal (Bk at) (Ls at) (Rm at) 0 (none-refused (Bk at) (Ls at) (Rm at) (sound at) (each tests) (wide tests) (good (c .before .before .before .before)))
     (ap (λ (t : ℕ). record { refusal = 0; total = t }) (c .before .before .fill .ensures .1)) (c .before .before .fill .ensures .0)
 
 pub close-out-at-spec : {M : Type 1} → statement M

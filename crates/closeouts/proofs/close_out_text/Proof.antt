@@ -6,7 +6,7 @@ use Prim.Native.Nat.{ℕ, _*_, _≤_}
 use native.Mathlib.Omega.{arith}
 use lib.ListN.{length, drop, length-append, length-replicate}
 use lib.Seq.{length-take-le}
-use Rattle.sums.specs.Room.{over}
+use Rattle.sums.specs.Room.{atStart}
 use Rattle.closeouts.proofs.Texts.{text-is}
 use Rattle.closeouts.proofs.close_out_text.Statement.{statement}
 use Rattle.closeouts.proofs.close_out_text.Tie as tie
@@ -51,7 +51,7 @@ returns : tie.Need-returns
 returns c =
     let o = c .before .before .before .before in
     let e = text-is _ _ _ _ _ _ _ (o .before .before .before .zeros .ensures) (o .before .before .accounts .ensures) (exact o) (o .close-out .ensures .0) (o .close-out .ensures .1) in
-    (c .close-out-text .ensures .0 ∙ ap length e, c .close-out-text .ensures .1 ∙ ap (λ t. over t (o .before .before .before .before .before .args .room .now)) e)
+    (c .close-out-text .ensures .0 ∙ ap length e, c .close-out-text .ensures .1 ∙ ap (λ t. atStart t (o .before .before .before .before .before .args .room .now)) e)
 
 pub close-out-text-spec : {M : Type 1} → statement M
 close-out-text-spec =

@@ -2,8 +2,8 @@
 use mathlib.Core.List.{List}
 use Prim.Native.Nat.{ℕ}
 use Rattle.table.specs.Words.{Marks, marksFrom}
-use Rattle.codes.specs.Own.{undersIn}
-use Rattle.codes.proofs.ByCode.{last-code, receives, hands-back, allocates, releases, pledges, unpledges, sets-margin, retires}
+use Rattle.codes.specs.Own.{deemedUnderIn}
+use Rattle.codes.proofs.ByCode.{last-code, receive-answered, hands-back, allocate-answered, release-answered, pledge-answered, unpledge-answered, sets-margin, retire-answered}
 use borrow.Author.Needs.{needs}
 use Rattle.codes.proofs.amend.Statement.{statement}
 use Rattle.codes.proofs.amend.Tie as tie
@@ -12,7 +12,7 @@ abbrev marks : tie.Start → Marks
 marks s = marksFrom (s .args .sort .now) (s .args .live .now) (s .args .tm .now)
 
 abbrev under : tie.Start → List ℕ
-under s = undersIn (s .args .w .now) (s .args .needs .now)
+under s = deemedUnderIn (s .args .w .now) (s .args .needs .now)
 
 cast-i : tie.Need-cast-i
 cast-i c = search needs
@@ -53,7 +53,7 @@ retire-requires c κs = search needs
 returns : tie.Need-returns
 returns c =
     let s = c .before .before .before .before .before in
-    receives (s .args .count) (marks s) (s .args .w .now) (under s) (s .args .on) (s .args .r) (c .before .before .before .match .keys1) (c .receive .ensures)
+    receive-answered (s .args .count) (marks s) (s .args .w .now) (under s) (s .args .on) (s .args .r) (c .before .before .before .match .keys1) (c .receive .ensures)
 
 returns-2 : tie.Need-returns-2
 returns-2 c =
@@ -63,22 +63,22 @@ returns-2 c =
 returns-3 : tie.Need-returns-3
 returns-3 c =
     let s = c .before .before .before .before .before in
-    allocates (s .args .count) (marks s) (s .args .w .now) (under s) (s .args .on) (s .args .r) (c .before .before .before .match .keys3) (c .allocate .ensures)
+    allocate-answered (s .args .count) (marks s) (s .args .w .now) (under s) (s .args .on) (s .args .r) (c .before .before .before .match .keys3) (c .allocate .ensures)
 
 returns-4 : tie.Need-returns-4
 returns-4 c =
     let s = c .before .before .before .before .before in
-    releases (s .args .count) (marks s) (s .args .w .now) (under s) (s .args .on) (s .args .r) (c .before .before .before .match .keys4) (c .release .ensures)
+    release-answered (s .args .count) (marks s) (s .args .w .now) (under s) (s .args .on) (s .args .r) (c .before .before .before .match .keys4) (c .release .ensures)
 
 returns-5 : tie.Need-returns-5
 returns-5 c =
     let s = c .before .before .before .before .before in
-    pledges (s .args .count) (marks s) (s .args .w .now) (under s) (s .args .on) (s .args .r) (c .before .before .before .match .keys5) (c .pledge .ensures)
+    pledge-answered (s .args .count) (marks s) (s .args .w .now) (under s) (s .args .on) (s .args .r) (c .before .before .before .match .keys5) (c .pledge .ensures)
 
 returns-6 : tie.Need-returns-6
 returns-6 c =
     let s = c .before .before .before .before .before in
-    unpledges (s .args .count) (marks s) (s .args .w .now) (under s) (s .args .on) (s .args .r) (c .before .before .before .match .keys6) (c .unpledge .ensures)
+    unpledge-answered (s .args .count) (marks s) (s .args .w .now) (under s) (s .args .on) (s .args .r) (c .before .before .before .match .keys6) (c .unpledge .ensures)
 
 returns-7 : tie.Need-returns-7
 returns-7 c =
@@ -89,7 +89,7 @@ returns-8 : tie.Need-returns-8
 returns-8 c =
     let s = c .before .before .before .before .before in
     let g = c .before .before .before .match .rest in
-    retires (s .args .count) (marks s) (s .args .w .now) (under s) (s .args .on) (s .args .r)
+    retire-answered (s .args .count) (marks s) (s .args .w .now) (under s) (s .args .on) (s .args .r)
     (last-code (s .args .r .code) (s .pre .known) (s .pre .low) (g .0 .0 .0 .0 .0 .0 .1) (g .0 .0 .0 .0 .0 .1) (g .0 .0 .0 .0 .1) (g .0 .0 .0 .1) (g .0 .0 .1) (g .0 .1) (g .1)) (c .retire .ensures)
 
 pub amend-spec : {M : Type 1} → statement M

@@ -9,14 +9,14 @@ use borrow.Author.Needs.{needs}
 use Rattle.days.proofs.next_day.Statement.{statement}
 use Rattle.days.proofs.next_day.Tie as tie
 
-within : (c : tie.After-read-full)
-    → c .before .before .before .before .size .result .size
-    ≤ length (c .read-full .last .1 .0 ++ drop (c .before .before .before .before .size .result .size) (c .before .before .before .before .before .buffer .result))
+within : (c : tie.After-read-input)
+    → c .before .before .before .before .before .size .result .size
+    ≤ length (c .read-input .last .1 .0 ++ drop (c .before .before .before .before .before .size .result .size) (c .before .before .before .before .before .before .buffer .result))
 within c =
-    let n = c .before .before .before .before .size .result .size in
-    let b = c .before .before .before .before .before .buffer .result in
-    let e = length-front b (c .read-full .last .1 .0) n (c .read-full .kept .1 .0) in
-    omega (arith, e, c .before .before .before .before .before .buffer .ensures)
+    let n = c .before .before .before .before .before .size .result .size in
+    let b = c .before .before .before .before .before .before .buffer .result in
+    let e = length-front b (c .read-input .last .1 .0) n (c .read-input .kept .1 .0) in
+    omega (arith, e, c .before .before .before .before .before .before .buffer .ensures)
 
 buffer-requires : tie.Need-buffer-requires
 buffer-requires c κs = search needs
@@ -30,20 +30,23 @@ returns c = search needs
 array-borrow-prefix-room : tie.Need-array-borrow-prefix-room
 array-borrow-prefix-room c = search needs
 
-slice-aggregate-read-full : tie.Need-slice-aggregate-read-full
-slice-aggregate-read-full c = sym (length-take-le _ _ (omega arith))
+slice-aggregate-read-input : tie.Need-slice-aggregate-read-input
+slice-aggregate-read-input c = search needs
 
-read-full-requires : tie.Need-read-full-requires
-read-full-requires c κs = search needs
+slice-aggregate-read-input-2 : tie.Need-slice-aggregate-read-input-2
+slice-aggregate-read-input-2 c = sym (length-take-le _ _ (omega arith))
+
+read-input-requires : tie.Need-read-input-requires
+read-input-requires c κs = search needs
 
 returns-2 : tie.Need-returns-2
 returns-2 c = search needs
 
 array-share-prefix-room : tie.Need-array-share-prefix-room
-array-share-prefix-room c = within (c .before .before)
+array-share-prefix-room c = within (c .before .before .before)
 
 slice-aggregate-run-day : tie.Need-slice-aggregate-run-day
-slice-aggregate-run-day c = sym (length-take-le _ _ (within (c .before .before .before)))
+slice-aggregate-run-day c = sym (length-take-le _ _ (within (c .before .before .before .before)))
 
 run-day-requires : tie.Need-run-day-requires
 run-day-requires c κs = search needs
@@ -58,9 +61,10 @@ next-day-spec =
     buffer-requires
     size-requires
     returns
+    slice-aggregate-read-input
     array-borrow-prefix-room
-    slice-aggregate-read-full
-    read-full-requires
+    slice-aggregate-read-input-2
+    read-input-requires
     returns-2
     array-share-prefix-room
     slice-aggregate-run-day

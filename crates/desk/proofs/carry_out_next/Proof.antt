@@ -1,4 +1,4 @@
--- `desk::carry_out_next` meets its contract.
+-- `desk::carry_out_next` meets its contract: an unsound book, no bytes, too few, or the record that stands there.
 use borrow.Author.Tests.{not-true, not-false}
 use mathlib.Core.Bool.{true}
 use mathlib.Core.Path.{_≡_, sym, ap, _∙_}

@@ -1,10 +1,10 @@
--- `desk::step_at` meets its contract.
+-- `desk::step_at` meets its contract: the arrays of a sound table may make a step (`Entering`), and what the step leaves is the book after it, turned over.
 use mathlib.Core.Path.{_≡_, refl, ap, _∙_}
 use borrow.Author.Needs.{needs}
 use Rattle.sums.specs.Choice.{pick}
 use Rattle.table.specs.Words.{marksFrom, marksOf, bookFrom}
 use Rattle.steps.specs.Steps.{bookAt}
-use Rattle.steps.proofs.Entering.{adds-up, looks-up, enters}
+use Rattle.steps.proofs.Entering.{adds-up, looks-up, sound-enters}
 use Rattle.desk.proofs.Doing.{stepped-over}
 use Rattle.desk.proofs.step_at.Statement.{statement}
 use Rattle.desk.proofs.step_at.Tie as tie
@@ -13,10 +13,10 @@ use Rattle.desk.proofs.step_at.Tie as tie
 abbrev called : tie.After-size2 → tie.Start
 called s = s .before .before .before .before .before .before .before .before .before
 
-abbrev sized : tie.After-unders → tie.After-size2
+abbrev sized : tie.After-deemed-under → tie.After-size2
 sized u = u .before .before .before .before .before
 
-abbrev summed : tie.After-look-all → tie.After-unders
+abbrev summed : tie.After-look-all → tie.After-deemed-under
 summed l = l .before .before .before .before .before .before
 
 abbrev looked : tie.After-step → tie.After-look-all
@@ -31,8 +31,8 @@ size-requires c κs = search needs
 size-requires-2 : tie.Need-size-requires-2
 size-requires-2 c κs = search needs
 
-unders-requires : tie.Need-unders-requires
-unders-requires c κs =
+deemed-under-requires : tie.Need-deemed-under-requires
+deemed-under-requires c κs =
     let s = called (c .before .before .before .before) in
     let t = s .args .t in
     let g = adds-up (t .count) (t .serial) (marksOf t) (t .amounts) (t .modes) (t .needs) (s .pre) in
@@ -43,7 +43,7 @@ look-all-requires c κs =
     let u = c .before .before .before .before .before in
     let s = called (sized u) in
     let t = s .args .t in
-    (adds-up (t .count) (t .serial) (marksOf t) (t .amounts) (t .modes) (t .needs) (s .pre), looks-up (t .count) (t .serial) (marksOf t) (t .amounts) (t .modes) (t .needs) (s .pre) _ (u .unders .ensures))
+    (adds-up (t .count) (t .serial) (marksOf t) (t .amounts) (t .modes) (t .needs) (s .pre), looks-up (t .count) (t .serial) (marksOf t) (t .amounts) (t .modes) (t .needs) (s .pre) _ (u .deemed-under .ensures))
 
 step-requires : tie.Need-step-requires
 step-requires c κs =
@@ -52,7 +52,7 @@ step-requires c κs =
     let z = sized u in
     let s = called z in
     let t = s .args .t in
-    enters (t .count) (t .serial) (marksOf t) (t .amounts) (t .modes) (t .needs) (s .pre) (z .before .before .sizes .ensures) (z .before .size .ensures) (z .size2 .ensures) _ _ (u .unders .ensures) (l .look-all .ensures)
+    sound-enters (t .count) (t .serial) (marksOf t) (t .amounts) (t .modes) (t .needs) (s .pre) (z .before .before .sizes .ensures) (z .before .size .ensures) (z .size2 .ensures) _ _ (u .deemed-under .ensures) (l .look-all .ensures)
 
 outcome-of-requires : tie.Need-outcome-of-requires
 outcome-of-requires c κs = search needs
@@ -84,7 +84,7 @@ step-at-spec =
     sizes-requires
     size-requires
     size-requires-2
-    unders-requires
+    deemed-under-requires
     look-all-requires
     step-requires
     outcome-of-requires

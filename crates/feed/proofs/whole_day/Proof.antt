@@ -1,78 +1,86 @@
--- `feed::whole_day`: the records of the pieces so far are those of what was read so far.
+-- `feed::whole_day`: the turns so far are those of the pieces that were read so far.
 use mathlib.Core.Bool.{Bool}
 use mathlib.Core.List.{List}
-use mathlib.Core.Path.{refl, sym, ap, _∙_}
-use Prim.Native.Nat.{_+_, _-_}
+use mathlib.Core.Path.{_≡_, refl, sym, ap, _∙_}
+use Prim.Native.Nat.{ℕ, _+_, _-_}
 use native.Mathlib.Omega.{arith}
+use lib.ListN.{length, length-replicate}
 use lib.Seq.{length-take-le}
 use borrow.Author.Needs.{needs}
 use Rattle.sums.specs.Choice.{pick}
 use Rattle.table.specs.Words.{marksOf, bookFrom, marksFrom, turned}
 use Rattle.table.proofs.Turning.{back-and-over}
+use Rattle.book.proofs.SoundTest.{sound←}
 use Rattle.steps.specs.Steps.{bookAt, Going}
-use Rattle.steps.proofs.Entering.{adds-up, looks-up, enters}
+use Rattle.steps.proofs.Entering.{adds-up, looks-up, sound-enters}
 use Rattle.records.specs.declared.Ran.{Ran}
 use Rattle.records.specs.Inner.{ranIn}
+use Rattle.records.proofs.NumbersPut.{ran-sound}
 use Rattle.feed.proofs.FreshWords.{is-fresh, sound-at-first}
-use Rattle.feed.proofs.Calls.{as-ran}
-use Rattle.feed.proofs.Feeding.{Feeding, Piece, nothing-read, came, fed, moves, place-within, read-within, done-within}
+use Rattle.feed.proofs.Feeding.{Feeding, Piece, nothing-read, no-day-came, read-upto, last-turn-came, turn-fed, turn-reads-some, place-within, read-within, done-within}
 use Rattle.feed.proofs.whole_day.Statement.{statement}
 use Rattle.feed.proofs.whole_day.Tie as tie
 
 abbrev Inv-loop : tie.InvT-loop
-Inv-loop telling space₀ sort₀ live₀ tm₀ amounts₀ needs₀ was used₀ modes₀ at₀ kept₀ read₀ done₀ space sort live tm amounts needs used modes at kept read done =
-    Feeding space (bookAt at (marksFrom sort live tm) amounts was modes needs) kept read done × Going at (marksFrom sort live tm) amounts was modes needs used
+Inv-loop program printing space₀ numbers₀ text₀ sort₀ live₀ tm₀ amounts₀ needs₀ was excess₀ modes₀ at₀ rest₀ read₀ done₀ ended₀ space numbers text sort live tm amounts needs excess modes at rest read done ended =
+    Feeding space (bookAt at (marksFrom sort live tm) amounts was modes needs) rest read done
+    × Going at (marksFrom sort live tm) amounts was modes needs excess
+    × (length numbers ≡ 3200)
+    × (length text ≡ 20480)
 
 abbrev μ-loop : tie.MeasureT-loop
-μ-loop telling space₀ sort₀ live₀ tm₀ amounts₀ needs₀ was used₀ modes₀ at₀ kept₀ read₀ done₀ space sort live tm amounts needs used modes at kept read done =
+μ-loop program printing space₀ numbers₀ text₀ sort₀ live₀ tm₀ amounts₀ needs₀ was excess₀ modes₀ at₀ rest₀ read₀ done₀ ended₀ space numbers text sort live tm amounts needs excess modes at rest read done ended =
     1_000_000 - read
 
 -- THE PLACES, each named once.
 abbrev made : tie.After-size2 Inv-loop μ-loop → tie.After-fresh Inv-loop μ-loop
 made s = s .before .before .before .before .before .before .before .before .before
 
-abbrev sized : tie.After-unders Inv-loop μ-loop → tie.After-size2 Inv-loop μ-loop
+abbrev sized : tie.After-deemed-under Inv-loop μ-loop → tie.After-size2 Inv-loop μ-loop
 sized u = u .before .before .before .before .before
 
-abbrev summed : tie.After-look-all Inv-loop μ-loop → tie.After-unders Inv-loop μ-loop
+abbrev summed : tie.After-look-all Inv-loop μ-loop → tie.After-deemed-under Inv-loop μ-loop
 summed l = l .before .before .before .before .before .before
 
 abbrev started : tie.At-loop Inv-loop μ-loop → tie.After-starting Inv-loop μ-loop
 started t = t .before
 
-abbrev filled : tie.After-carry Inv-loop μ-loop → tie.After-refill Inv-loop μ-loop
-filled c = c .before .before .before .before .before .before .before .before .before .before .before
-
 abbrev turn : tie.After-refill Inv-loop μ-loop → tie.At-loop Inv-loop μ-loop
 turn f = f .before .before
 
-abbrev carried : tie.After-stops Inv-loop μ-loop → tie.After-carry Inv-loop μ-loop
-carried s = s .before .before .before .before
+abbrev filled : tie.After-carry-on Inv-loop μ-loop → tie.After-refill Inv-loop μ-loop
+filled c = c .before .before .before .before .before .before .before .before .before .before .before .before .before .before
 
-abbrev judged : tie.After-keep Inv-loop μ-loop → tie.After-stops Inv-loop μ-loop
+abbrev carried : tie.After-write-output Inv-loop μ-loop → tie.After-carry-on Inv-loop μ-loop
+carried w = w .before .before .before .before
+
+abbrev written : tie.After-stops Inv-loop μ-loop → tie.After-write-output Inv-loop μ-loop
+written s = s .before .before .before .before .before .before
+
+abbrev judged : tie.After-to-front Inv-loop μ-loop → tie.After-stops Inv-loop μ-loop
 judged k = k .before .before .before
 
 -- the modes that the fresh book was handed over with
 abbrev was : tie.At-loop Inv-loop μ-loop → List Bool
 was t = made (sized (summed (started t .before))) .fresh .result .modes
 
--- what the piece came to
-abbrev ran : tie.After-carry Inv-loop μ-loop → Ran
-ran c = let x = c .carry .last in ranIn (c .carry .result) (marksFrom (x .0) (x .1 .0) (x .1 .1 .0)) (x .1 .1 .1 .0) (was (turn (filled c))) (x .1 .1 .1 .1 .0) (x .1 .1 .1 .1 .1 .0)
+-- what the turn came to
+abbrev ran : tie.After-carry-on Inv-loop μ-loop → Ran
+ran c = let x = c .carry-on .last in ranIn (c .carry-on .result .went) (marksFrom (x .0) (x .1 .0) (x .1 .1 .0)) (x .1 .1 .1 .0) (was (turn (filled c))) (x .1 .1 .1 .1 .0) (x .1 .1 .1 .1 .1 .0)
 
-piece : (c : tie.After-carry Inv-loop μ-loop) → (let f = filled c in let v = turn f .loop in
-    Piece (v .space) (bookAt (v .at) (marksFrom (v .sort) (v .live) (v .tm)) (v .amounts) (was (turn f)) (v .modes) (v .needs)) (v .kept) (v .read) (v .done) (f .refill .last .0) (v .kept + f .refill .result) (ran c))
+piece : (c : tie.After-carry-on Inv-loop μ-loop) → (let f = filled c in let v = turn f .loop in
+    Piece (v .space) (bookAt (v .at) (marksFrom (v .sort) (v .live) (v .tm)) (v .amounts) (was (turn f)) (v .modes) (v .needs)) (v .rest) (v .read) (v .done) (f .refill .last .1 .0) (v .rest + f .refill .result .count) (ran c))
 piece c =
     let g = turn (filled c) .loop .inv in
     let f = filled c .refill in
     record {
       before = g .0;
-      size = f .kept .0 ∙ g .0 .size;
+      size = f .kept .1 .0 ∙ g .0 .size;
       least = omega arith;
-      most = omega (arith, f .ensures .0, f .kept .0, g .0 .size);
+      most = omega (arith, f .ensures .0, f .kept .1 .0, g .0 .size);
       old = f .ensures .1 .0;
       bytes = f .ensures .1 .1;
-      is = c .carry .ensures .0 ∙ as-ran _ _ _ (g .1 .sound);
+      is = c .carry-on .ensures .0 ∙ ran-sound _ _ _ (sound← _ (g .1 .sound));
     }
 
 blank-requires : tie.Need-blank-requires Inv-loop μ-loop
@@ -90,8 +98,8 @@ size-requires c κs = search needs
 size-requires-2 : tie.Need-size-requires-2 Inv-loop μ-loop
 size-requires-2 c κs = search needs
 
-unders-requires : tie.Need-unders-requires Inv-loop μ-loop
-unders-requires c κs =
+deemed-under-requires : tie.Need-deemed-under-requires Inv-loop μ-loop
+deemed-under-requires c κs =
     let f = made (c .before .before .before .before) .fresh in
     let t = f .result in
     let g = adds-up (t .count) (t .serial) (marksOf t) (t .amounts) (t .modes) (t .needs) (sound-at-first t (f .ensures)) in
@@ -103,7 +111,7 @@ look-all-requires c κs =
     let f = made (sized u) .fresh in
     let t = f .result in
     let h = sound-at-first t (f .ensures) in
-    (adds-up (t .count) (t .serial) (marksOf t) (t .amounts) (t .modes) (t .needs) h, looks-up (t .count) (t .serial) (marksOf t) (t .amounts) (t .modes) (t .needs) h _ (u .unders .ensures))
+    (adds-up (t .count) (t .serial) (marksOf t) (t .amounts) (t .modes) (t .needs) h, looks-up (t .count) (t .serial) (marksOf t) (t .amounts) (t .modes) (t .needs) h _ (u .deemed-under .ensures))
 
 starting-requires : tie.Need-starting-requires Inv-loop μ-loop
 starting-requires c κs = search needs
@@ -118,7 +126,9 @@ loop-holds c =
     let t = f .result in
     rw (c .starting .ensures) (
       nothing-read _ _ (sym (made z .before .blank .ensures)) (is-fresh t (f .ensures)),
-      enters (t .count) (t .serial) (marksOf t) (t .amounts) (t .modes) (t .needs) (sound-at-first t (f .ensures)) (z .before .before .sizes .ensures) (z .before .size .ensures) (z .size2 .ensures) _ _ (u .unders .ensures) (l .look-all .ensures),
+      sound-enters (t .count) (t .serial) (marksOf t) (t .amounts) (t .modes) (t .needs) (sound-at-first t (f .ensures)) (z .before .before .sizes .ensures) (z .before .size .ensures) (z .size2 .ensures) _ _ (u .deemed-under .ensures) (l .look-all .ensures),
+      length-replicate {A = ℕ} 3200 0,
+      length-replicate {A = ℕ} 20480 0,
     )
 
 slice-aggregate-refill : tie.Need-slice-aggregate-refill Inv-loop μ-loop
@@ -128,61 +138,80 @@ refill-requires : tie.Need-refill-requires Inv-loop μ-loop
 refill-requires c κs = omega (arith, c .before .loop .inv .0 .within, c .before .loop .inv .0 .size)
 
 add-held : tie.Need-add-held Inv-loop μ-loop
-add-held c = omega (arith, c .before .refill .ensures .0, c .before .refill .kept .0, turn (c .before) .loop .inv .0 .size)
+add-held c =
+    let f = c .before .before in
+    omega (arith, f .refill .ensures .0, f .refill .kept .1 .0, turn f .loop .inv .0 .size)
 
 array-share-prefix-space : tie.Need-array-share-prefix-space Inv-loop μ-loop
-array-share-prefix-space c = c .before .before .before .before .before .before .before .before .before .refill .ensures .0
+array-share-prefix-space c = c .before .before .before .before .before .before .before .before .before .before .refill .ensures .0
 
-slice-aggregate-carry : tie.Need-slice-aggregate-carry Inv-loop μ-loop
-slice-aggregate-carry c = sym (length-take-le _ _ (c .before .before .before .before .before .before .before .before .before .before .refill .ensures .0))
+slice-aggregate-carry-on : tie.Need-slice-aggregate-carry-on Inv-loop μ-loop
+slice-aggregate-carry-on c = sym (length-take-le _ _ (c .before .before .before .before .before .before .before .before .before .before .before .refill .ensures .0))
 
-sub-carry : tie.Need-sub-carry Inv-loop μ-loop
-sub-carry c = turn (c .before .before .before .before .before .before .before .before .before .before) .loop .inv .0 .upto
+sub-carry-on : tie.Need-sub-carry-on Inv-loop μ-loop
+sub-carry-on c = read-upto (turn (c .before .before .before .before .before .before .before .before .before .before .before) .loop .inv .0)
 
-carry-requires : tie.Need-carry-requires Inv-loop μ-loop
-carry-requires c κs = turn (c .before .before .before .before .before .before .before .before .before .before) .loop .inv .1
+carry-on-requires : tie.Need-carry-on-requires Inv-loop μ-loop
+carry-on-requires c κs = let i = turn (c .before .before .before .before .before .before .before .before .before .before .before .before .before) .loop .inv in (i .1, i .2, i .3)
+
+array-share-prefix-text : tie.Need-array-share-prefix-text Inv-loop μ-loop
+array-share-prefix-text c = c .before .before .carry-on .ensures .1 .1 .0
+
+slice-aggregate-write-output : tie.Need-slice-aggregate-write-output Inv-loop μ-loop
+slice-aggregate-write-output c = sym (length-take-le _ _ (c .before .before .before .carry-on .ensures .1 .1 .0))
+
+write-output-requires : tie.Need-write-output-requires Inv-loop μ-loop
+write-output-requires c κs = search needs
+
+no-day-requires : tie.Need-no-day-requires Inv-loop μ-loop
+no-day-requires c κs = search needs
+
+returns : tie.Need-returns Inv-loop μ-loop
+returns c = no-day-came _ (c .no-day .ensures)
 
 add-read : tie.Need-add-read Inv-loop μ-loop
-add-read c = omega (arith, read-within (piece (c .before .before)))
+add-read c = omega (arith, read-within (piece (carried (c .before .before .before .before))))
 
 add-done : tie.Need-add-done Inv-loop μ-loop
 add-done c =
-    let t = c .before .before .before in
+    let t = carried (c .before .before .before .before .before) in
     omega (arith, read-within (piece t), done-within (piece t))
 
 stops-requires : tie.Need-stops-requires Inv-loop μ-loop
 stops-requires c κs = search needs
 
-slice-aggregate-keep : tie.Need-slice-aggregate-keep Inv-loop μ-loop
-slice-aggregate-keep c = sym (piece (carried (c .before .before)) .size)
+slice-aggregate-to-front : tie.Need-slice-aggregate-to-front Inv-loop μ-loop
+slice-aggregate-to-front c = sym (piece (carried (written (c .before .before))) .size)
 
-keep-requires : tie.Need-keep-requires Inv-loop μ-loop
-keep-requires c κs =
-    let t = carried (c .before .before) in
+to-front-requires : tie.Need-to-front-requires Inv-loop μ-loop
+to-front-requires c κs =
+    let t = carried (written (c .before .before)) in
     (place-within (piece t), filled t .refill .ensures .0)
 
 loop-less : tie.Need-loop-less Inv-loop μ-loop
 loop-less c =
     let s = judged (c .before) in
-    omega (arith, moves (piece (carried s)) (s .stops .result) (s .stops .ensures) (c .before .before .before .if1 .left), read-within (piece (carried s)))
+    let t = carried (written s) in
+    omega (arith, turn-reads-some (piece t) (s .stops .result) (s .stops .ensures) (c .before .before .before .if2 .left), read-within (piece t))
 
 loop-again : tie.Need-loop-again Inv-loop μ-loop
 loop-again c =
-    let t = carried (judged (c .before)) in
-    let k = c .before .keep in
-    (fed (piece t) _ _ (k .kept .0 ∙ piece t .size) (k .ensures .0) (k .ensures .1), t .carry .ensures .1)
+    let t = carried (written (judged (c .before))) in
+    let k = c .before .to-front in
+    (turn-fed (piece t) _ _ (k .kept .0 ∙ piece t .size) (k .ensures .0) (k .ensures .1), t .carry-on .ensures .1 .0, t .carry-on .ensures .1 .1 .2, t .carry-on .ensures .1 .1 .3)
 
 modes-of-requires : tie.Need-modes-of-requires Inv-loop μ-loop
 modes-of-requires c κs = search needs
 
-returns : tie.Need-returns Inv-loop μ-loop
-returns c =
-    let t = carried (c .before .before) in
-    let x = t .carry .last in
-    let at = t .carry .result .at in
+returns-2 : tie.Need-returns-2 Inv-loop μ-loop
+returns-2 c =
+    let s = c .before .before in
+    let t = carried (written s) in
+    let x = t .carry-on .last in
+    let at = t .carry-on .result .went .at in
     let n = marksFrom (x .0) (x .1 .0) (x .1 .1 .0) in
-    came (piece t) _
-    (ap (λ (l : List Bool). turned (bookFrom (at .count) (at .serial) n (x .1 .1 .1 .0) l (x .1 .1 .1 .1 .1 .0))) (sym (c .modes-of .ensures)) ∙ back-and-over _ (t .carry .ensures .1 .size))
+    last-turn-came (piece t) _ (s .stops .result) (s .stops .ensures) (c .before .if2 .taken) _
+    (ap (λ (l : List Bool). turned (bookFrom (at .count) (at .serial) n (x .1 .1 .1 .0) l (x .1 .1 .1 .1 .1 .0))) (sym (c .modes-of .ensures)) ∙ back-and-over _ (t .carry-on .ensures .1 .0 .size))
 
 pub whole-day-spec : {M : Type 1} → statement M
 whole-day-spec =
@@ -195,7 +224,7 @@ whole-day-spec =
     sizes-requires
     size-requires
     size-requires-2
-    unders-requires
+    deemed-under-requires
     look-all-requires
     starting-requires
     loop-holds
@@ -203,15 +232,20 @@ whole-day-spec =
     refill-requires
     add-held
     array-share-prefix-space
-    slice-aggregate-carry
-    sub-carry
-    carry-requires
+    slice-aggregate-carry-on
+    sub-carry-on
+    carry-on-requires
+    array-share-prefix-text
+    slice-aggregate-write-output
+    write-output-requires
+    no-day-requires
+    returns
     add-read
     add-done
     stops-requires
-    slice-aggregate-keep
-    keep-requires
+    slice-aggregate-to-front
+    to-front-requires
     loop-less
     loop-again
     modes-of-requires
-    returns)
+    returns-2)

@@ -1,6 +1,6 @@
 -- `lines::closing_line` meets its contract.
 use borrow.Author.Needs.{needs}
-use Rattle.lines.proofs.Puts.{puts-over}
+use Rattle.text.proofs.Puts.{puts-at-start}
 use Rattle.lines.proofs.closing_line.Statement.{statement}
 use Rattle.lines.proofs.closing_line.Tie as tie
 
@@ -8,7 +8,7 @@ put-closing-requires : tie.Need-put-closing-requires
 put-closing-requires c κs = search needs
 
 returns : tie.Need-returns
-returns c = puts-over (c .put-closing .ensures)
+returns c = puts-at-start (c .put-closing .ensures)
 
 pub closing-line-spec : {M : Type 1} → statement M
 closing-line-spec = tie.close (tie.spec put-closing-requires returns)

@@ -5,26 +5,26 @@ use mathlib.Core.List.{List}
 use Prim.Native.Nat.{ℕ, zero, _≤_}
 use native.Mathlib.Omega.{arith}
 use lib.ListN.{length, replicate, length-replicate}
-use Rattle.records.specs.Told.{roomFor}
+use Rattle.records.specs.LineNumbers.{roomFor}
 use Rattle.table.specs.Words.{turnedBack}
 use Rattle.lines.specs.Texts.{limitOf}
-use Rattle.lines.proofs.Records.{read-most, lined}
+use Rattle.lines.proofs.Records.{read-most, lines-left}
 use Rattle.lines.proofs.lines.Statement.{statement}
 use Rattle.lines.proofs.lines.Tie as tie
 
 limit-requires : tie.Need-limit-requires
 limit-requires c κs = search needs
 
-slice-aggregate-day-told : tie.Need-slice-aggregate-day-told
-slice-aggregate-day-told c = search needs
+slice-aggregate-day-with-numbers : tie.Need-slice-aggregate-day-with-numbers
+slice-aggregate-day-with-numbers c = search needs
 
-day-told-requires : tie.Need-day-told-requires
-day-told-requires c κs = search needs
+day-with-numbers-requires : tie.Need-day-with-numbers-requires
+day-with-numbers-requires c κs = search needs
 
 slice-aggregate-put-lines : tie.Need-slice-aggregate-put-lines
 slice-aggregate-put-lines c = search needs
 
--- the numbers of the records, before they are told
+-- the room for the records' numbers, before they are put
 abbrev blank : List ℕ
 blank = replicate 10240 0
 
@@ -34,7 +34,7 @@ fits n h = omega (arith, length-replicate 10240 (zero))
 put-lines-requires : tie.Need-put-lines-requires
 put-lines-requires c κs =
     let a = c .before .before .before .before .before .before .before .before .before .args in
-    let d = c .before .before .before .day-told in
+    let d = c .before .before .before .day-with-numbers in
     let l = c .before .before .before .before .before .limit in
     let e : l .result ≡ limitOf (a .most) (a .room .now) = l .ensures in
     let size : length (d .last .1 .1 .1 .0) ≡ length blank = d .kept .1 .1 .1 .0 in (
@@ -48,18 +48,18 @@ same-length c = search needs
 returns : tie.Need-returns
 returns c =
     let a = c .before .before .before .before .before .before .before .before .before .before .before .before .before .args in
-    let d = c .before .before .before .before .before .before .before .day-told in
+    let d = c .before .before .before .before .before .before .before .day-with-numbers in
     let l = c .before .before .before .before .before .before .before .before .before .limit in
     let e : l .result ≡ limitOf (a .most) (a .room .now) = l .ensures in
-    rw (← e) (lined (turnedBack (a .t)) (a .piece .now) (l .result) blank (fits (l .result) (omega arith)) (d .ensures .0) (d .ensures .1) (c .before .before .before .put-lines .ensures))
+    rw (← e) (lines-left (turnedBack (a .t)) (a .piece .now) (l .result) blank (fits (l .result) (omega arith)) (d .ensures .0) (d .ensures .1) (c .before .before .before .put-lines .ensures))
 
 pub lines-spec : {M : Type 1} → statement M
 lines-spec =
     tie.close
     (tie.spec
     limit-requires
-    slice-aggregate-day-told
-    day-told-requires
+    slice-aggregate-day-with-numbers
+    day-with-numbers-requires
     slice-aggregate-put-lines
     put-lines-requires
     same-length

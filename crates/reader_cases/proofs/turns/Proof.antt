@@ -1,3 +1,4 @@
+-- `reader_cases::turns` is safe and ends: it counts the turns that are left.
 use Prim.Native.Nat.{_≤_, _-_}
 use borrow.Author.Needs.{needs}
 use Rattle.reader_cases.proofs.turns.Statement.{statement}

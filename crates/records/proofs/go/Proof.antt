@@ -6,25 +6,25 @@ use mathlib.Core.Path.{_≡_, refl, sym, ap, _∙_}
 use Prim.Native.Nat.{ℕ, _-_}
 use native.Mathlib.Omega.{arith}
 use Rattle.sums.specs.Choice.{pick}
-use Rattle.sums.proofs.Choices.{pass, stop}
+use Rattle.sums.proofs.Choices.{pick-first, pick-second}
 use Rattle.dayfile.specs.declared.Found.{Found}
 use Rattle.dayfile.specs.Reading.{foundAt}
 use Rattle.table.specs.Words.{marksFrom}
 use Rattle.steps.specs.Steps.{bookAt, Going}
 use Rattle.records.specs.Runs.{runOf}
-use Rattle.records.specs.Inner.{putFive, tellOf}
-use Rattle.records.proofs.Turning.{Loop, ends, cuts, long-cut, long-whole}
-use Rattle.records.proofs.Rounds.{turn-on, few}
+use Rattle.records.specs.Inner.{putLineNumbers, putNumbersFrom}
+use Rattle.records.proofs.Turning.{Loop, turn-ends, turn-cuts, long-cut, long-whole}
+use Rattle.records.proofs.Rounds.{turn-on, step-given-few}
 use Rattle.records.proofs.go.Statement.{statement}
 use Rattle.records.proofs.go.Tie as tie
 
 abbrev Inv-loop : tie.InvT-loop
-Inv-loop sort₀ live₀ tm₀ w₀ modes₀ needs₀ used₀ was piece most room₀ tell at₀ place₀ read₀ done₀ sort live tm w modes needs used room at place read done =
-    Loop piece most tell room₀ (bookAt at₀ (marksFrom sort₀ live₀ tm₀) w₀ was modes₀ needs₀) place₀ read₀ done₀ room (bookAt at (marksFrom sort live tm) w was modes needs) place read done
-    × Going at (marksFrom sort live tm) w was modes needs used
+Inv-loop sort₀ live₀ tm₀ w₀ modes₀ needs₀ excess₀ was piece most room₀ numbered at₀ place₀ read₀ done₀ sort live tm w modes needs excess room at place read done =
+    Loop piece most numbered room₀ (bookAt at₀ (marksFrom sort₀ live₀ tm₀) w₀ was modes₀ needs₀) place₀ read₀ done₀ room (bookAt at (marksFrom sort live tm) w was modes needs) place read done
+    × Going at (marksFrom sort live tm) w was modes needs excess
 
 abbrev μ-loop : tie.MeasureT-loop
-μ-loop sort₀ live₀ tm₀ w₀ modes₀ needs₀ used₀ was piece most room₀ tell at₀ place₀ read₀ done₀ sort live tm w modes needs used room at place read done =
+μ-loop sort₀ live₀ tm₀ w₀ modes₀ needs₀ excess₀ was piece most room₀ numbered at₀ place₀ read₀ done₀ sort live tm w modes needs excess room at place read done =
     most - read
 
 -- THE PLACES, each named once: seen from where the piece was looked at, and from where a record was carried out.
@@ -53,10 +53,10 @@ less-zero n = omega arith
 met : (f : tie.After-found-at Inv-loop μ-loop) (x : Found) → f .found-at .result ≡ x → foundAt (called (turn f) .args .piece .now) (turn f .loop .place) ≡ x
 met f x e = sym (f .found-at .ensures) ∙ e
 
--- the room after the record's numbers are told, or not
-told-is : (c : tie.Joined3 Inv-loop μ-loop) → (let s = c .before in let r = whole (more s) .found .given .0 .0 in let v = its-turn s .loop in
-    c .if3 .room ≡ pick (called (its-turn s) .args .tell) (putFive (v .room) (v .read) (r .serial ∷ r .code ∷ r .account ∷ s .step .result .refusal ∷ s .step .result .given ∷ [])) (v .room))
-told-is c = ⊎-elim (λ w. pass _ (w .0 .taken) (w .5 ∙ w .2 .ensures)) (λ w. stop _ (w .0 .left) (w .1)) (c .if3 .came)
+-- the room after the record's numbers are put, or not
+numbers-are : (c : tie.Joined3 Inv-loop μ-loop) → (let s = c .before in let r = whole (more s) .found .given .0 .0 in let v = its-turn s .loop in
+    c .if3 .room ≡ pick (called (its-turn s) .args .numbered) (putLineNumbers (v .room) (v .read) (r .serial ∷ r .code ∷ r .account ∷ s .step .result .refusal ∷ s .step .result .given ∷ [])) (v .room))
+numbers-are c = ⊎-elim (λ w. pick-first _ (w .0 .taken) (w .5 ∙ w .2 .ensures)) (λ w. pick-second _ (w .0 .left) (w .1)) (c .if3 .came)
 
 loop-holds : tie.Need-loop-holds Inv-loop μ-loop
 loop-holds c =
@@ -69,7 +69,7 @@ loop-holds c =
         same = refl;
         space = start .pre .1;
         runs = ap (λ n. runOf (a .piece .now) n (bookAt (a .first) (marksFrom (a .sort .now) (a .live .now) (a .tm .now)) (a .w .now) (a .was .now) (a .modes .now) (a .needs .now)) 0 0 0) (less-zero (a .most));
-        tells = ap (λ n. pick (a .tell) (tellOf (a .piece .now) n (bookAt (a .first) (marksFrom (a .sort .now) (a .live .now) (a .tm .now)) (a .w .now) (a .was .now) (a .modes .now) (a .needs .now)) 0 0 (a .room .now)) (a .room .now)) (less-zero (a .most));
+        numbers = ap (λ n. pick (a .numbered) (putNumbersFrom (a .piece .now) n (bookAt (a .first) (marksFrom (a .sort .now) (a .live .now) (a .tm .now)) (a .w .now) (a .was .now) (a .modes .now) (a .needs .now)) 0 0 (a .room .now)) (a .room .now)) (less-zero (a .most));
       },
       start .pre .0,
     )
@@ -89,8 +89,8 @@ enum-known-found c = search needs
 step-requires : tie.Need-step-requires Inv-loop μ-loop
 step-requires c κs = turn (looked (whole (c .before .before .before .before .before .before .before))) .loop .inv .1
 
-put-five-requires : tie.Need-put-five-requires Inv-loop μ-loop
-put-five-requires c κs =
+put-line-numbers-requires : tie.Need-put-line-numbers-requires Inv-loop μ-loop
+put-line-numbers-requires c κs =
     let s = c .before .before in
     let g = its-turn s .loop .inv .0 in
     omega (arith, g .space (c .before .if3 .taken), g .same, more s .if2 .left)
@@ -104,7 +104,7 @@ add-read c = omega (arith, more (c .before .before) .if2 .left, called (its-turn
 add-done : tie.Need-add-done Inv-loop μ-loop
 add-done c =
     let s = c .before .before .before in
-    omega (arith, its-turn s .loop .inv .0 .fewer, few (s .step .ensures), more s .if2 .left, called (its-turn s) .fits .most .fits)
+    omega (arith, its-turn s .loop .inv .0 .fewer, step-given-few (s .step .ensures), more s .if2 .left, called (its-turn s) .fits .most .fits)
 
 loop-less : tie.Need-loop-less Inv-loop μ-loop
 loop-less c = omega (arith, more (c .before .before .before) .if2 .left)
@@ -116,7 +116,7 @@ loop-again c =
     let v = its-turn s .loop in
     rw e (
       turn-on _ _ _ _ _ _ _ _ (v .room) (v .at) _ (v .w) _ (v .modes) (v .needs) (v .place) (v .read) (v .done) (v .inv .0) _ _ (more s .if2 .left)
-          (met (looked (whole (more s))) _ (whole (more s) .found .given .1)) _ _ _ _ _ _ (s .step .ensures) _ (told-is (c .before .before)),
+          (met (looked (whole (more s))) _ (whole (more s) .found .given .1)) _ _ _ _ _ _ (s .step .ensures) _ (numbers-are (c .before .before)),
       s .step .ensures .ready,
     )
 
@@ -127,7 +127,7 @@ returns : tie.Need-returns Inv-loop μ-loop
 returns c =
     let f = c .before .before in
     let v = turn f .loop in
-    let x = ends _ _ _ _ _ _ _ _ (v .room) _ (v .place) (v .read) (v .done) (v .inv .0) (met f _ (c .enum-told .given .1)) in
+    let x = turn-ends _ _ _ _ _ _ _ _ (v .room) _ (v .place) (v .read) (v .done) (v .inv .0) (met f _ (c .enum-told .given .1)) in
     (x .0, (v .inv .1, x .1))
 
 same-length-2 : tie.Need-same-length-2 Inv-loop μ-loop
@@ -147,7 +147,7 @@ returns-3 : tie.Need-returns-3 Inv-loop μ-loop
 returns-3 c =
     let f = c .before .before .before in
     let v = turn f .loop in
-    let x = cuts _ _ _ _ _ _ _ _ (v .room) _ (v .place) (v .read) (v .done) (v .inv .0) (c .if1 .left) (met f _ (c .before .enum-told2 .given .1)) in
+    let x = turn-cuts _ _ _ _ _ _ _ _ (v .room) _ (v .place) (v .read) (v .done) (v .inv .0) (c .if1 .left) (met f _ (c .before .enum-told2 .given .1)) in
     (x .0, (v .inv .1, x .1))
 
 same-length-4 : tie.Need-same-length-4 Inv-loop μ-loop
@@ -172,7 +172,7 @@ go-spec =
     enum-told-2
     enum-known-found
     step-requires
-    put-five-requires
+    put-line-numbers-requires
     on-requires
     add-read
     add-done

@@ -1,6 +1,6 @@
 -- `report::close_out_text` meets its contract.
 use borrow.Author.Needs.{needs}
-use Rattle.lines.proofs.Puts.{puts-over}
+use Rattle.text.proofs.Puts.{puts-at-start}
 use Rattle.report.proofs.close_out_text.Statement.{statement}
 use Rattle.report.proofs.close_out_text.Tie as tie
 
@@ -8,7 +8,7 @@ put-close-out-requires : tie.Need-put-close-out-requires
 put-close-out-requires c κs = search needs
 
 returns : tie.Need-returns
-returns c = puts-over (c .put-close-out .ensures)
+returns c = puts-at-start (c .put-close-out .ensures)
 
 pub close-out-text-spec : {M : Type 1} → statement M
 close-out-text-spec = tie.close (tie.spec put-close-out-requires returns)

@@ -1,18 +1,18 @@
--- `report::closing` meets its contract: the text lies within its room.
+-- `report::closing` meets its contract: the text lies within its room, and all of it is handed over.
 use borrow.Author.Needs.{needs}
-use mathlib.Core.Path.{sym}
+use mathlib.Core.Path.{sym, _∙_}
 use Prim.Native.Nat.{_≤_}
 use lib.ListN.{length}
 use lib.Seq.{length-take-le}
 use Rattle.lines.specs.Lines.{closingLineOf}
-use Rattle.report.proofs.Puts.{front}
+use Rattle.text.proofs.Puts.{text-within-room}
 use Rattle.report.proofs.closing.Statement.{statement}
 use Rattle.report.proofs.closing.Tie as tie
 
 fits : (c : tie.After-closing-line) → c .closing-line .result ≤ length (c .closing-line .last .1 .1 .1 .0)
 fits c =
-    let a = c .before .before .args in
-    front _ (closingLineOf (a .word) (a .read) (a .done)) _ _ (c .closing-line .ensures .0) (c .closing-line .ensures .1)
+    let a = c .before .before .before .args in
+    text-within-room _ (closingLineOf (a .word) (a .read) (a .done)) _ _ (c .closing-line .ensures .0) (c .closing-line .ensures .1)
 
 closing-line-requires : tie.Need-closing-line-requires
 closing-line-requires c κs = search needs
@@ -20,14 +20,16 @@ closing-line-requires c κs = search needs
 array-share-prefix-room : tie.Need-array-share-prefix-room
 array-share-prefix-room c = fits c
 
-slice-aggregate-write-all : tie.Need-slice-aggregate-write-all
-slice-aggregate-write-all c = sym (length-take-le _ _ (fits (c .before)))
+slice-aggregate-write-output : tie.Need-slice-aggregate-write-output
+slice-aggregate-write-output c = sym (length-take-le _ _ (fits (c .before)))
 
-write-all-requires : tie.Need-write-all-requires
-write-all-requires c κs = search needs
+write-output-requires : tie.Need-write-output-requires
+write-output-requires c κs = search needs
 
 returns : tie.Need-returns
-returns c = search needs
+returns c =
+    let t = c .before .before in
+    λ e. c .write-output .ensures .1 e ∙ length-take-le _ _ (fits t) ∙ t .closing-line .ensures .0
 
 pub closing-spec : {M : Type 1} → statement M
 closing-spec =
@@ -35,6 +37,6 @@ closing-spec =
     (tie.spec
     closing-line-requires
     array-share-prefix-room
-    slice-aggregate-write-all
-    write-all-requires
+    slice-aggregate-write-output
+    write-output-requires
     returns)

@@ -1,19 +1,19 @@
--- `report::needs` meets its contract: the text lies within its room.
+-- `report::needs` meets its contract: the text lies within its room, and all of it is handed over.
 use borrow.Author.Needs.{needs}
-use mathlib.Core.Path.{sym}
+use mathlib.Core.Path.{sym, _∙_}
 use Prim.Native.Nat.{_≤_}
 use lib.ListN.{length}
 use lib.Seq.{length-take-le}
 use Rattle.table.specs.Words.{turnedBack}
 use Rattle.report.specs.Reports.{needsText}
-use Rattle.report.proofs.Puts.{front}
+use Rattle.text.proofs.Puts.{text-within-room}
 use Rattle.report.proofs.needs.Statement.{statement}
 use Rattle.report.proofs.needs.Tie as tie
 
 fits : (c : tie.After-needs-text) → c .needs-text .result ≤ length (c .needs-text .last .1 .0)
 fits c =
-    let a = c .before .before .args in
-    front _ (needsText (turnedBack (a .t))) _ _ (c .needs-text .ensures .0) (c .needs-text .ensures .1)
+    let a = c .before .before .before .args in
+    text-within-room _ (needsText (turnedBack (a .t))) _ _ (c .needs-text .ensures .0) (c .needs-text .ensures .1)
 
 needs-text-requires : tie.Need-needs-text-requires
 needs-text-requires c κs = search needs
@@ -21,14 +21,16 @@ needs-text-requires c κs = search needs
 array-share-prefix-room : tie.Need-array-share-prefix-room
 array-share-prefix-room c = fits c
 
-slice-aggregate-write-all : tie.Need-slice-aggregate-write-all
-slice-aggregate-write-all c = sym (length-take-le _ _ (fits (c .before)))
+slice-aggregate-write-output : tie.Need-slice-aggregate-write-output
+slice-aggregate-write-output c = sym (length-take-le _ _ (fits (c .before)))
 
-write-all-requires : tie.Need-write-all-requires
-write-all-requires c κs = search needs
+write-output-requires : tie.Need-write-output-requires
+write-output-requires c κs = search needs
 
 returns : tie.Need-returns
-returns c = search needs
+returns c =
+    let t = c .before .before in
+    λ e. c .write-output .ensures .1 e ∙ length-take-le _ _ (fits t) ∙ t .needs-text .ensures .0
 
 pub needs-spec : {M : Type 1} → statement M
 needs-spec =
@@ -36,6 +38,6 @@ needs-spec =
     (tie.spec
     needs-text-requires
     array-share-prefix-room
-    slice-aggregate-write-all
-    write-all-requires
+    slice-aggregate-write-output
+    write-output-requires
     returns)

@@ -1,6 +1,6 @@
 -- `report::needs_text` meets its contract.
 use borrow.Author.Needs.{needs}
-use Rattle.lines.proofs.Puts.{puts-over}
+use Rattle.text.proofs.Puts.{puts-at-start}
 use Rattle.report.proofs.needs_text.Statement.{statement}
 use Rattle.report.proofs.needs_text.Tie as tie
 
@@ -14,7 +14,7 @@ put-needs-requires : tie.Need-put-needs-requires
 put-needs-requires c κs = search needs
 
 returns : tie.Need-returns
-returns c = puts-over (c .put-needs .ensures)
+returns c = puts-at-start (c .put-needs .ensures)
 
 pub needs-text-spec : {M : Type 1} → statement M
 needs-text-spec =

@@ -6,7 +6,7 @@ use Rattle.book.specs.Sound.{soundB}
 use Rattle.book.proofs.SoundTest.{sound→}
 use Rattle.table.specs.Words.{turnedBack}
 use Rattle.run.specs.Over.{overRan}
-use Rattle.records.proofs.Tellings.{ran-unsound, ran-sound}
+use Rattle.records.proofs.NumbersPut.{ran-unsound, ran-sound}
 use borrow.Author.Needs.{needs}
 use Rattle.run.proofs.day.Statement.{statement}
 use Rattle.run.proofs.day.Tie as tie

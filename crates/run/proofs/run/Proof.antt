@@ -1,21 +1,21 @@
--- `run::run` meets its contract.
+-- `run::run` meets its contract: the arrays of a sound table may be gone through (`Entering`), and what is left of them is the book after the records, turned over.
 use mathlib.Core.Bool.{Bool}
 use mathlib.Core.List.{List}
 use mathlib.Core.Path.{_≡_, refl, ap, _∙_}
 use borrow.Author.Needs.{needs}
 use Rattle.sums.specs.Choice.{pick}
 use Rattle.table.specs.Words.{marksFrom, marksOf, bookFrom}
-use Rattle.steps.proofs.Entering.{adds-up, looks-up, enters}
+use Rattle.steps.proofs.Entering.{adds-up, looks-up, sound-enters}
 use Rattle.records.specs.declared.Ran.{Ran}
 use Rattle.run.proofs.Turned.{left-over}
 use Rattle.run.proofs.run.Statement.{statement}
 use Rattle.run.proofs.run.Tie as tie
 
 -- THE PLACES, each named once.
-abbrev sized : tie.After-unders → tie.After-size2
+abbrev sized : tie.After-deemed-under → tie.After-size2
 sized u = u .before .before .before .before .before
 
-abbrev summed : tie.After-look-all → tie.After-unders
+abbrev summed : tie.After-look-all → tie.After-deemed-under
 summed l = l .before .before .before .before .before .before
 
 abbrev called : tie.After-size2 → tie.Start
@@ -33,8 +33,8 @@ size-requires c κs = search needs
 size-requires-2 : tie.Need-size-requires-2
 size-requires-2 c κs = search needs
 
-unders-requires : tie.Need-unders-requires
-unders-requires c κs =
+deemed-under-requires : tie.Need-deemed-under-requires
+deemed-under-requires c κs =
     let s = called (c .before .before .before .before) in
     let t = s .args .t in
     let g = adds-up (t .count) (t .serial) (marksOf t) (t .amounts) (t .modes) (t .needs) (s .pre .0) in
@@ -45,7 +45,7 @@ look-all-requires c κs =
     let u = c .before .before .before .before .before in
     let s = called (sized u) in
     let t = s .args .t in
-    (adds-up (t .count) (t .serial) (marksOf t) (t .amounts) (t .modes) (t .needs) (s .pre .0), looks-up (t .count) (t .serial) (marksOf t) (t .amounts) (t .modes) (t .needs) (s .pre .0) _ (u .unders .ensures))
+    (adds-up (t .count) (t .serial) (marksOf t) (t .amounts) (t .modes) (t .needs) (s .pre .0), looks-up (t .count) (t .serial) (marksOf t) (t .amounts) (t .modes) (t .needs) (s .pre .0) _ (u .deemed-under .ensures))
 
 go-requires : tie.Need-go-requires
 go-requires c κs =
@@ -54,7 +54,7 @@ go-requires c κs =
     let z = sized u in
     let s = called z in
     let t = s .args .t in
-    (enters (t .count) (t .serial) (marksOf t) (t .amounts) (t .modes) (t .needs) (s .pre .0) (z .before .before .sizes .ensures) (z .before .size .ensures) (z .size2 .ensures) _ _ (u .unders .ensures) (l .look-all .ensures), s .pre .1)
+    (sound-enters (t .count) (t .serial) (marksOf t) (t .amounts) (t .modes) (t .needs) (s .pre .0) (z .before .before .sizes .ensures) (z .before .size .ensures) (z .size2 .ensures) _ _ (u .deemed-under .ensures) (l .look-all .ensures), s .pre .1)
 
 modes-of-requires : tie.Need-modes-of-requires
 modes-of-requires c κs = search needs
@@ -81,7 +81,7 @@ run-spec =
     sizes-requires
     size-requires
     size-requires-2
-    unders-requires
+    deemed-under-requires
     look-all-requires
     go-requires
     modes-of-requires

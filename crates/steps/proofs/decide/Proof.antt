@@ -1,9 +1,9 @@
--- `steps::decide` meets its contract.
+-- `steps::decide` meets its contract: the lines before 8, then an opening, or the code's own lines by the mode before the record (K5).
 use mathlib.Core.Bool.{Bool}
 use mathlib.Core.List.{List}
 use Rattle.table.specs.Words.{Marks, marksFrom}
 use Rattle.steps.specs.Steps.{modesIn}
-use Rattle.steps.proofs.Carried.{early-is, held, amending, opening, opening-not, refused-at, amends-at, opens-at}
+use Rattle.steps.proofs.Carried.{early-is, ready-holds, ready-amends, code-opens, opening-not, refused-at, amends-at, opens-at}
 use borrow.Author.Needs.{needs}
 use Rattle.steps.proofs.decide.Statement.{statement}
 use Rattle.steps.proofs.decide.Tie as tie
@@ -41,7 +41,7 @@ open-requires c κs =
     let e = passed p in
     let s = start e in
     let a = s .args in
-    let g = held (a .at .count) (a .at .serial) (marks s) (a .w .now) (modes s) (a .needs .now) (s .pre .0) (a .r) _ (e .early .ensures) (p .if1 .left) in
+    let g = ready-holds (a .at .count) (a .at .serial) (marks s) (a .w .now) (modes s) (a .needs .now) (s .pre .0) (a .r) _ (e .early .ensures) (p .if1 .left) in
     (g .size, g .inside)
 
 returns-2 : tie.Need-returns-2
@@ -52,7 +52,7 @@ returns-2 c =
     let s = start e in
     let a = s .args in
     opens-at (a .at .count) (a .at .serial) (marks s) (a .w .now) (modes s) (a .needs .now) (s .pre .0) (a .r) _ (e .early .ensures) (p .if1 .left)
-    (opening (a .at .count) (a .at .serial) (marks s) (a .w .now) (modes s) (a .needs .now) (s .pre .0) (a .r) _ (e .early .ensures) (p .if1 .left) (o .if2 .taken)) _ _ _ (c .«open» .ensures)
+    (code-opens (a .at .count) (a .at .serial) (marks s) (a .w .now) (modes s) (a .needs .now) (s .pre .0) (a .r) _ (e .early .ensures) (p .if1 .left) (o .if2 .taken)) _ _ _ (c .«open» .ensures)
 
 cast-mode-of : tie.Need-cast-mode-of
 cast-mode-of c = search needs
@@ -63,7 +63,7 @@ mode-of-requires c κs =
     let e = passed p in
     let s = start e in
     let a = s .args in
-    (held (a .at .count) (a .at .serial) (marks s) (a .w .now) (modes s) (a .needs .now) (s .pre .0) (a .r) _ (e .early .ensures) (p .if1 .left) .inside, s .pre .1, s .pre .2)
+    (ready-holds (a .at .count) (a .at .serial) (marks s) (a .w .now) (modes s) (a .needs .now) (s .pre .0) (a .r) _ (e .early .ensures) (p .if1 .left) .inside, s .pre .1, s .pre .2)
 
 amend-requires : tie.Need-amend-requires
 amend-requires c κs =
@@ -72,7 +72,7 @@ amend-requires c κs =
     let e = passed p in
     let s = start e in
     let a = s .args in
-    amending (a .at .count) (a .at .serial) (marks s) (a .w .now) (modes s) (a .needs .now) (s .pre .0) (a .r) _ (e .early .ensures) (p .if1 .left) (opening-not (a .r) (o .if2 .left))
+    ready-amends (a .at .count) (a .at .serial) (marks s) (a .w .now) (modes s) (a .needs .now) (s .pre .0) (a .r) _ (e .early .ensures) (p .if1 .left) (opening-not (a .r) (o .if2 .left))
 
 returns-3 : tie.Need-returns-3
 returns-3 c =

@@ -1,4 +1,4 @@
--- `table::turn` meets its contract.
+-- `table::turn` meets its contract. The invariant: gathered from the words, the rows passed are the book's.
 use mathlib.Core.Path.{_≡_, refl, sym, ap, _∙_}
 use Prim.Native.Nat.{ℕ, _-_, _≤_, _<_}
 use native.Mathlib.Omega.{arith}

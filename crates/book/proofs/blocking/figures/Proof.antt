@@ -4,7 +4,7 @@ use native.Mathlib.Omega.{arith}
 use borrow.Author.Needs.{needs}
 use Rattle.rows.specs.View.{need}
 use Rattle.rows.specs.Rows.{view}
-use Rattle.rows.specs.Under.{accountAt, needBy}
+use Rattle.rows.specs.DeemedUnder.{accountAt, needBy}
 use Rattle.rows.proofs.KeptNeeds.{need-by}
 use Rattle.table.specs.Facts.{seenBook}
 use Rattle.book.proofs.blocking.figures.Statement.{statement}

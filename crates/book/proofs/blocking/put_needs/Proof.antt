@@ -1,4 +1,4 @@
--- `book::blocking::put_needs` meets its contract.
+-- `book::blocking::put_needs` meets its contract. The invariant: the places passed have their accounts' needs.
 use mathlib.Core.Path.{_≡_, refl, sym, ap, _∙_}
 use Prim.Native.Nat.{ℕ, _-_, _≤_, _<_}
 use native.Mathlib.Omega.{arith}
@@ -7,7 +7,7 @@ use lib.ListN.{length, getD, length-set}
 use Rattle.sums.proofs.Lists.{list-is, filled-step}
 use Rattle.rows.specs.View.{View, need}
 use Rattle.rows.specs.Rows.{view}
-use Rattle.rows.specs.Under.{accountAt, needBy}
+use Rattle.rows.specs.DeemedUnder.{accountAt, needBy}
 use Rattle.rows.proofs.KeptNeeds.{need-by}
 use Rattle.table.specs.Facts.{seenBook}
 use Rattle.book.proofs.blocking.put_needs.Statement.{statement}

@@ -1,11 +1,11 @@
--- `book::sound::good_row` meets its contract.
+-- `book::sound::good_row` meets its contract: a TM that the table has no place for may be read at any place, since the row fails either way (`row-slot`).
 use mathlib.Core.Bool.{Bool}
 use mathlib.Core.List.{[]}
 use mathlib.Core.Path.{_≡_}
 use lib.ListN.{getD}
 use borrow.Author.Needs.{needs}
 use borrow.Author.Tests.{lt-ltb, le-ltb}
-use Rattle.sums.proofs.Choices.{pass, stop}
+use Rattle.sums.proofs.Choices.{pick-first, pick-second}
 use Rattle.rows.specs.Inner.{Slot}
 use Rattle.table.specs.Words.{marksFrom, rowIn, bookFrom}
 use Rattle.book.specs.Sound.{goodRow, rowSound}
@@ -49,7 +49,7 @@ unfolding goodRow
 returns c =
     let place = c .before .before .before in
     let marks = place .before .before in
-    at-slot marks (pass _ (lt-ltb _ _ (place .before .if1 .taken)) (rw (
+    at-slot marks (pick-first _ (lt-ltb _ _ (place .before .if1 .taken)) (rw (
       place .good-place .ensures,
       c .before .before .no-amounts .ensures,
       c .in-range .ensures,
@@ -62,7 +62,7 @@ unfolding goodRow
 returns-2 c =
     let else = c .before .before .before .before in
     let marks = else .before in
-    at-slot marks (stop _ (le-ltb _ _ (else .if1 .left)) (rw (c .no-amounts2 .ensures, marks .before .before .mark-at .ensures)))
+    at-slot marks (pick-second _ (le-ltb _ _ (else .if1 .left)) (rw (c .no-amounts2 .ensures, marks .before .before .mark-at .ensures)))
 
 pub good-row-spec : {M : Type 1} → statement M
 good-row-spec =

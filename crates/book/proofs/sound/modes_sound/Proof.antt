@@ -1,4 +1,4 @@
--- `book::sound::modes_sound` meets its contract.
+-- `book::sound::modes_sound` meets its contract. The invariant: the flag is the test of the modes passed.
 use mathlib.Core.Bool.{Bool, false, _&&_}
 use mathlib.Core.Path.{_≡_, sym, ap, _∙_}
 use Prim.Native.Nat.{ℕ, _-_, _≤_}

@@ -1,4 +1,4 @@
--- `book::sound::table_sound` meets its contract.
+-- `book::sound::table_sound` meets its contract: number, rows, modes, kept needs, cover, in this order. Rows that have passed keep the sums behind needs within a word.
 use mathlib.Core.Bool.{true, and-false}
 use mathlib.Core.Path.{_≡_, sym, ap, subst, _∙_}
 use Prim.Native.Nat.{_≤_, _<_}

@@ -12,8 +12,8 @@ use Rattle.table.specs.Words.{marksFrom, bookFrom}
 use Rattle.table.proofs.Gathered.{row-in}
 use Rattle.closeout.specs.declared.pays.Both.{Both}
 use Rattle.closeout.specs.Inner.{roundsBy, afterOwn, Checked}
-use Rattle.closeout.proofs.KeptUnders.{need-kept, under-kept}
-use Rattle.closeout.proofs.Pass.{Passed, start, finish, sum-fits, tm-has, tm-has₂, cm-has, cm-has₂, named-low, turn}
+use Rattle.closeout.proofs.DeemedUnder.{need-kept, under-kept}
+use Rattle.closeout.proofs.Pass.{Passed, pass-start, pass-finish, sum-fits, tm-has, tm-has₂, cm-has, cm-has₂, named-low, pass-turn}
 use Rattle.closeout.proofs.pays.fill.Statement.{statement}
 use Rattle.closeout.proofs.pays.fill.Tie as tie
 
@@ -103,7 +103,7 @@ loop-holds : tie.Need-loop-holds Inv-loop μ-loop
 loop-holds c =
     let s = c .before .before .before .before .before .before .before .before .before in
     let pre = s .pre in (
-      start (bookOf s) (s .args .losses .now) _ _ _ _ (pre .sound) (ap length (c .before .before .before .before .before .before .zeros .ensures)) (ap length (c .before .before .before .before .before .zeros2 .ensures))
+      pass-start (bookOf s) (s .args .losses .now) _ _ _ _ (pre .sound) (ap length (c .before .before .before .before .before .before .zeros .ensures)) (ap length (c .before .before .before .before .before .zeros2 .ensures))
           (need-kept (bookOf s) (pre .sound) 0 (pre .sound .shaped .some) (all-under (c .before)))
           (c .after-own .ensures ∙ ap (λ q. afterOwn (accountOf q) (getD (s .args .losses .now) 0 0) (c .before .less .result)) (top (c .before .before .before .before))),
       omega arith,
@@ -227,8 +227,8 @@ abbrev paid : End → Both
 paid c = c .before .before .before .before .before .before .before .before .before .before .before .rounds .result
 
 next : (c : End) → Passed (Bk (of c)) (Ls (of c)) (R₀ (of c)) (c .before .before .before .before .before .before .before .before .before .put .last .0)
-    (set (set (of c .before .loop .left) (named c) (getD (of c .before .loop .left) (named c) 0 - paid c .first .tm)) (of c .before .loop .i) (paid c .first .kept))
-    (set (set (of c .before .loop .free) (named c) (getD (of c .before .loop .free) (named c) 0 - paid c .second .tm)) (of c .before .loop .i) (paid c .second .kept))
+    (set (set (of c .before .loop .left) (named c) (getD (of c .before .loop .left) (named c) 0 - paid c .first .tm)) (of c .before .loop .i) (paid c .first .left))
+    (set (set (of c .before .loop .free) (named c) (getD (of c .before .loop .free) (named c) 0 - paid c .second .tm)) (of c .before .loop .i) (paid c .second .left))
     (of c .before .loop .cm - paid c .first .cm) (of c .before .loop .cm-free - paid c .second .cm) (of c .before .loop .uncovered + paid c .second .unpaid) (of c .before .loop .i + 1)
 next c =
     let t = of c in
@@ -238,10 +238,10 @@ next c =
     let put = c .before .before .before .before .before .before .before .before .before .put in
     let under = c .before .before .before .before .before .before .before .before .before .before .before .before .before .before in
     subst (λ (q : Row). Passed (Bk t) (Ls t) (R₀ t) (put .last .0)
-    (set (set (l .left) (q .tm) (getD (l .left) (q .tm) 0 - p .first .tm)) (l .i) (p .first .kept))
-    (set (set (l .free) (q .tm) (getD (l .free) (q .tm) 0 - p .second .tm)) (l .i) (p .second .kept))
+    (set (set (l .left) (q .tm) (getD (l .left) (q .tm) 0 - p .first .tm)) (l .i) (p .first .left))
+    (set (set (l .free) (q .tm) (getD (l .free) (q .tm) 0 - p .second .tm)) (l .i) (p .second .left))
     (l .cm - p .first .cm) (l .cm-free - p .second .cm) (l .uncovered + p .second .unpaid) (l .i + 1)) (sym (row r))
-    (turn (checked t .sound) (inside t) (here t) (under .less2 .result) (need-kept (Bk t) (checked t .sound) _ (inside t) (deemed-under under))
+    (pass-turn (checked t .sound) (inside t) (here t) (under .less2 .result) (need-kept (Bk t) (checked t .sound) _ (inside t) (deemed-under under))
     (c .before .before .before .before .before .before .before .before .before .before .before .rounds .ensures ∙ ap (λ q. roundsBy (accountOf q) (getD (Ls t) (l .i) 0) (under .less2 .result) (getD (l .left) (q .tm) 0) (l .cm) (getD (l .free) (q .tm) 0) (l .cm-free)) (row r))
     (put .ensures) (put .kept .0))
 
@@ -261,7 +261,7 @@ same-length : tie.Need-same-length Inv-loop μ-loop
 same-length c = c .before .loop .inv .0 .wide
 
 returns : tie.Need-returns Inv-loop μ-loop
-returns c = finish (c .before .loop .inv .0) (omega arith) (c .before .before .before .before .before .before .before .before .before .before .before .pre .wide)
+returns c = pass-finish (c .before .loop .inv .0) (omega arith) (c .before .before .before .before .before .before .before .before .before .before .before .pre .wide)
 
 pub fill-spec : {M : Type 1} → statement M
 fill-spec =

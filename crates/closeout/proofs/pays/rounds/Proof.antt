@@ -1,4 +1,4 @@
--- `closeout::pays::rounds` meets its contract.
+-- `closeout::pays::rounds` meets its contract: own payment and both rounds stay within the loss, so that nothing wraps.
 use Prim.Native.Nat.{ℕ, _+_, _≤_}
 use native.Mathlib.Omega.{arith}
 use borrow.Author.Needs.{needs}

@@ -5,7 +5,7 @@ use native.Mathlib.Omega.{arith}
 use Rattle.rows.specs.Rows.{plusKinds, lessKinds, withAllocated}
 use Rattle.rows.specs.Ranges.{kindsWithin}
 use Rattle.codes.specs.Own.{leftLines}
-use Rattle.codes.proofs.Made.{here, next, none, refuses, puts, allocated-anew}
+use Rattle.codes.proofs.Made.{first-line-holds, first-line-fails, no-line-gives-0, refused-answers, put-answers, allocated-anew}
 use borrow.Author.Needs.{needs}
 use Rattle.codes.proofs.own.allocate.Statement.{statement}
 use Rattle.codes.proofs.own.allocate.Tie as tie
@@ -23,7 +23,7 @@ kinds-within-requires : tie.Need-kinds-within-requires
 kinds-within-requires c κs = search needs
 
 returns : tie.Need-returns
-returns c = refuses 11 (λ q. leftLines q (c .before .before .before .before .before .args .k)) _ (c .before .before .before .row-at .ensures) (here 11 _ _ (test-is (c .before) ∙ c .if1 .taken)) (λ z. omega arith)
+returns c = refused-answers 11 (λ q. leftLines q (c .before .before .before .before .before .args .k)) _ (c .before .before .before .row-at .ensures) (first-line-holds 11 _ _ (test-is (c .before) ∙ c .if1 .taken)) (λ z. omega arith)
 
 plus-kinds-requires : tie.Need-plus-kinds-requires
 plus-kinds-requires c κs =
@@ -42,7 +42,7 @@ returns-2 c =
     let tests = made .before .before in
     let row-at = tests .before .before .before .row-at in
     let s = tests .before .before .before .before .before in
-    puts (λ q. leftLines q (s .args .k)) _ (row-at .ensures) (next 11 _ _ 0 (test-is (tests .before) ∙ tests .if1 .left) none)
+    put-answers (λ q. leftLines q (s .args .k)) _ (row-at .ensures) (first-line-fails 11 _ _ 0 (test-is (tests .before) ∙ tests .if1 .left) no-line-gives-0)
     (allocated-anew (s .pre .0) (s .pre .1) _ _
     (made .with-allocated .ensures ∙ ap (withAllocated (row-at .result)) (made .before .plus-kinds .ensures) ∙ ap (λ q. withAllocated q (plusKinds (q .allocated) (s .args .k))) (row-at .ensures))
     (c .put-kinds .ensures))

@@ -5,7 +5,7 @@ use native.Mathlib.Omega.{arith}
 use Rattle.rows.specs.Rows.{lessKinds, withReceived}
 use Rattle.rows.specs.Ranges.{kindsWithin}
 use Rattle.codes.specs.Own.{leftLines}
-use Rattle.codes.proofs.Made.{here, next, none, refuses, puts, received-anew}
+use Rattle.codes.proofs.Made.{first-line-holds, first-line-fails, no-line-gives-0, refused-answers, put-answers, received-anew}
 use borrow.Author.Needs.{needs}
 use Rattle.codes.proofs.own.hand_back.Statement.{statement}
 use Rattle.codes.proofs.own.hand_back.Tie as tie
@@ -23,7 +23,7 @@ kinds-within-requires : tie.Need-kinds-within-requires
 kinds-within-requires c κs = search needs
 
 returns : tie.Need-returns
-returns c = refuses 11 (λ q. leftLines q (c .before .before .before .before .before .args .k)) _ (c .before .before .before .row-at .ensures) (here 11 _ _ (test-is (c .before) ∙ c .if1 .taken)) (λ z. omega arith)
+returns c = refused-answers 11 (λ q. leftLines q (c .before .before .before .before .before .args .k)) _ (c .before .before .before .row-at .ensures) (first-line-holds 11 _ _ (test-is (c .before) ∙ c .if1 .taken)) (λ z. omega arith)
 
 less-kinds-requires-2 : tie.Need-less-kinds-requires-2
 less-kinds-requires-2 c κs = search needs
@@ -39,7 +39,7 @@ returns-2 c =
     let args = c .before .before .before .before .before .before .before .before .before .args in
     let row-at = c .before .before .before .before .before .before .before .row-at in
     let pre = c .before .before .before .before .before .before .before .before .before .pre in
-    puts (λ q. leftLines q (args .k)) _ (row-at .ensures) (next 11 _ _ 0 (test-is (c .before .before .before .before .before) ∙ c .before .before .before .before .if1 .left) none)
+    put-answers (λ q. leftLines q (args .k)) _ (row-at .ensures) (first-line-fails 11 _ _ 0 (test-is (c .before .before .before .before .before) ∙ c .before .before .before .before .if1 .left) no-line-gives-0)
     (received-anew (pre .0) (pre .1) _ _
     (c .before .before .with-received .ensures ∙ ap (withReceived (row-at .result)) (c .before .before .before .less-kinds2 .ensures) ∙ ap (λ q. withReceived q (lessKinds (q .received) (args .k))) (row-at .ensures))
     (c .put-kinds .ensures))

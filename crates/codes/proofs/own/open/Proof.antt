@@ -5,7 +5,7 @@ use native.Mathlib.Omega.{arith}
 use borrow.Author.Tests.{eq-eqb, ne-eqb, le-leb, lt-leb}
 use Rattle.table.specs.Words.{marksFrom}
 use Rattle.table.proofs.RowsPut.{row-put}
-use Rattle.codes.proofs.Made.{here, next, none, opens, opens-not}
+use Rattle.codes.proofs.Made.{first-line-holds, first-line-fails, no-line-gives-0, opened-answers, opens-not}
 use borrow.Author.Needs.{needs}
 use Rattle.codes.proofs.own.open.Statement.{statement}
 use Rattle.codes.proofs.own.open.Tie as tie
@@ -17,10 +17,10 @@ wanted-requires : tie.Need-wanted-requires
 wanted-requires c κs = search needs
 
 returns : tie.Need-returns
-returns c = opens-not 8 (here 8 _ _ (ap not (ne-eqb _ _ (λ z. (c .if1) .taken (z ∙ sym (c .before .wanted .ensures)))))) (λ z. omega arith)
+returns c = opens-not 8 (first-line-holds 8 _ _ (ap not (ne-eqb _ _ (λ z. (c .if1) .taken (z ∙ sym (c .before .wanted .ensures)))))) (λ z. omega arith)
 
 returns-2 : tie.Need-returns-2
-returns-2 c = opens-not 9 (next 8 _ _ 9 (ap not (eq-eqb _ _ (c .before .if1 .left ∙ c .before .before .wanted .ensures))) (here 9 _ _ (le-leb _ _ (c .if2 .taken)))) (λ z. omega arith)
+returns-2 c = opens-not 9 (first-line-fails 8 _ _ 9 (ap not (eq-eqb _ _ (c .before .if1 .left ∙ c .before .before .wanted .ensures))) (first-line-holds 9 _ _ (le-leb _ _ (c .if2 .taken)))) (λ z. omega arith)
 
 opened-row-requires : tie.Need-opened-row-requires
 opened-row-requires c κs = search needs
@@ -33,7 +33,7 @@ returns-3 c =
     let if2 = c .before .before .before .before .before .before .if2 in
     let a = (c .before .before .before .before .before .before .before .before .before .before .args) in
     let e = c .put-row .ensures in
-    opens (next 8 _ _ 0 (ap not (eq-eqb _ _ (c .before .before .before .before .before .before .before .if1 .left ∙ c .before .before .before .before .before .before .before .before .wanted .ensures))) (next 9 _ _ 0 (lt-leb _ _ (if2 .left)) none))
+    opened-answers (first-line-fails 8 _ _ 0 (ap not (eq-eqb _ _ (c .before .before .before .before .before .before .before .if1 .left ∙ c .before .before .before .before .before .before .before .before .wanted .ensures))) (first-line-fails 9 _ _ 0 (lt-leb _ _ (if2 .left)) no-line-gives-0))
     (rw (e .0, e .1 .0, e .1 .1 .0, e .1 .1 .1, c .before .opened-row .ensures) (row-put (marksFrom (a .sort .now) (a .live .now) (a .tm .now)) (a .w .now) (a .count) (c .before .before .before .before .before .before .before .before .before .before .pre .0) (if2 .left) _))
 
 pub open-spec : {M : Type 1} → statement M

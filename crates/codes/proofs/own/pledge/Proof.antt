@@ -5,7 +5,7 @@ use native.Mathlib.Omega.{arith}
 use borrow.Author.Tests.{lt-ltb, le-ltb}
 use Rattle.rows.specs.Rows.{withPledged}
 use Rattle.codes.specs.Own.{pledgeLines}
-use Rattle.codes.proofs.Made.{here, next, none, refuses, puts, pledged-anew}
+use Rattle.codes.proofs.Made.{first-line-holds, first-line-fails, no-line-gives-0, refused-answers, put-answers, pledged-anew}
 use borrow.Author.Needs.{needs}
 use Rattle.codes.proofs.own.pledge.Statement.{statement}
 use Rattle.codes.proofs.own.pledge.Tie as tie
@@ -19,7 +19,7 @@ add-sum c =
     rw (c .before .row-at .ensures) (omega (arith, pre .2 .pledged, pre .3))
 
 returns : tie.Need-returns
-returns c = refuses 10 (λ q. pledgeLines q (c .before .before .before .before .args .y)) _ (c .before .before .row-at .ensures) (here 10 _ _ (lt-ltb _ _ (c .if1 .taken))) (λ z. omega arith)
+returns c = refused-answers 10 (λ q. pledgeLines q (c .before .before .before .before .args .y)) _ (c .before .before .row-at .ensures) (first-line-holds 10 _ _ (lt-ltb _ _ (c .if1 .taken))) (λ z. omega arith)
 
 with-pledged-requires : tie.Need-with-pledged-requires
 with-pledged-requires c κs = search needs
@@ -40,7 +40,7 @@ returns-2 : tie.Need-returns-2
 returns-2 c =
     let s = c .before .before .before .before .before in
     let row-at = c .before .before .before .row-at in
-    puts (λ q. pledgeLines q (s .args .y)) _ (row-at .ensures) (next 10 _ _ 0 (le-ltb _ _ (c .before .if1 .left)) none)
+    put-answers (λ q. pledgeLines q (s .args .y)) _ (row-at .ensures) (first-line-fails 10 _ _ 0 (le-ltb _ _ (c .before .if1 .left)) no-line-gives-0)
     (pledged-anew (s .pre .0) (s .pre .1) _ _
     (c .with-pledged .ensures ∙ ap (λ q. withPledged q (q .pledged + s .args .y)) (row-at .ensures)) refl)
 

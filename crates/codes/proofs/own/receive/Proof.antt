@@ -5,7 +5,7 @@ use native.Mathlib.Omega.{arith}
 use Rattle.rows.specs.Rows.{plusKinds, withReceived}
 use Rattle.rows.specs.Ranges.{kindsCapped}
 use Rattle.codes.specs.Own.{receiveLines}
-use Rattle.codes.proofs.Made.{here, next, none, refuses, puts, received-anew}
+use Rattle.codes.proofs.Made.{first-line-holds, first-line-fails, no-line-gives-0, refused-answers, put-answers, received-anew}
 use borrow.Author.Needs.{needs}
 use Rattle.codes.proofs.own.receive.Statement.{statement}
 use Rattle.codes.proofs.own.receive.Tie as tie
@@ -23,7 +23,7 @@ kinds-capped-requires : tie.Need-kinds-capped-requires
 kinds-capped-requires c κs = search needs
 
 returns : tie.Need-returns
-returns c = refuses 10 (λ q. receiveLines q (c .before .before .before .before .before .args .k)) _ (c .before .before .before .row-at .ensures) (here 10 _ _ (test-is (c .before) ∙ c .if1 .taken)) (λ z. omega arith)
+returns c = refused-answers 10 (λ q. receiveLines q (c .before .before .before .before .before .args .k)) _ (c .before .before .before .row-at .ensures) (first-line-holds 10 _ _ (test-is (c .before) ∙ c .if1 .taken)) (λ z. omega arith)
 
 with-received-requires : tie.Need-with-received-requires
 with-received-requires c κs = search needs
@@ -36,7 +36,7 @@ returns-2 c =
     let args = c .before .before .before .before .before .before .before .before .args in
     let row-at = c .before .before .before .before .before .before .row-at in
     let pre = c .before .before .before .before .before .before .before .before .pre in
-    puts (λ q. receiveLines q (args .k)) _ (row-at .ensures) (next 10 _ _ 0 (test-is (c .before .before .before .before) ∙ c .before .before .before .if1 .left) none)
+    put-answers (λ q. receiveLines q (args .k)) _ (row-at .ensures) (first-line-fails 10 _ _ 0 (test-is (c .before .before .before .before) ∙ c .before .before .before .if1 .left) no-line-gives-0)
     (received-anew (pre .0) (pre .1) _ _
     (c .before .before .with-received .ensures ∙ ap (withReceived (row-at .result)) (c .before .before .before .before .before .plus-kinds .ensures) ∙ ap (λ q. withReceived q (plusKinds (q .received) (args .k))) (row-at .ensures))
     (c .put-kinds .ensures))

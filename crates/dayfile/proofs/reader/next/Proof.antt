@@ -42,7 +42,7 @@ use denote.Triple.Table.{entered, cited}
 use denote.Triple.Walked.{says, Stays, stay-ref, walkOf, goes-ref, Walks, ends-at, walked, walk-meets}
 use Rattle.dayfile.specs.declared.reader.Reader.{Reader}
 use Rattle.dayfile.specs.declared.reader.Took.{Took}
-use Rattle.dayfile.specs.Reader.{seenBy, movedTo}
+use Rattle.dayfile.specs.Reader.{readBy, movedTo}
 use Rattle.dayfile.specs.Taking.{tookAt}
 use Rattle.dayfile.proofs.Read as Answer
 use Rattle.dayfile.proofs.Read.Laws as Answer′
@@ -50,7 +50,7 @@ use Rattle.dayfile.proofs.reader.Reader as T
 use Rattle.dayfile.proofs.reader.Reader.Laws as T′
 use Rattle.dayfile.proofs.reader.Took as S
 use Rattle.dayfile.proofs.reader.Took.Laws as S′
-use Rattle.dayfile.proofs.ReaderCall.{Called, at-call, asks, gives}
+use Rattle.dayfile.proofs.ReaderCall.{Called, at-call, call-asks, call-gives}
 use Rattle.dayfile.proofs.reader.next_at.Symbol as callee
 use Rattle.dayfile.proofs.reader.next_at.Met.{met}
 use Rattle.dayfile.proofs.reader.next.Key.{name}
@@ -107,7 +107,7 @@ module _ {M : Type 1} (𝓤 : URA M) (H : Heap 𝓤) (A : Atoms 𝓤) (W : Given
   foundVal = LL.val S.the-type S′.the-laws found
 
   abbrev answerVal : Val
-  answerVal = EL.val Answer.the-type Answer′.the-laws (seenBy h)
+  answerVal = EL.val Answer.the-type Answer′.the-laws (readBy h)
 
   abbrev h′ : Reader
   h′ = movedTo h (found .place)
@@ -116,7 +116,7 @@ module _ {M : Type 1} (𝓤 : URA M) (H : Heap 𝓤) (A : Atoms 𝓤) (W : Given
     fits : found .place < 2 ^ 64
     fits = LL.owed S.the-type S′.the-laws found _ is .1 .0 .1
 
-    answer-is : Is Answer.the-row (seenBy h) (answerVal ∷ [])
+    answer-is : Is Answer.the-row (readBy h) (answerVal ∷ [])
     answer-is = LL.owed S.the-type S′.the-laws found _ is .0
 
     -- what the piece owns is kept, and the place's facts are made anew
@@ -129,10 +129,10 @@ module _ {M : Type 1} (𝓤 : URA M) (H : Heap 𝓤) (A : Atoms 𝓤) (W : Given
     exits =
         qed W (‵ (fobs γ (B κ′ .coded .code h′)) ∷ ‵ (fbor κ (Body (mem (B κ′)) b o γ)) ∷ ‵ (flft κ q) ∷ (‵ (flft κ′ q′) ⊛ ‵ ftrue) ∷ []) ∵
         suffices ! _ (ends-at 𝓤 H A next.ended stayed (next.clauses 𝓤 H A at-mem run) W (((κ, (κ′, tt)), (q, (q′, tt)), bounds, x, at), tt)
-        answerVal (seenBy h) (h′, tt) (tt, tt)) $
+        answerVal (readBy h) (h′, tt) (tt, tt)) $
         says-both ! refl refl $ move ! (2 ∷ 3 ∷ []) $ join ! $ frame ! $
         feqI ! (List Val) (vptr b o ∷ []) (vptr b o ∷ []) refl $ fjoin3 ! $ nothing ! $ move ! (1 ∷ 0 ∷ []) $ fjoin ! $
-        owned ! Answer.the-row (Is Answer.the-row) (EL.makes Answer.the-type Answer′.the-plain 𝓤 H A) (seenBy h) _ answer-is $ move ! (1 ∷ 0 ∷ []) $ done !
+        owned ! Answer.the-row (Is Answer.the-row) (EL.makes Answer.the-type Answer′.the-plain 𝓤 H A) (readBy h) _ answer-is $ move ! (1 ∷ 0 ∷ []) $ done !
 
   module _ (C : Calls 𝓤 H) (Λ : Loops 𝓤 H) (fm : FmC 𝓤 H (W .laws) C) (known : Triple 𝓤 (C callee.name) (Called S.the-row tookAt 𝓤 H A)) where
     walk : ent 𝓤 (onEntry 𝓤 H A next.signature (κ, (κ′, tt)) (q, (q′, tt)) x at) (WpFn 𝓤 H C Λ code.function (vptr b o ∷ []) Post)
@@ -154,11 +154,11 @@ module _ {M : Type 1} (𝓤 : URA M) (H : Heap 𝓤) (A : Atoms 𝓤) (W : Given
         (look-in ! 0 {τ = placeTy} (sub ! 1 {τ = placeTy} {d = 16} refl (whole !))))) (from ! (stop !)) (init ! 7 refl (tt, wt .1 .1 .0)) $
         move ! (1 ∷ 5 ∷ []) $
         use2 W (raw (Called S.the-row tookAt 𝓤 H A .pre (at-call S.the-row tookAt 𝓤 H A W (α κ′) q′ h)) ⊛ ‵ Own)
-        (asks S.the-row tookAt 𝓤 H A W (α κ′) q′ h (wt .1 .1 .0 .fits)) $ split ! $
+        (call-asks S.the-row tookAt 𝓤 H A W (α κ′) q′ h (wt .1 .1 .0 .fits)) $ split ! $
         -- [what `next_at` asks; what the reader owns; its cell; the open borrow; obs; auth; true; _4; …; _3; …; _2; …; _1; …; room for _0; …]
         calls-at ! fm (Called S.the-row tookAt 𝓤 H A) known (at-call S.the-row tookAt 𝓤 H A W (α κ′) q′ h)
         (and-then ! (load ! (from ! (stop !)) (look ! 9 refl)) (and-then ! (load ! (from ! (stop !)) (look ! 7 refl)) (no-more !))) (λ u.
-        use1 W (later (‵ (S.the-row .own found (u ∷ [])) ⊛ (‵ (flft κ′ q′) ⊛ ‵ ftrue))) (gives S.the-row tookAt 𝓤 H A W (α κ′) q′ h u) $
+        use1 W (later (‵ (S.the-row .own found (u ∷ [])) ⊛ (‵ (flft κ′ q′) ⊛ ‵ ftrue))) (call-gives S.the-row tookAt 𝓤 H A W (α κ′) q′ h u) $
         await ! tt $ split ! $
         peeks ! S.the-row (Is S.the-row) (shows 𝓤 H A S.the-row) found (u ∷ []) (λ is₀. drop ! $
         let is = LL.owes S.the-type S′.the-laws found (LL.owed S.the-type S′.the-laws found _ is₀) in
@@ -170,7 +170,7 @@ module _ {M : Type 1} (𝓤 : URA M) (H : Heap 𝓤) (A : Atoms 𝓤) (W : Given
         (store-in ! 2 {τ = placeTy} (sub ! 1 {τ = placeTy} {d = 16} refl (whole !)) (tt, record { fits = fits is })) $
         assigns ! (of-opd ! (load ! (from ! (fld ! {τ = Answer′.mir} {d = 0} refl (stop !)))
         (look-in ! 11 {τ = Answer′.mir} (sub ! 0 {τ = Answer′.mir} {d = 0} refl (whole !))))) (from ! (stop !))
-        (init ! 15 refl (EL.lawful Answer.the-type Answer′.the-laws 𝓤 H A W tt .typed (seenBy h) _ (answer-is is) .0)) $
+        (init ! 15 refl (EL.lawful Answer.the-type Answer′.the-laws 𝓤 H A W tt .typed (readBy h) _ (answer-is is) .0)) $
         move ! (1 ∷ []) $ use1 W (‵ (B κ′ .own h′ (T′.lowered h′ ∷ []))) (again is) $
         move ! (2 ∷ []) $ use1 W (‵ (cellAt fullShare (B κ′ .mir) (T′.lowered h′ ∷ []) b o)) (W .laws .at-raw fullShare (T′.mir erased) b o (T′.lowered h′)) $
         move ! (0 ∷ 1 ∷ 3 ∷ 4 ∷ 5 ∷ []) $ closes ! tt (B κ′) h′ (T′.lowered h′ ∷ []) b o $

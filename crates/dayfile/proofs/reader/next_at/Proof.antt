@@ -1,3 +1,4 @@
+-- `dayfile::reader::next_at` meets its contract: what is read at the place, and the place after it, which `reader::next` puts.
 use borrow.Author.Needs.{needs}
 use Rattle.dayfile.proofs.reader.next_at.Statement.{statement}
 use Rattle.dayfile.proofs.reader.next_at.Tie as tie

@@ -34,12 +34,12 @@ use denote.Triple.Walked.{says, Stays, stay-none, walkOf, goes-none, Walks, ends
 use denote.Exit.{yes}
 use Rattle.dayfile.specs.declared.reader.Reader.{Reader}
 use Rattle.dayfile.specs.Reading.{readAt}
-use Rattle.dayfile.specs.Reader.{seenBy}
+use Rattle.dayfile.specs.Reader.{readBy}
 use Rattle.dayfile.proofs.Read as Answer
 use Rattle.dayfile.proofs.Read.Laws as Answer′
 use Rattle.dayfile.proofs.reader.Reader as T
 use Rattle.dayfile.proofs.reader.Reader.Laws as T′
-use Rattle.dayfile.proofs.ReaderCall.{Called, at-call, asks, gives}
+use Rattle.dayfile.proofs.ReaderCall.{Called, at-call, call-asks, call-gives}
 use Rattle.dayfile.proofs.reading.read_at.Symbol as callee
 use Rattle.dayfile.proofs.reading.read_at.Met.{met}
 use Rattle.dayfile.proofs.reader.peek.Key.{name}
@@ -67,10 +67,10 @@ module _ {M : Type 1} (𝓤 : URA M) (H : Heap 𝓤) (A : Atoms 𝓤) (W : Given
   abbrev Own : Fml
   Own = B (κ, tt) .own h (mach ∷ [])
 
-  exits : (u : Val) → ent 𝓤 (⋆ 𝓤 H A (‵ (Answer.the-row .own (seenBy h) (u ∷ [])) ∷ (‵ (flft κ q) ⊛ ‵ ftrue) ∷ ‵ Own ∷ [])) (Post u)
+  exits : (u : Val) → ent 𝓤 (⋆ 𝓤 H A (‵ (Answer.the-row .own (readBy h) (u ∷ [])) ∷ (‵ (flft κ q) ⊛ ‵ ftrue) ∷ ‵ Own ∷ [])) (Post u)
   exits u =
-      qed W (‵ (Answer.the-row .own (seenBy h) (u ∷ [])) ∷ (‵ (flft κ q) ⊛ ‵ ftrue) ∷ ‵ Own ∷ []) ∵
-      suffices ! _ (ends-at 𝓤 H A peek.ended stayed (peek.clauses 𝓤 H A mem run) W (((κ, tt), (q, tt), tt, (h, tt), (mach ∷ [], tt)), tt) u (seenBy h) (tt, tt) (tt, tt)) $
+      qed W (‵ (Answer.the-row .own (readBy h) (u ∷ [])) ∷ (‵ (flft κ q) ⊛ ‵ ftrue) ∷ ‵ Own ∷ []) ∵
+      suffices ! _ (ends-at 𝓤 H A peek.ended stayed (peek.clauses 𝓤 H A mem run) W (((κ, tt), (q, tt), tt, (h, tt), (mach ∷ [], tt)), tt) u (readBy h) (tt, tt) (tt, tt)) $
       says ! refl $ move ! (1 ∷ []) $ frame ! $ nothing ! $ move ! (2 ∷ 0 ∷ []) $ fjoin ! $ frame ! $ done !
 
   module _ (C : Calls 𝓤 H) (Λ : Loops 𝓤 H) (fm : FmC 𝓤 H (W .laws) C) (known : Triple 𝓤 (C callee.name) (Called Answer.the-row readAt 𝓤 H A)) where
@@ -84,14 +84,14 @@ module _ {M : Type 1} (𝓤 : URA M) (H : Heap 𝓤) (A : Atoms 𝓤) (W : Given
         -- [_3; …; _2; …; _1; …; room for _0; …; the token; what the reader owns]
         move ! (9 ∷ []) $ fsplit ! $ move ! (1 ∷ []) $ drop ! $ move ! (0 ∷ 9 ∷ []) $
         use2 W (raw (Called Answer.the-row readAt 𝓤 H A .pre (at-call Answer.the-row readAt 𝓤 H A W (α (κ, tt)) q h)) ⊛ ‵ Own)
-        (asks Answer.the-row readAt 𝓤 H A W (α (κ, tt)) q h (wt .1 .1 .0 .fits)) $ split ! $
+        (call-asks Answer.the-row readAt 𝓤 H A W (α (κ, tt)) q h (wt .1 .1 .0 .fits)) $ split ! $
         calls-at ! fm (Called Answer.the-row readAt 𝓤 H A) known (at-call Answer.the-row readAt 𝓤 H A W (α (κ, tt)) q h)
         (and-then ! (load ! (from ! (stop !)) (look ! 4 refl)) (and-then ! (load ! (from ! (stop !)) (look ! 2 refl)) (no-more !))) (λ u.
-        use1 W (later (‵ (Answer.the-row .own (seenBy h) (u ∷ [])) ⊛ (‵ (flft κ q) ⊛ ‵ ftrue))) (gives Answer.the-row readAt 𝓤 H A W (α (κ, tt)) q h u) $
+        use1 W (later (‵ (Answer.the-row .own (readBy h) (u ∷ [])) ⊛ (‵ (flft κ q) ⊛ ‵ ftrue))) (call-gives Answer.the-row readAt 𝓤 H A W (α (κ, tt)) q h u) $
         await ! tt $ split ! $
         -- [the answer; the token; what the reader owns; _3; …; _2; …; _1; …; room for _0; …]
-        peeks ! Answer.the-row (Is Answer.the-row) (shows 𝓤 H A Answer.the-row) (seenBy h) (u ∷ []) (λ is.
-        land ! (from ! (stop !)) (init ! 9 refl (EL.lawful Answer.the-type Answer′.the-laws 𝓤 H A W tt .typed (seenBy h) _ is .0)) $
+        peeks ! Answer.the-row (Is Answer.the-row) (shows 𝓤 H A Answer.the-row) (readBy h) (u ∷ []) (λ is.
+        land ! (from ! (stop !)) (init ! 9 refl (EL.lawful Answer.the-type Answer′.the-laws 𝓤 H A W tt .typed (readBy h) _ is .0)) $
         returns ! (look ! 9 refl) $ forget ! 3 refl $ forget ! 5 refl $ forget ! 7 refl $ forget ! 9 refl $
         move ! (9 ∷ 10 ∷ []) $ free1 ! $ move ! (7 ∷ 8 ∷ []) $ free1 ! $ move ! (5 ∷ 6 ∷ []) $ free1 ! $ move ! (3 ∷ 4 ∷ []) $ free1 ! $ free0 ! $
         by ! (exits u)))))))

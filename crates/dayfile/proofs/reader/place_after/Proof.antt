@@ -1,3 +1,4 @@
+-- `dayfile::reader::place_after` meets its contract: the place stays at the end and at a cut, and is the one behind a record.
 use borrow.Author.Needs.{needs}
 use Rattle.dayfile.proofs.reader.place_after.Statement.{statement}
 use Rattle.dayfile.proofs.reader.place_after.Tie as tie

@@ -1,4 +1,4 @@
--- `dayfile::reading::number8` meets its contract.
+-- `dayfile::reading::number8` meets its contract: four numbers of two bytes each, and no sum of them wraps.
 use denote.Ref.{now}
 use Rattle.dayfile.proofs.Numbers.{number-eight}
 use borrow.Author.Needs.{needs}

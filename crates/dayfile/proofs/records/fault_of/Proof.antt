@@ -5,6 +5,7 @@ use Rattle.sums.specs.Table.{first}
 use Rattle.sums.proofs.Tables.{first-here, first-later}
 use Rattle.dayfile.specs.Records.{faultOf}
 use borrow.Author.Needs.{needs}
+use borrow.Author.Tests.{not-false}
 use Rattle.dayfile.proofs.records.fault_of.Statement.{statement}
 use Rattle.dayfile.proofs.records.fault_of.Tie as tie
 
@@ -20,7 +21,7 @@ unfolding faultOf
 returns c = sym (first-here 4 _ _ (rw (← c .before .known-code .ensures) (c .if1 .taken)))
 
 suits-code-requires : tie.Need-suits-code-requires
-suits-code-requires c κs = search needs
+suits-code-requires c κs = sym (c .before .known-code .ensures) ∙ not-false _ (c .if1 .left)
 
 returns-2 : tie.Need-returns-2
 unfolding faultOf
@@ -29,7 +30,9 @@ returns-2 c =
     ∙ first-here 5 _ _ (rw (← c .before .suits-code .ensures) (c .if2 .taken)))
 
 good-amounts-requires : tie.Need-good-amounts-requires
-good-amounts-requires c κs = search needs
+good-amounts-requires c κs =
+    let k = c .before .before in
+    (sym (k .before .known-code .ensures) ∙ not-false _ (k .if1 .left), sym (c .before .suits-code .ensures) ∙ not-false _ (c .if2 .left))
 
 returns-3 : tie.Need-returns-3
 unfolding faultOf

@@ -1,4 +1,4 @@
--- A byte has at most eight ones, so nothing wraps.
+-- `dayfile::records::size` meets its contract: a byte has at most eight ones, so nothing wraps.
 use native.Mathlib.Omega.{arith}
 use lib.Count.{ones-le}
 use borrow.Author.Needs.{needs}

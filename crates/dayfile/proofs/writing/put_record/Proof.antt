@@ -1,4 +1,4 @@
--- `dayfile::writing::put_record` meets its contract.
+-- `dayfile::writing::put_record` meets its contract: each part where the one before it ended, and all within the record's length.
 use native.Mathlib.Omega.{arith}
 use lib.ListN.{length-set}
 use Rattle.dayfile.specs.Written.{bodyOf, writtenOf}

@@ -1,9 +1,10 @@
 -- `lines::closing::put_closing` meets its contract: the word, then the two counts.
 use borrow.Author.Needs.{needs}
 use native.Mathlib.Omega.{arith}
-use Rattle.lines.specs.Lines.{space, newline, spaced, closingLineOf}
-use Rattle.lines.proofs.Puts.{and-then, puts-length}
-use Rattle.lines.proofs.Widths.{word-most, long-number}
+use Rattle.text.specs.Numbers.{spaced}
+use Rattle.text.proofs.Puts.{and-then}
+use Rattle.lines.specs.Lines.{closingLineOf}
+use Rattle.lines.proofs.Widths.{word-most}
 use Rattle.lines.proofs.closing.put_closing.Statement.{statement}
 use Rattle.lines.proofs.closing.put_closing.Tie as tie
 
@@ -12,27 +13,12 @@ put-word-requires c κs = search needs
 
 put-number-requires : tie.Need-put-number-requires
 put-number-requires c κs =
-    let a = c .before .before .before .before .before .before .args in
-    let f = c .before .before .before .before .before .before .fits in
-    let w = c .before .before .before .put-word .ensures in
-    omega (arith, word-most (a .closing), long-number (a .read) space (omega arith), puts-length w, w .next)
+    let w = c .before .before .before in omega (arith, word-most (w .before .before .before .args .closing), w .put-word .ensures .next)
 
 put-number-requires-2 : tie.Need-put-number-requires-2
 put-number-requires-2 c κs =
-    let a = c .before .before .before .before .before .before .before .before .before .before .args in
-    let f = c .before .before .before .before .before .before .before .before .before .before .fits in
-    let w = c .before .before .before .before .before .before .before .put-word .ensures in
-    let r = c .before .before .before .put-number .ensures in
-    omega (
-      arith,
-      word-most (a .closing),
-      long-number (a .read) space (omega arith),
-      long-number (a .done) newline (omega arith),
-      puts-length w,
-      w .next,
-      puts-length r,
-      r .next,
-    )
+    let w = c .before .before .before .before .before .before .before in
+    omega (arith, word-most (w .before .before .before .args .closing), w .put-word .ensures .next)
 
 same-length : tie.Need-same-length
 same-length c = search needs
@@ -40,8 +26,9 @@ same-length c = search needs
 returns : tie.Need-returns
 unfolding closingLineOf spaced
 returns c =
-    and-then _ _ (c .before .before .before .before .before .before .before .before .before .before .put-word .ensures)
-    (and-then _ _ (c .before .before .before .before .before .before .put-number .ensures) (c .before .before .put-number2 .ensures))
+    let done = c .before .before in
+    let read = done .before .before .before .before in
+    and-then _ _ (read .before .before .before .before .put-word .ensures) (and-then _ _ (read .put-number .ensures .0) (done .put-number2 .ensures .0))
 
 pub put-closing-spec : {M : Type 1} → statement M
 put-closing-spec =

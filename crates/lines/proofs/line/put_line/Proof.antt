@@ -1,41 +1,21 @@
--- `lines::line::put_line` meets its contract: five numbers, each where the one before it ended.
+-- `lines::line::put_line` meets its contract: each number where the one before it ended.
 use borrow.Author.Needs.{needs}
-use native.Mathlib.Omega.{arith}
-use Rattle.lines.specs.Lines.{space, newline, spaced}
-use Rattle.lines.proofs.Puts.{and-then, puts-length}
-use Rattle.lines.proofs.Widths.{short-number}
+use Rattle.text.specs.Numbers.{spaced}
+use Rattle.text.proofs.Puts.{and-then}
 use Rattle.lines.proofs.line.put_line.Statement.{statement}
 use Rattle.lines.proofs.line.put_line.Tie as tie
 
-put-number-requires : tie.Need-put-number-requires
-put-number-requires c κs =
-    let a = c .before .before .args in
-    let f = c .before .before .fits in
-    omega (arith, short-number (a .serial) space (omega arith))
+put-short-requires : tie.Need-put-short-requires
+put-short-requires c κs = search needs
 
-put-number-requires-2 : tie.Need-put-number-requires-2
-put-number-requires-2 c κs =
-    let a = c .before .before .before .before .before .before .args in
-    let f = c .before .before .before .before .before .before .fits in
-    omega (arith, short-number (a .serial) space (omega arith), short-number (a .code) space (omega arith), c .before .before .before .put-number .ensures .next, puts-length (c .before .before .before .put-number .ensures))
+put-short-requires-2 : tie.Need-put-short-requires-2
+put-short-requires-2 c κs = search needs
 
-put-number-requires-3 : tie.Need-put-number-requires-3
-put-number-requires-3 c κs =
-    let a = c .before .before .before .before .before .before .before .before .before .before .args in
-    let f = c .before .before .before .before .before .before .before .before .before .before .fits in
-    omega (arith, short-number (a .serial) space (omega arith), short-number (a .code) space (omega arith), short-number (a .account) space (omega arith), c .before .before .before .before .before .before .before .put-number .ensures .next, puts-length (c .before .before .before .before .before .before .before .put-number .ensures), c .before .before .before .put-number2 .ensures .next, puts-length (c .before .before .before .put-number2 .ensures))
+put-short-requires-3 : tie.Need-put-short-requires-3
+put-short-requires-3 c κs = search needs
 
-put-number-requires-4 : tie.Need-put-number-requires-4
-put-number-requires-4 c κs =
-    let a = c .before .before .before .before .before .before .before .before .before .before .before .before .before .before .args in
-    let f = c .before .before .before .before .before .before .before .before .before .before .before .before .before .before .fits in
-    omega (arith, short-number (a .serial) space (omega arith), short-number (a .code) space (omega arith), short-number (a .account) space (omega arith), short-number (a .refusal) space (omega arith), c .before .before .before .before .before .before .before .before .before .before .before .put-number .ensures .next, puts-length (c .before .before .before .before .before .before .before .before .before .before .before .put-number .ensures), c .before .before .before .before .before .before .before .put-number2 .ensures .next, puts-length (c .before .before .before .before .before .before .before .put-number2 .ensures), c .before .before .before .put-number3 .ensures .next, puts-length (c .before .before .before .put-number3 .ensures))
-
-put-number-requires-5 : tie.Need-put-number-requires-5
-put-number-requires-5 c κs =
-    let a = c .before .before .before .before .before .before .before .before .before .before .before .before .before .before .before .before .before .before .args in
-    let f = c .before .before .before .before .before .before .before .before .before .before .before .before .before .before .before .before .before .before .fits in
-    omega (arith, short-number (a .serial) space (omega arith), short-number (a .code) space (omega arith), short-number (a .account) space (omega arith), short-number (a .refusal) space (omega arith), short-number (a .given) newline (omega arith), c .before .before .before .before .before .before .before .before .before .before .before .before .before .before .before .put-number .ensures .next, puts-length (c .before .before .before .before .before .before .before .before .before .before .before .before .before .before .before .put-number .ensures), c .before .before .before .before .before .before .before .before .before .before .before .put-number2 .ensures .next, puts-length (c .before .before .before .before .before .before .before .before .before .before .before .put-number2 .ensures), c .before .before .before .before .before .before .before .put-number3 .ensures .next, puts-length (c .before .before .before .before .before .before .before .put-number3 .ensures), c .before .before .before .put-number4 .ensures .next, puts-length (c .before .before .before .put-number4 .ensures))
+put-end-requires : tie.Need-put-end-requires
+put-end-requires c κs = search needs
 
 same-length : tie.Need-same-length
 same-length c = search needs
@@ -43,19 +23,20 @@ same-length c = search needs
 returns : tie.Need-returns
 unfolding spaced
 returns c =
-    and-then _ _ (c .before .before .before .before .before .before .before .before .before .before .before .before .before .before .before .before .before .before .put-number .ensures)
-    (and-then _ _ (c .before .before .before .before .before .before .before .before .before .before .before .before .before .before .put-number2 .ensures)
-    (and-then _ _ (c .before .before .before .before .before .before .before .before .before .before .put-number3 .ensures)
-    (and-then _ _ (c .before .before .before .before .before .before .put-number4 .ensures) (c .before .before .put-number5 .ensures))))
+    let last = c .before .before in
+    let third = last .before .before .before .before in
+    let second = third .before .before .before .before in
+    let first = second .before .before .before .before in
+    and-then _ _ (first .put-short .ensures .0)
+    (and-then _ _ (second .put-short2 .ensures .0) (and-then _ _ (third .put-short3 .ensures .0) (last .put-end .ensures)))
 
 pub put-line-spec : {M : Type 1} → statement M
 put-line-spec =
     tie.close
     (tie.spec
-    put-number-requires
-    put-number-requires-2
-    put-number-requires-3
-    put-number-requires-4
-    put-number-requires-5
+    put-short-requires
+    put-short-requires-2
+    put-short-requires-3
+    put-end-requires
     same-length
     returns)

@@ -2,19 +2,19 @@
 use mathlib.Core.Path.{_≡_}
 use Prim.Native.Nat.{ℕ, _-_, _≤_}
 use native.Mathlib.Omega.{arith}
-use Rattle.lines.proofs.Puts.{puts-length}
-use Rattle.lines.proofs.Turns.{Lines, none, line-more}
+use Rattle.text.proofs.Puts.{puts-length}
+use Rattle.lines.proofs.Turns.{Lines, lines-start, line-more}
 use Rattle.lines.proofs.line.put_lines.Statement.{statement}
 use Rattle.lines.proofs.line.put_lines.Tie as tie
 
 abbrev Inv-loop : tie.InvT-loop
-Inv-loop room₀ told count at₀ i₀ room at i = Lines room₀ told room at i × (i ≤ count)
+Inv-loop room₀ numbers count at₀ i₀ room at i = Lines room₀ numbers room at i × (i ≤ count)
 
 abbrev μ-loop : tie.MeasureT-loop
-μ-loop room₀ told count at₀ i₀ room at i = count - i
+μ-loop room₀ numbers count at₀ i₀ room at i = count - i
 
 loop-holds : tie.Need-loop-holds Inv-loop μ-loop
-loop-holds c = (none _ _, omega arith)
+loop-holds c = (lines-start _ _, omega arith)
 
 mul-k : tie.Need-mul-k Inv-loop μ-loop
 mul-k c = omega arith

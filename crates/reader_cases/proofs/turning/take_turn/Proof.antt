@@ -48,10 +48,10 @@ use borrow.Table.OneValue.{part-in, part-out}
 use Rattle.dayfile.specs.declared.Read.{Read}
 use Rattle.dayfile.specs.declared.reader.Reader.{Reader}
 use Rattle.dayfile.specs.Reading.{placeAfter}
-use Rattle.dayfile.specs.Reader.{startOf, seenBy, movedTo}
+use Rattle.dayfile.specs.Reader.{startOf, readBy, movedTo}
 use Rattle.dayfile.proofs.Read as Answer
 use Rattle.dayfile.proofs.Read.Laws as Answer′
-use Rattle.dayfile.proofs.ReaderCall.{answered}
+use Rattle.dayfile.proofs.ReaderCall.{call-answered}
 use Rattle.dayfile.proofs.reader.Reader as T
 use Rattle.dayfile.proofs.reader.Reader.Laws as T′
 use Rattle.dayfile.proofs.reader.new as new
@@ -110,13 +110,13 @@ module _ {M : Type 1} (𝓤 : URA M) (H : Heap 𝓤) (A : Atoms 𝓤) (W : Given
   h = movedTo (startOf s) p
 
   abbrev h′ : Reader
-  h′ = movedTo h (placeAfter (seenBy h) p)
+  h′ = movedTo h (placeAfter (readBy h) p)
 
   abbrev OwnAt : Reader → Fml
   OwnAt r = B .own r (T′.lowered r ∷ [])
 
   abbrev answerVal : Val
-  answerVal = EL.val Answer.the-type Answer′.the-laws (seenBy h)
+  answerVal = EL.val Answer.the-type Answer′.the-laws (readBy h)
 
   abbrev turn : Turn
   turn = turnOf (s .now) p
@@ -140,7 +140,7 @@ module _ {M : Type 1} (𝓤 : URA M) (H : Heap 𝓤) (A : Atoms 𝓤) (W : Given
 
   gives-new : (u : Val) → ent 𝓤 (New 𝓤 H A at-mem run .post to-new u) (H .⇛ (sep 𝓤 (sem 𝓤 H A (B .own (startOf s) (u ∷ []))) (sep 𝓤 (A .lft κ q) (emp 𝓤))))
   gives-new =
-      answered 𝓤 H A W B (startOf s) (sep 𝓤 (A .lft κ q) (emp 𝓤)) (ensured 𝓤 H A new.ended (new.clauses 𝓤 H A at-mem run) (κ, tt) (s, tt) tt)
+      call-answered 𝓤 H A W B (startOf s) (sep 𝓤 (A .lft κ q) (emp 𝓤)) (ensured 𝓤 H A new.ended (new.clauses 𝓤 H A at-mem run) (κ, tt) (s, tt) tt)
       (λ r. exE 𝓤 _ (λ ws. snd∗ 𝓤 (sem 𝓤 H A (lasts new.ended (κ, tt) (s, tt) ws)) (fact 𝓤 (r ≡ startOf s))))
 
   -- the place is put
@@ -161,10 +161,10 @@ module _ {M : Type 1} (𝓤 : URA M) (H : Heap 𝓤) (A : Atoms 𝓤) (W : Given
       use2 W (raw (Peek 𝓤 H A at-mem run .pre to-peek))
       (qed W ((‵ (flft κ q) ⊛ ‵ ftrue) ∷ ‵ (owns (B ∷ []) (h, tt) (T′.lowered h ∷ [], tt)) ∷ []) ∵ join ! $ frame ! $ done !) $ frame ! $ done !
 
-  gives-peek : (u : Val) → ent 𝓤 (Peek 𝓤 H A at-mem run .post to-peek u) (H .⇛ (sep 𝓤 (sem 𝓤 H A (Answer.the-row .own (seenBy h) (u ∷ []))) (sep 𝓤 (A .lft κ q) (emp 𝓤))))
+  gives-peek : (u : Val) → ent 𝓤 (Peek 𝓤 H A at-mem run .post to-peek u) (H .⇛ (sep 𝓤 (sem 𝓤 H A (Answer.the-row .own (readBy h) (u ∷ []))) (sep 𝓤 (A .lft κ q) (emp 𝓤))))
   gives-peek =
-      answered 𝓤 H A W Answer.the-row (seenBy h) (sep 𝓤 (A .lft κ q) (emp 𝓤)) (ensured 𝓤 H A peek.ended (peek.clauses 𝓤 H A at-mem run) (κ, tt) (h, tt) tt)
-      (λ r. exE 𝓤 _ (λ ws. snd∗ 𝓤 (sem 𝓤 H A (lasts peek.ended (κ, tt) (h, tt) ws)) (fact 𝓤 (r ≡ seenBy h))))
+      call-answered 𝓤 H A W Answer.the-row (readBy h) (sep 𝓤 (A .lft κ q) (emp 𝓤)) (ensured 𝓤 H A peek.ended (peek.clauses 𝓤 H A at-mem run) (κ, tt) (h, tt) tt)
+      (λ r. exE 𝓤 _ (λ ws. snd∗ 𝓤 (sem 𝓤 H A (lasts peek.ended (κ, tt) (h, tt) ws)) (fact 𝓤 (r ≡ readBy h))))
 
   -- the two halves of the share of the piece's token
   abbrev q₁ : Share
@@ -213,24 +213,24 @@ module _ {M : Type 1} (𝓤 : URA M) (H : Heap 𝓤) (A : Atoms 𝓤) (W : Given
           nothing ! $ move ! (2 ∷ 0 ∷ []) $ fjoin ! $ move ! (1 ∷ 0 ∷ []) $ join ! $ frame ! $ done !
 
       told : (r : Read) → ent 𝓤 (ensured 𝓤 H A next.ended (next.clauses 𝓤 H A at-mem run) (a ∷ κ, (κ, tt)) (ref, tt) tt r)
-          (guard 𝓤 (r ≡ seenBy h) (A .res δ (B .coded .code h′)))
+          (guard 𝓤 (r ≡ readBy h) (A .res δ (B .coded .code h′)))
       told r = exE 𝓤 _ (λ ws.
-          qed W ((‵ (fres δ (B .coded .code (ws .0))) ⊛ ‵ ftrue) ∷ raw (fact 𝓤 (r ≡ seenBy h)) ∷ raw (fact 𝓤 (ws .0 ≡ movedTo h (placeAfter r p))) ∷ []) ∵
-          move ! (1 ∷ []) $ heard ! (r ≡ seenBy h) (λ e. move ! (1 ∷ []) $ heard ! (ws .0 ≡ movedTo h (placeAfter r p)) (λ e′. split ! $
+          qed W ((‵ (fres δ (B .coded .code (ws .0))) ⊛ ‵ ftrue) ∷ raw (fact 𝓤 (r ≡ readBy h)) ∷ raw (fact 𝓤 (ws .0 ≡ movedTo h (placeAfter r p))) ∷ []) ∵
+          move ! (1 ∷ []) $ heard ! (r ≡ readBy h) (λ e. move ! (1 ∷ []) $ heard ! (ws .0 ≡ movedTo h (placeAfter r p)) (λ e′. split ! $
           rewrite ! 0 (λ (y : Reader). ‵ (fres δ (B .coded .code y))) (e′ ∙ ap (λ (y : Read). movedTo h (placeAfter y p)) e) refl $ check ! e $ keep ! (0 ∷ []) $ done !)))
 
       gives-next : (u : Val) → ent 𝓤 (Next 𝓤 H A at-mem run .post to-next u)
-          (H .⇛ (sep 𝓤 (sem 𝓤 H A (Answer.the-row .own (seenBy h) (u ∷ []))) (sep 𝓤 (sep 𝓤 (A .lft (a ∷ κ) q₁) (sep 𝓤 (A .lft κ q₂) (emp 𝓤))) (A .res δ (B .coded .code h′)))))
+          (H .⇛ (sep 𝓤 (sem 𝓤 H A (Answer.the-row .own (readBy h) (u ∷ []))) (sep 𝓤 (sep 𝓤 (A .lft (a ∷ κ) q₁) (sep 𝓤 (A .lft κ q₂) (emp 𝓤))) (A .res δ (B .coded .code h′)))))
       gives-next u =
           qed W (raw (Next 𝓤 H A at-mem run .post to-next u) ∷ []) ∵ updating ! $
           use1 W (later (some (λ (r : Read). ((‵ (flft (a ∷ κ) q₁) ⊛ ‵ (flft κ q₂) ⊛ ‵ ftrue) ⊛ ‵ (Answer.the-row .own r (u ∷ []))) ⊛
           raw (ensured 𝓤 H A next.ended (next.clauses 𝓤 H A at-mem run) (a ∷ κ, (κ, tt)) (ref, tt) tt r)))) (id⊢ 𝓤 _) $ await ! tt $ pick ! (λ r. split ! $ move ! (1 ∷ []) $
-          use1 W (given (r ≡ seenBy h) (‵ (fres δ (B .coded .code h′)))) (told r) $ learn ! (λ e. move ! (1 ∷ []) $ split ! $ move ! (1 ∷ []) $
+          use1 W (given (r ≡ readBy h) (‵ (fres δ (B .coded .code h′)))) (told r) $ learn ! (λ e. move ! (1 ∷ []) $ split ! $ move ! (1 ∷ []) $
           rewrite ! 0 (λ (y : Read). ‵ (Answer.the-row .own y (u ∷ []))) e refl $ at-once ! $ frame ! $ done !))
 
   -- the answer's facts at the machine value that is returned for it
-  answer-is : (u : Val) → Is Answer.the-row (seenBy h) (u ∷ []) → Is Answer.the-row (seenBy h) (answerVal ∷ [])
-  answer-is u is = EL.owes Answer.the-type Answer′.the-laws (seenBy h) (EL.owed Answer.the-type Answer′.the-laws (seenBy h) _ is)
+  answer-is : (u : Val) → Is Answer.the-row (readBy h) (u ∷ []) → Is Answer.the-row (readBy h) (answerVal ∷ [])
+  answer-is u is = EL.owes Answer.the-type Answer′.the-laws (readBy h) (EL.owed Answer.the-type Answer′.the-laws (readBy h) _ is)
 
   exits : p < 2 ^ 64 → Is S.the-row turn (LL.vals S.the-type S′.the-laws turn)
       → ent 𝓤 (⋆ 𝓤 H A ((‵ (flft κ q) ⊛ ‵ ftrue) ∷ ‵ Own ∷ [])) (Post (LL.val S.the-type S′.the-laws turn))
@@ -268,11 +268,11 @@ module _ {M : Type 1} (𝓤 : URA M) (H : Heap 𝓤) (A : Atoms 𝓤) (W : Given
         assigns ! (of-opd ! (load ! (from ! (stop !)) (look ! 13 refl))) (from ! (stop !)) (store ! 7 refl (tt, (wt .1, (record { fits = fits }, tt)))) $
         use2 W (raw (Peek 𝓤 H A at-mem run .pre to-peek) ⊛ ‵ (OwnAt h)) goes-peek $ split ! $
         calls-at ! fm (Peek 𝓤 H A at-mem run) known-peek to-peek (and-then ! (load ! (from ! (stop !)) (look ! 7 refl)) (no-more !)) (λ u₁.
-        use1 W (later (‵ (Answer.the-row .own (seenBy h) (u₁ ∷ [])) ⊛ (‵ (flft κ q) ⊛ ‵ ftrue))) (gives-peek u₁) $ await ! tt $ split ! $
-        peeks ! Answer.the-row (Is Answer.the-row) (shows 𝓤 H A Answer.the-row) (seenBy h) (u₁ ∷ []) (λ is₁. drop ! $
+        use1 W (later (‵ (Answer.the-row .own (readBy h) (u₁ ∷ [])) ⊛ (‵ (flft κ q) ⊛ ‵ ftrue))) (gives-peek u₁) $ await ! tt $ split ! $
+        peeks ! Answer.the-row (Is Answer.the-row) (shows 𝓤 H A Answer.the-row) (readBy h) (u₁ ∷ []) (λ is₁. drop ! $
         -- [the token; what the reader owns; what the piece owns; _8; …; _7; …; _6; …; _5; …; room for _4; …; _3; …]
-        land ! (from ! (stop !)) (init ! 11 refl (EL.lawful Answer.the-type Answer′.the-laws 𝓤 H A W tt .typed (seenBy h) _ is₁ .0)) $
-        rewrite ! 11 (λ (w : Val). ‵ (fat fullShare Answer′.mir l₄ 0 w)) (ap only (EL.tells Answer.the-type Answer′.the-laws (seenBy h) _ is₁)) refl $
+        land ! (from ! (stop !)) (init ! 11 refl (EL.lawful Answer.the-type Answer′.the-laws 𝓤 H A W tt .typed (readBy h) _ is₁ .0)) $
+        rewrite ! 11 (λ (w : Val). ‵ (fat fullShare Answer′.mir l₄ 0 w)) (ap only (EL.tells Answer.the-type Answer′.the-laws (readBy h) _ is₁)) refl $
         assigns ! (addr ! (from ! (stop !))) (from ! (stop !)) (init ! 5 refl (tt, tt)) $
         -- the local is lent for a new lifetime
         move ! (13 ∷ 1 ∷ []) $ use2 W (‵ (partAt B fullShare h l₃ 0)) (part-in 𝓤 H A W B refl fullShare h l₃ 0 (T′.lowered h)) $
@@ -282,11 +282,11 @@ module _ {M : Type 1} (𝓤 : URA M) (H : Heap 𝓤) (A : Atoms 𝓤) (W : Given
         await ! tt $ pick ! (λ δ. split ! $ move ! (2 ∷ 0 ∷ []) $ use2 W (raw (Next 𝓤 H A at-mem run .pre (to-next a l₃ δ))) (goes-next a l₃ δ) $
         -- [what `next` asks; the lender's part; the way back; what the piece owns; _8; …; _7; …; _6; …; _5; …; _4; …; what frees _3; _2; …]
         calls-at ! fm (Next 𝓤 H A at-mem run) known-next (to-next a l₃ δ) (and-then ! (load ! (from ! (stop !)) (look ! 6 refl)) (no-more !)) (λ u₂.
-        use1 W (later (‵ (Answer.the-row .own (seenBy h) (u₂ ∷ [])) ⊛ (‵ (flft (a ∷ κ) q₁) ⊛ ‵ (flft κ q₂) ⊛ ‵ ftrue) ⊛ ‵ (fres δ (B .coded .code h′)))) (gives-next a l₃ δ u₂) $
-        await ! tt $ split ! $ peeks ! Answer.the-row (Is Answer.the-row) (shows 𝓤 H A Answer.the-row) (seenBy h) (u₂ ∷ []) (λ is₂. drop ! $ split ! $
+        use1 W (later (‵ (Answer.the-row .own (readBy h) (u₂ ∷ [])) ⊛ (‵ (flft (a ∷ κ) q₁) ⊛ ‵ (flft κ q₂) ⊛ ‵ ftrue) ⊛ ‵ (fres δ (B .coded .code h′)))) (gives-next a l₃ δ u₂) $
+        await ! tt $ split ! $ peeks ! Answer.the-row (Is Answer.the-row) (shows 𝓤 H A Answer.the-row) (readBy h) (u₂ ∷ []) (λ is₂. drop ! $ split ! $
         -- [the tokens; the last value; the lender's part; the way back; what the piece owns; _8; …; _7; …; _6; …; room for _5; …]
-        land ! (from ! (stop !)) (init ! 11 refl (EL.lawful Answer.the-type Answer′.the-laws 𝓤 H A W tt .typed (seenBy h) _ is₂ .0)) $
-        rewrite ! 11 (λ (w : Val). ‵ (fat fullShare Answer′.mir l₅ 0 w)) (ap only (EL.tells Answer.the-type Answer′.the-laws (seenBy h) _ is₂)) refl $
+        land ! (from ! (stop !)) (init ! 11 refl (EL.lawful Answer.the-type Answer′.the-laws 𝓤 H A W tt .typed (readBy h) _ is₂ .0)) $
+        rewrite ! 11 (λ (w : Val). ‵ (fat fullShare Answer′.mir l₅ 0 w)) (ap only (EL.tells Answer.the-type Answer′.the-laws (readBy h) _ is₂)) refl $
         move ! (0 ∷ 3 ∷ []) $ use2 W (‵ (flft (a ∷ []) fullShare) ⊛ (‵ (flft κ q) ⊛ ‵ ftrue)) (longer a) $ split ! $
         lft-end ! tt $ use1 W (‵ (fdead (a ∷ κ))) (W .lfts .dead-incl (a ∷ κ) (a ∷ []) (λ x m. mem-append-left κ m)) $
         move ! (0 ∷ 3 ∷ 2 ∷ []) $ use3 W (later (‵ (partAt B fullShare h′ l₃ 0))) (ref-back 𝓤 H A W B (a ∷ κ) δ h′ l₃ 0) $ await ! tt $

@@ -4,7 +4,7 @@ use mathlib.Core.List.{List, _++_}
 use mathlib.Core.Path.{_≡_, refl, ap, _∙_}
 use Prim.Native.Nat.{ℕ, zero, suc, _≤_}
 use native.Mathlib.Omega.{arith}
-use Rattle.lines.proofs.Puts.{and-then}
+use Rattle.text.proofs.Puts.{and-then}
 use Rattle.report.specs.Reports.{accounts, listed, totalWord, refusedWord, wordLine, lossLines, closeOutText}
 use Rattle.report.proofs.loss.put_close_out.Statement.{statement}
 use Rattle.report.proofs.loss.put_close_out.Tie as tie

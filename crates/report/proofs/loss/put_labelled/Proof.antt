@@ -1,7 +1,7 @@
 -- `report::loss::put_labelled` meets its contract.
 use borrow.Author.Needs.{needs}
-use Rattle.lines.specs.Lines.{spaced}
-use Rattle.lines.proofs.Puts.{and-then}
+use Rattle.text.specs.Numbers.{spaced}
+use Rattle.text.proofs.Puts.{and-then}
 use Rattle.report.proofs.loss.put_labelled.Statement.{statement}
 use Rattle.report.proofs.loss.put_labelled.Tie as tie
 

@@ -3,10 +3,9 @@ use mathlib.Core.Path.{_≡_}
 use Prim.Native.Nat.{_*_, _-_, _≤_}
 use native.Mathlib.Numerals.{add-one}
 use native.Mathlib.Omega.{arith}
-use Rattle.lines.specs.Inner.{Puts}
-use Rattle.lines.proofs.Puts.{and-then, puts-length}
+use Rattle.text.specs.Inner.{Puts}
+use Rattle.text.proofs.Puts.{puts-none, and-then, puts-length}
 use Rattle.report.specs.Reports.{lossLine, lossLines}
-use Rattle.report.proofs.Puts.{none}
 use Rattle.report.proofs.loss.put_losses.Statement.{statement}
 use Rattle.report.proofs.loss.put_losses.Tie as tie
 
@@ -18,7 +17,7 @@ abbrev μ-loop : tie.MeasureT-loop
 
 loop-holds : tie.Need-loop-holds Inv-loop μ-loop
 unfolding lossLines
-loop-holds c = (none _ _ (omega arith) (omega arith), omega arith, omega arith)
+loop-holds c = (puts-none _ _ (omega arith) (omega arith), omega arith, omega arith)
 
 mul-k : tie.Need-mul-k Inv-loop μ-loop
 mul-k c = omega arith

@@ -5,10 +5,9 @@ use Prim.Native.Nat.{ℕ, _*_, _-_, _≤_}
 use native.Mathlib.Numerals.{add-one}
 use native.Mathlib.Omega.{arith}
 use lib.ListN.{length, getD}
-use Rattle.lines.specs.Inner.{Puts}
-use Rattle.lines.proofs.Puts.{and-then, puts-length}
+use Rattle.text.specs.Inner.{Puts}
+use Rattle.text.proofs.Puts.{puts-none, and-then, puts-length}
 use Rattle.report.specs.Reports.{needLines}
-use Rattle.report.proofs.Puts.{none}
 use Rattle.report.proofs.need.put_list.Statement.{statement}
 use Rattle.report.proofs.need.put_list.Tie as tie
 
@@ -27,7 +26,7 @@ put c = c .before .before
 
 loop-holds : tie.Need-loop-holds Inv-loop μ-loop
 unfolding needLines
-loop-holds c = (none _ _ (omega arith) (omega arith), omega arith, omega arith)
+loop-holds c = (puts-none _ _ (omega arith) (omega arith), omega arith, omega arith)
 
 mul-need : tie.Need-mul-need Inv-loop μ-loop
 mul-need c = omega arith

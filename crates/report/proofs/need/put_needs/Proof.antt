@@ -8,7 +8,7 @@ use lib.ListN.{length, take, drop, getD, length-append, length-replicate}
 use lib.Seq.{length-take-le, take-append-seam}
 use Rattle.table.specs.Words.{turnedBack}
 use Rattle.report.specs.Reports.{accounts, needLines}
-use Rattle.report.proofs.Puts.{none}
+use Rattle.text.proofs.Puts.{puts-none}
 use Rattle.report.proofs.NeedLines.{refused-text, given-text}
 use Rattle.report.proofs.need.put_needs.Statement.{statement}
 use Rattle.report.proofs.need.put_needs.Tie as tie
@@ -65,7 +65,7 @@ returns : tie.Need-returns
 returns c =
     let g = c .before .before in
     let z = zeroed g in
-    rw (refused-text (turnedBack (start z .args .t)) _ (placed z) (λ e. c .if1 .taken (g .needs2 .ensures .0 ∙ e))) (none _ _ refl (omega arith))
+    rw (refused-text (turnedBack (start z .args .t)) _ (placed z) (λ e. c .if1 .taken (g .needs2 .ensures .0 ∙ e))) (puts-none _ _ refl (omega arith))
 
 array-share-prefix-needs : tie.Need-array-share-prefix-needs
 array-share-prefix-needs c = fits (c .before .before .before)

@@ -1,7 +1,7 @@
 -- `report::standing::put_standing` meets its contract: each part where the one before it ended.
 use borrow.Author.Needs.{needs}
 use native.Mathlib.Omega.{arith}
-use Rattle.lines.proofs.Puts.{and-then}
+use Rattle.text.proofs.Puts.{and-then}
 use Rattle.report.specs.Reports.{standingLine}
 use Rattle.report.proofs.standing.put_standing.Statement.{statement}
 use Rattle.report.proofs.standing.put_standing.Tie as tie

@@ -6,10 +6,9 @@ use native.Mathlib.Numerals.{add-one}
 use native.Mathlib.Omega.{arith}
 use Rattle.table.specs.Words.{turnedBack}
 use Rattle.table.proofs.Gathered.{row-in}
-use Rattle.lines.specs.Inner.{Puts}
-use Rattle.lines.proofs.Puts.{and-then, puts-length}
+use Rattle.text.specs.Inner.{Puts}
+use Rattle.text.proofs.Puts.{puts-none, and-then, puts-length}
 use Rattle.report.specs.Reports.{standingLines}
-use Rattle.report.proofs.Puts.{none}
 use Rattle.report.proofs.standing.put_standings.Statement.{statement}
 use Rattle.report.proofs.standing.put_standings.Tie as tie
 
@@ -21,7 +20,7 @@ abbrev μ-loop : tie.MeasureT-loop
 
 loop-holds : tie.Need-loop-holds Inv-loop μ-loop
 unfolding standingLines
-loop-holds c = (none _ _ (omega arith) (omega arith), omega arith, omega arith)
+loop-holds c = (puts-none _ _ (omega arith) (omega arith), omega arith, omega arith)
 
 cast-standing : tie.Need-cast-standing Inv-loop μ-loop
 cast-standing c = omega arith

@@ -1,7 +1,17 @@
 -- `rows::modes::look` meets its contract.
+use mathlib.Core.Bool.{true, false, _||_}
+use mathlib.Core.Path.{_≡_}
+use lib.Dec.{eqb}
 use borrow.Author.Needs.{needs}
+use borrow.Author.Tests.{not-true, not-false}
 use Rattle.rows.proofs.modes.look.Statement.{statement}
 use Rattle.rows.proofs.modes.look.Tie as tie
+
+returns : tie.Need-returns
+returns c =
+    let a = c .before .before .args in
+    let e : (eqb (a .i) 0 || eqb (a .a .sort) 1) ≡ false = not-true _ (c .if1 .taken) in
+    rw e
 
 mul-used : tie.Need-mul-used
 mul-used c = search needs
@@ -12,8 +22,12 @@ add-used c = search needs
 mode-after-requires : tie.Need-mode-after-requires
 mode-after-requires c κs = search needs
 
-returns : tie.Need-returns
-returns c = rw (c .mode-after .ensures)
+returns-2 : tie.Need-returns-2
+returns-2 c =
+    let n = c .before .before in
+    let a = n .before .before .args in
+    let e : (eqb (a .i) 0 || eqb (a .a .sort) 1) ≡ true = not-false _ (n .if1 .left) in
+    rw e (c .mode-after .ensures)
 
 pub look-spec : {M : Type 1} → statement M
-look-spec = tie.close (tie.spec mul-used add-used mode-after-requires returns)
+look-spec = tie.close (tie.spec returns mul-used add-used mode-after-requires returns-2)

@@ -2,7 +2,7 @@
 use contract.Running.{givenOf, tables, tablesOf}
 use denote.Triple.Spec.{tripleOf}
 use denote.Triple.Table.{entered}
-use Rattle.rows.proofs.SetterWalk.{truth, setter-meets}
+use Rattle.rows.proofs.SetterWalk.{value-of-truth, setter-meets}
 use Rattle.rows.proofs.SetterFields.{live}
 use Rattle.rows.proofs.setters.set_live.Key.{name}
 use Rattle.rows.proofs.setters.set_live as f
@@ -14,4 +14,4 @@ unfolding sort.routine tablesOf
 set-live-spec 𝓤 H 𝓜 𝓖 𝓡 =
     entered 𝓤 H (tripleOf 𝓤 H (𝓖 .A) f.signature (f.spec 𝓤 H (𝓖 .A) (𝓜 .mem) (𝓡 .run)))
     (tables 𝓤 H 𝓜 𝓡 sort.env .C) (tables 𝓤 H 𝓜 𝓡 sort.env .Λ) name sort.function (sort.unfolded 𝓤 H 𝓜 𝓡)
-    (setter-meets truth live 𝓤 H (𝓖 .A) (givenOf 𝓤 H 𝓜 𝓖) (tablesOf 𝓤 H 𝓜 (tables 𝓤 H 𝓜 𝓡 sort.env)))
+    (setter-meets value-of-truth live 𝓤 H (𝓖 .A) (givenOf 𝓤 H 𝓜 𝓖) (tablesOf 𝓤 H 𝓜 (tables 𝓤 H 𝓜 𝓡 sort.env)))

@@ -4,7 +4,7 @@ use denote.Triple.Spec.{tripleOf}
 use denote.Triple.Table.{entered, cited}
 use denote.Builtin.{u64}
 use Rattle.rows.specs.Rows.{withMargin}
-use Rattle.rows.proofs.SetterWalk.{number}
+use Rattle.rows.proofs.SetterWalk.{value-of-number}
 use Rattle.rows.proofs.LentCopyWalk.{Setting, with-meets}
 use Rattle.rows.proofs.setters.set_margin.Symbol as setter
 use Rattle.rows.proofs.setters.set_margin.Met.{met}
@@ -18,5 +18,5 @@ unfolding sort.routine tablesOf
 with-margin-spec 𝓤 H 𝓜 𝓖 𝓡 =
     entered 𝓤 H (tripleOf 𝓤 H (𝓖 .A) f.signature (f.spec 𝓤 H (𝓖 .A) (𝓜 .mem) (𝓡 .run)))
     (tables 𝓤 H 𝓜 𝓡 sort.env .C) (tables 𝓤 H 𝓜 𝓡 sort.env .Λ) name sort.function (sort.unfolded 𝓤 H 𝓜 𝓡)
-    (with-meets withMargin setter.name number 𝓤 H (𝓖 .A) (givenOf 𝓤 H 𝓜 𝓖) (tablesOf 𝓤 H 𝓜 (tables 𝓤 H 𝓜 𝓡 sort.env))
+    (with-meets withMargin setter.name value-of-number 𝓤 H (𝓖 .A) (givenOf 𝓤 H 𝓜 𝓖) (tablesOf 𝓤 H 𝓜 (tables 𝓤 H 𝓜 𝓡 sort.env))
     (cited 𝓤 H (Setting u64 withMargin 𝓤 H (𝓖 .A)) 𝓜 𝓡 sort.env setter.name setter.routine sort.calls-rows·setters·set-margin (met 𝓤 H 𝓜 𝓖 𝓡)))

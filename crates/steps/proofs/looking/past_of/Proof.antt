@@ -22,14 +22,14 @@ cast-t c = search needs
 account-in-requires-2 : tie.Need-account-in-requires-2
 account-in-requires-2 c κs = (c .before .before .before .pre, low (c .before))
 
-under-at-requires : tie.Need-under-at-requires
-under-at-requires c κs = c .before .before .before .slot .ensures .inside
+deemed-under-at-requires : tie.Need-deemed-under-at-requires
+deemed-under-at-requires c κs = c .before .before .before .slot .ensures .inside
 
-under-at-requires-2 : tie.Need-under-at-requires-2
-under-at-requires-2 c κs = low (c .before .before .before)
+deemed-under-at-requires-2 : tie.Need-deemed-under-at-requires-2
+deemed-under-at-requires-2 c κs = low (c .before .before .before)
 
-under-at-requires-3 : tie.Need-under-at-requires-3
-under-at-requires-3 c κs = omega arith
+deemed-under-at-requires-3 : tie.Need-deemed-under-at-requires-3
+deemed-under-at-requires-3 c κs = omega arith
 
 returns : tie.Need-returns
 returns c =
@@ -41,12 +41,12 @@ returns c =
       named = g .named;
       own = own .account-in .ensures;
       its = its .account-in2 .ensures;
-      under = c .before .before .under-at .ensures;
-      owed = c .before .under-at2 .ensures;
-      all = c .under-at3 .ensures;
+      under = c .before .before .deemed-under-at .ensures;
+      clients = c .before .deemed-under-at2 .ensures;
+      all = c .deemed-under-at3 .ensures;
     }
 
 pub past-of-spec : {M : Type 1} → statement M
 past-of-spec =
     tie.close
-    (tie.spec slot-requires account-in-requires cast-t account-in-requires-2 under-at-requires under-at-requires-2 under-at-requires-3 returns)
+    (tie.spec slot-requires account-in-requires cast-t account-in-requires-2 deemed-under-at-requires deemed-under-at-requires-2 deemed-under-at-requires-3 returns)

@@ -1,4 +1,4 @@
--- `table::evening::amount_sum` meets its contract.
+-- `table::evening::amount_sum` meets its contract. The invariant: the total is that of the accounts passed.
 use mathlib.Core.Path.{_≡_, refl, ap, _∙_}
 use Prim.Native.Nat.{_*_, _-_, _≤_}
 use native.Mathlib.Omega.{arith}

@@ -1,4 +1,4 @@
--- `table::modes::look_all` meets its contract.
+-- `table::modes::look_all` meets its contract. The invariant: the accounts passed are looked at, and no other place is on (`Passed`).
 use mathlib.Core.Bool.{true}
 use mathlib.Core.Path.{_≡_, refl, _∙_}
 use Prim.Native.Nat.{_-_, _≤_, _<_}
@@ -14,10 +14,10 @@ use Rattle.table.proofs.modes.look_all.Statement.{statement}
 use Rattle.table.proofs.modes.look_all.Tie as tie
 
 abbrev Inv-loop : tie.InvT-loop
-Inv-loop sort tm w count used modes after₀ n i₀ after i = (n ≡ count) × (i ≤ n) × Passed (view (seenBook count sort tm w)) modes after i
+Inv-loop sort tm w count excess modes after₀ n i₀ after i = (n ≡ count) × (i ≤ n) × Passed (view (seenBook count sort tm w)) modes after i
 
 abbrev μ-loop : tie.MeasureT-loop
-μ-loop sort tm w count used modes after₀ n i₀ after i = n - i
+μ-loop sort tm w count excess modes after₀ n i₀ after i = n - i
 
 abbrev seen : tie.Start Inv-loop μ-loop → View
 seen c = view (seenBook (c .args .count) (c .args .sort .now) (c .args .tm .now) (c .args .w .now))
@@ -55,7 +55,7 @@ look-requires c κs =
       omega (
         arith,
         under-cap (inTenths (seen start)) 100_000_000_000_000 (bounded-in true (seenBook (a .count) (a .sort .now) (a .tm .now) (a .w .now)) (pre .0 .0))
-            (shaped-in true (pre .0 .1)) (a .used .now) (pre .1 .1) i,
+            (shaped-in true (pre .0 .1)) (a .excess .now) (pre .1 .1) i,
       ),
     )
 
@@ -79,7 +79,7 @@ loop-again c =
       refl,
       omega arith,
       pass-step v (a .modes .now) (l .after) (l .i) (c .look .result) (inside (account .before)) (l .inv .2)
-          (rw (account .account-at .ensures) at (c .look .ensures) ∙ look-by v (pre .0 .1) (a .used .now) (pre .1 .1) (a .modes .now) (l .i) (omega arith)),
+          (rw (account .account-at .ensures) at (c .look .ensures) ∙ look-by v (pre .0 .1) (a .excess .now) (pre .1 .1) (a .modes .now) (l .i) (omega arith)),
     )
 
 returns : tie.Need-returns Inv-loop μ-loop

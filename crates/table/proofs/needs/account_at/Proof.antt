@@ -1,4 +1,4 @@
--- `table::needs::account_at` meets its contract.
+-- `table::needs::account_at` meets its contract: the account's words are in range, so that its collateral fits a word.
 use mathlib.Core.List.{[]}
 use native.Mathlib.Omega.{arith}
 use borrow.Author.Needs.{needs}

@@ -1,4 +1,4 @@
--- `table::needs::client_sums` meets its contract.
+-- `table::needs::client_sums` meets its contract. The invariant: each place has what its clients among the accounts passed are deemed, which fits a word.
 use mathlib.Core.Path.{_≡_, refl, sym, ap, subst, _∙_}
 use Prim.Native.Nat.{ℕ, _+_, _-_, _≤_, _<_}
 use native.Mathlib.Omega.{arith}
@@ -9,7 +9,7 @@ use Rattle.sums.specs.Sum.{only}
 use Rattle.rows.specs.declared.Account.{Account}
 use Rattle.rows.specs.View.{isClientOf, ownDeemed}
 use Rattle.rows.specs.Rows.{rowAt, accountOf, view}
-use Rattle.rows.specs.Under.{accountAt, clientDue}
+use Rattle.rows.specs.DeemedUnder.{accountAt, clientDue}
 use Rattle.rows.specs.Inner.{Slot, clientsBelow, accountAs, viewAs}
 use Rattle.rows.proofs.NeedSums.{clients-none, clients-step, due-most, due-at, add-at}
 use Rattle.rows.proofs.Bounds.{clients-most, bounded-in}
@@ -18,11 +18,11 @@ use Rattle.table.proofs.needs.client_sums.Statement.{statement}
 use Rattle.table.proofs.needs.client_sums.Tie as tie
 
 abbrev Inv-loop : tie.InvT-loop
-Inv-loop sort tm w count tenths owed₀ n i₀ owed i =
-    (n ≡ count) × (i ≤ n) × (length owed ≡ 256) × ((t : ℕ) → t < 256 → getD owed t 0 ≡ clientsBelow (viewAs tenths (view (seenBook count sort tm w))) t i)
+Inv-loop sort tm w count tenths under₀ n i₀ under i =
+    (n ≡ count) × (i ≤ n) × (length under ≡ 256) × ((t : ℕ) → t < 256 → getD under t 0 ≡ clientsBelow (viewAs tenths (view (seenBook count sort tm w))) t i)
 
 abbrev μ-loop : tie.MeasureT-loop
-μ-loop sort tm w count tenths owed₀ n i₀ owed i = n - i
+μ-loop sort tm w count tenths under₀ n i₀ under i = n - i
 
 loop-holds : tie.Need-loop-holds Inv-loop μ-loop
 loop-holds c =
@@ -46,14 +46,14 @@ slot-requires c κs = search needs
 client-due-requires : tie.Need-client-due-requires Inv-loop μ-loop
 client-due-requires c κs = search needs
 
-mul-owed : tie.Need-mul-owed Inv-loop μ-loop
-mul-owed c = omega (arith, c .before .slot .ensures .inside)
+mul-under : tie.Need-mul-under Inv-loop μ-loop
+mul-under c = omega (arith, c .before .slot .ensures .inside)
 
-element-copy-out-owed : tie.Need-element-copy-out-owed Inv-loop μ-loop
-element-copy-out-owed c = omega (arith, c .before .slot .ensures .inside)
+element-copy-out-under : tie.Need-element-copy-out-under Inv-loop μ-loop
+element-copy-out-under c = omega (arith, c .before .slot .ensures .inside)
 
-add-owed : tie.Need-add-owed Inv-loop μ-loop
-add-owed c =
+add-under : tie.Need-add-under Inv-loop μ-loop
+add-under c =
     let due = c .before in
     let at = due .before .before .before .before in
     let start = at .before in
@@ -71,11 +71,11 @@ add-owed c =
       bounded-in (a .tenths) b (start .pre .0) .margins i (omega arith),
     )
 
-mul-owed-2 : tie.Need-mul-owed-2 Inv-loop μ-loop
-mul-owed-2 c = omega (arith, c .before .before .slot .ensures .inside)
+mul-under-2 : tie.Need-mul-under-2 Inv-loop μ-loop
+mul-under-2 c = omega (arith, c .before .before .slot .ensures .inside)
 
-element-write-owed : tie.Need-element-write-owed Inv-loop μ-loop
-element-write-owed c = omega (arith, c .before .before .slot .ensures .inside)
+element-write-under : tie.Need-element-write-under Inv-loop μ-loop
+element-write-under c = omega (arith, c .before .before .slot .ensures .inside)
 
 add-i : tie.Need-add-i Inv-loop μ-loop
 add-i c = omega (arith, c .before .before .before .before .before .before .pre .0 .most)
@@ -90,7 +90,7 @@ loop-again c =
     let a = at .before .args in
     let b = seenBook (a .count) (a .sort .now) (a .tm .now) (a .w .now) in
     let i = at .loop .i in
-    let owed = at .loop .owed in
+    let under = at .loop .under in
     let s = due .before .slot .result in
     let d = due .client-due .result in
     let inside = due .before .slot .ensures .inside in
@@ -100,11 +100,11 @@ loop-again c =
     let is-slot : Slot (rowAt b i .tm) s = subst (λ (x : Account). Slot (x .tm) s) is-account (due .before .slot .ensures) in (
       refl,
       omega arith,
-      length-set owed s (getD owed s 0 + d) ∙ at .loop .inv .2,
+      length-set under s (getD under s 0 + d) ∙ at .loop .inv .2,
       λ t h.
           let due : only (isClientOf v t i) (ownDeemed v i) ≡ only (eqb s t) d =
           rw (is-due) (due-at (accountAt v i) s t h is-slot) in
-          omega (arith, add-at owed s d t (omega arith), at .loop .inv .3 t h, clients-step v t i),
+          omega (arith, add-at under s d t (omega arith), at .loop .inv .3 t h, clients-step v t i),
     )
 
 returns : tie.Need-returns Inv-loop μ-loop
@@ -125,11 +125,11 @@ client-sums-spec =
     account-as-requires
     slot-requires
     client-due-requires
-    mul-owed
-    element-copy-out-owed
-    add-owed
-    mul-owed-2
-    element-write-owed
+    mul-under
+    element-copy-out-under
+    add-under
+    mul-under-2
+    element-write-under
     add-i
     loop-less
     loop-again

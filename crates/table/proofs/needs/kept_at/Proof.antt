@@ -7,7 +7,7 @@ use borrow.Author.Tests.{le-leb, lt-leb, eq-eqb, ne-eqb}
 use Rattle.sums.proofs.Choices.{pick-yes, pick-no}
 use Rattle.rows.specs.Rows.{rowAt, accountOf}
 use Rattle.rows.specs.Facts.{InRange}
-use Rattle.rows.specs.Under.{needToKeep}
+use Rattle.rows.specs.DeemedUnder.{needToKeep}
 use Rattle.table.specs.Facts.{seenBook}
 use Rattle.table.proofs.needs.kept_at.Statement.{statement}
 use Rattle.table.proofs.needs.kept_at.Tie as tie

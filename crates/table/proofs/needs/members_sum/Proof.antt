@@ -1,4 +1,4 @@
--- `table::needs::members_sum` meets its contract.
+-- `table::needs::members_sum` meets its contract. The invariant: the sum is what the TMs and CPs among the accounts passed are deemed, which fits a word.
 use mathlib.Core.Path.{_≡_, refl, ap, _∙_}
 use Prim.Native.Nat.{ℕ, _-_, _≤_}
 use native.Mathlib.Omega.{arith}
@@ -6,7 +6,7 @@ use Rattle.rows.specs.declared.Account.{Account}
 use Rattle.rows.specs.declared.Book.{Book}
 use Rattle.rows.specs.View.{View}
 use Rattle.rows.specs.Rows.{view}
-use Rattle.rows.specs.Under.{accountAt, memberDue}
+use Rattle.rows.specs.DeemedUnder.{accountAt, memberDue}
 use Rattle.rows.specs.Inner.{clientsBelow, membersBelow, viewAs}
 use Rattle.rows.proofs.NeedSums.{members-none, members-step, member-most}
 use Rattle.rows.proofs.Bounds.{Bounded, members-most, clients-top, bounded-in}
@@ -15,10 +15,10 @@ use Rattle.table.proofs.needs.members_sum.Statement.{statement}
 use Rattle.table.proofs.needs.members_sum.Tie as tie
 
 abbrev Inv-loop : tie.InvT-loop
-Inv-loop sort tm w count tenths owed sum₀ n i₀ sum i = (n ≡ count) × (i ≤ n) × (sum ≡ membersBelow (viewAs tenths (view (seenBook count sort tm w))) i)
+Inv-loop sort tm w count tenths under sum₀ n i₀ sum i = (n ≡ count) × (i ≤ n) × (sum ≡ membersBelow (viewAs tenths (view (seenBook count sort tm w))) i)
 
 abbrev μ-loop : tie.MeasureT-loop
-μ-loop sort tm w count tenths owed sum₀ n i₀ sum i = n - i
+μ-loop sort tm w count tenths under sum₀ n i₀ sum i = n - i
 
 abbrev bookOf : tie.Start Inv-loop μ-loop → Book
 bookOf c = seenBook (c .args .count) (c .args .sort .now) (c .args .tm .now) (c .args .w .now)

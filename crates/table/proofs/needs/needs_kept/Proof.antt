@@ -1,4 +1,4 @@
--- `table::needs::needs_kept` meets its contract.
+-- `table::needs::needs_kept` meets its contract. The invariant: the flag is the test of the kept needs passed (K3).
 use mathlib.Core.Bool.{Bool, false, _&&_}
 use mathlib.Core.Path.{_≡_, refl, sym, ap, _∙_}
 use Prim.Native.Nat.{ℕ, _-_, _≤_}
@@ -29,8 +29,8 @@ seen c = view (seenBook (c .args .count) (c .args .sort .now) (c .args .tm .now)
 abbrev right : tie.Start Inv-loop μ-loop → ℕ → Bool
 right c j = eqb (getD (c .args .needs .now) j 0) (keptNeed (seen c) j)
 
-unders-requires : tie.Need-unders-requires Inv-loop μ-loop
-unders-requires c κs = (c .before .pre .0, c .before .pre .1, refl)
+deemed-under-requires : tie.Need-deemed-under-requires Inv-loop μ-loop
+deemed-under-requires c κs = (c .before .pre .0, c .before .pre .1, refl)
 
 loop-holds : tie.Need-loop-holds Inv-loop μ-loop
 loop-holds c = (omega arith, sym (all-none (right (c .before .before))))
@@ -56,7 +56,7 @@ kept-at-requires c κs =
       omega (
         arith,
         under-cap (seen start) ceiling (ranged-bounded (seenBook (a .count) (a .sort .now) (a .tm .now) (a .w .now)) (start .pre .0)) (start .pre .1)
-            _ (added .unders .ensures) (c .before .before .loop .i),
+            _ (added .deemed-under .ensures) (c .before .before .loop .i),
       ),
     )
 
@@ -75,7 +75,7 @@ loop-again c =
       omega arith,
       ap (λ x. x && eqb (getD (start .args .needs .now) i 0) (c .kept-at .result)) (at .loop .inv .1)
           ∙ ap (λ x. all i (right start) && eqb (getD (start .args .needs .now) i 0) x)
-          (c .kept-at .ensures ∙ kept-with (seen start) (start .pre .1) _ (added .unders .ensures) (start .pre .2) i)
+          (c .kept-at .ensures ∙ kept-with (seen start) (start .pre .1) _ (added .deemed-under .ensures) (start .pre .2) i)
           ∙ sym (all-step i (right start)),
     )
 
@@ -89,7 +89,7 @@ needs-kept-spec =
     (tie.spec
     Inv-loop
     μ-loop
-    unders-requires
+    deemed-under-requires
     loop-holds
     mul-ok
     element-copy-out-ok

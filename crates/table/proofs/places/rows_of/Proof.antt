@@ -1,4 +1,4 @@
--- `table::places::rows_of` meets its contract.
+-- `table::places::rows_of` meets its contract. The invariant: the rows passed are gathered.
 use mathlib.Core.Path.{_≡_, refl, sym, _∙_}
 use Prim.Native.Nat.{ℕ, _-_, _≤_, _<_}
 use native.Mathlib.Omega.{arith}

@@ -1,0 +1,115 @@
+//! Codes 4 to 10: amounts that come and go, refusals 10 to 13 and 17.
+
+use crate::book::{Book, CEILING};
+use crate::carry::Carried;
+use crate::kinds::Amounts;
+use crate::record::Record;
+use crate::refusal::Refusal;
+use crate::row::Row;
+
+fn more_than_unallocated(row: &Row, kinds: &impl Amounts) -> bool {
+    kinds.any(|kind, amount| amount > row.received[kind] - row.allocated[kind])
+}
+
+impl Book {
+    pub fn receive(&mut self, record: &Record, kinds: impl Amounts) -> Carried {
+        let number = self.live(record)?;
+        let row = self.row_mut(number);
+        if kinds.any(|kind, amount| row.received[kind] + amount > CEILING) {
+            return Err(Refusal::PastCeiling);
+        }
+        kinds.each(|kind, amount| row.received[kind] += amount);
+        Ok(0)
+    }
+
+    pub fn hand_back(&mut self, record: &Record, kinds: impl Amounts) -> Carried {
+        let number = self.live(record)?;
+        let row = self.row_mut(number);
+        if more_than_unallocated(row, &kinds) {
+            return Err(Refusal::MoreThanThere);
+        }
+        kinds.each(|kind, amount| row.received[kind] -= amount);
+        Ok(0)
+    }
+
+    pub fn allocate(&mut self, record: &Record, kinds: impl Amounts) -> Carried {
+        let number = self.live(record)?;
+        if more_than_unallocated(self.row(number), &kinds) {
+            return Err(Refusal::MoreThanThere);
+        }
+        self.change(number, |row| {
+            kinds.each(|kind, amount| row.allocated[kind] += amount);
+            row.collateral += kinds.sum();
+        });
+        Ok(0)
+    }
+
+    /// 11 looks at each kind, 12 at "its kinds added up".
+    pub fn release(&mut self, record: &Record, kinds: impl Amounts) -> Carried {
+        let number = self.live(record)?;
+        let row = self.row(number);
+        if kinds.any(|kind, amount| amount > row.allocated[kind]) {
+            return Err(Refusal::MoreThanThere);
+        }
+        may_take_out(row, kinds.sum())?;
+        self.change(number, |row| {
+            kinds.each(|kind, amount| row.allocated[kind] -= amount);
+            row.collateral -= kinds.sum();
+        });
+        Ok(0)
+    }
+
+    pub fn pledge(&mut self, record: &Record, amount: u64) -> Carried {
+        let number = self.live(record)?;
+        if self.row(number).pledged + amount > CEILING {
+            return Err(Refusal::PastCeiling);
+        }
+        self.change(number, |row| {
+            row.pledged += amount;
+            row.collateral += amount;
+        });
+        Ok(0)
+    }
+
+    pub fn unpledge(&mut self, record: &Record, amount: u64) -> Carried {
+        let number = self.live(record)?;
+        let row = self.row(number);
+        if amount > row.pledged {
+            return Err(Refusal::MoreThanThere);
+        }
+        may_take_out(row, amount)?;
+        self.change(number, |row| {
+            row.pledged -= amount;
+            row.collateral -= amount;
+        });
+        Ok(0)
+    }
+
+    /// Only "a rising margin" may meet 13 (K6); any other has a rise of 0 here,
+    /// which spares a branch that is hard to foresee.
+    pub fn set_margin(&mut self, record: &Record, margin: u64) -> Carried {
+        let number = self.live(record)?;
+        let was = self.row(number).margin;
+        let rise = margin.saturating_sub(was);
+        if self.cm_need_with(number, rise) > self.row(0).collateral {
+            return Err(Refusal::MarginUncovered);
+        }
+        self.change(number, |row| {
+            row.need = row.need - was + margin;
+            row.used = row.used - 10 * was + 10 * margin;
+            row.margin = margin;
+        });
+        Ok(0)
+    }
+}
+
+/// 17, then 12, of an amount that is there.
+fn may_take_out(row: &Row, amount: u64) -> Result<(), Refusal> {
+    if row.mode {
+        return Err(Refusal::KeptIn);
+    }
+    if amount > row.free() {
+        return Err(Refusal::MoreThanFree);
+    }
+    Ok(())
+}

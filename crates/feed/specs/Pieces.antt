@@ -1,0 +1,65 @@
+-- A day file that comes in pieces: one turn for each of them, a function of how far the day file is carried out and of the piece.
+use mathlib.Core.Bool.{false}
+use mathlib.Core.List.{List, [], _∷_, _++_}
+use Prim.Native.Nat.{ℕ, _+_, _-_, min}
+use lib.ListN.{drop}
+use Rattle.rows.specs.declared.Book.{Book}
+use Rattle.rows.specs.Rows.{freshBook}
+use Rattle.table.specs.Words.{turned}
+use Rattle.records.specs.declared.Ran.{Ran}
+use Rattle.records.specs.Runs.{ranOf}
+use Rattle.records.specs.LineNumbers.{answersOf}
+use Rattle.lines.specs.Lines.{linesOf}
+use Rattle.feed.specs.declared.Day.{Day}
+
+-- how far a day file is carried out: the book, the bytes that came and are not carried out yet, and the two counts
+pub record Stand : Type 0 where
+  pub book : Book
+  pub rest : List ℕ
+  pub read : ℕ
+  pub done : ℕ
+
+-- nothing came: "over a fresh book"
+abbrev pub atFirst : Stand
+atFirst = record { book = freshBook; rest = []; read = 0; done = 0 }
+
+-- how many records a turn carries out at most: those left of the million, and as many as their lines have room for
+abbrev pub turnMost : ℕ → ℕ
+turnMost read = min (1_000_000 - read) 640
+
+-- a turn: the records of what is left and of the piece behind it
+abbrev pub turnOf : Stand → List ℕ → Ran
+turnOf s piece = ranOf (s .book) (s .rest ++ piece) (turnMost (s .read))
+
+-- how far the day file is carried out after a turn
+abbrev pub standAfter : Stand → List ℕ → Stand
+standAfter s piece =
+    let r = turnOf s piece in
+    record { book = r .book; rest = drop (r .place) (s .rest ++ piece); read = s .read + r .read; done = s .done + r .done }
+
+-- the day that a turn ends
+abbrev pub dayBy : Stand → List ℕ → Day
+dayBy s piece =
+    let r = turnOf s piece in
+    record { table = turned (r .book); closing = r .closing; read = s .read + r .read; done = s .done + r .done; failed = false }
+
+-- the lines of a turn's records
+abbrev pub turnLines : Stand → List ℕ → List ℕ
+turnLines s piece = linesOf (answersOf (s .rest ++ piece) (turnMost (s .read)) (s .book) 0)
+
+-- after some pieces, the latest of which stands first in the list: how far the day file is carried out, all bytes that came, the place reached in them, and all lines
+unfoldable pub after : List (List ℕ) → Stand
+after [] = atFirst
+after (piece ∷ before) = standAfter (after before) piece
+
+unfoldable pub cameBy : List (List ℕ) → List ℕ
+cameBy [] = []
+cameBy (piece ∷ before) = cameBy before ++ piece
+
+unfoldable pub placeBy : List (List ℕ) → ℕ
+placeBy [] = 0
+placeBy (piece ∷ before) = placeBy before + turnOf (after before) piece .place
+
+unfoldable pub linesBy : List (List ℕ) → List ℕ
+linesBy [] = []
+linesBy (piece ∷ before) = linesBy before ++ turnLines (after before) piece

@@ -1,0 +1,31 @@
+-- `lines::lines_of_numbers` meets its contract.
+use borrow.Author.Needs.{needs}
+use mathlib.Core.Path.{_≡_, ap, _∙_}
+use Prim.Native.Nat.{min}
+use Rattle.lines.specs.Texts.{fitting}
+use Rattle.text.proofs.Puts.{puts-at-start}
+use Rattle.lines.proofs.lines_of_numbers.Statement.{statement}
+use Rattle.lines.proofs.lines_of_numbers.Tie as tie
+
+-- how many lines were asked for
+asked : (c : tie.After-put-lines) → (let l = c .before .before in let a = l .before .before .before .before .args in
+    l .least2 .result ≡ fitting (a .count) (a .numbers .now) (a .room .now))
+asked c = let l = c .before .before in l .least2 .ensures ∙ ap (min (l .before .before .before .before .args .count)) (l .before .least .ensures)
+
+least-requires : tie.Need-least-requires
+least-requires c κs = search needs
+
+least-requires-2 : tie.Need-least-requires-2
+least-requires-2 c κs = search needs
+
+put-lines-requires : tie.Need-put-lines-requires
+put-lines-requires c κs = search needs
+
+same-length : tie.Need-same-length
+same-length c = search needs
+
+returns : tie.Need-returns
+returns c = let p = c .before .before in rw (← (asked p)) (puts-at-start (p .put-lines .ensures))
+
+pub lines-of-numbers-spec : {M : Type 1} → statement M
+lines-of-numbers-spec = tie.close (tie.spec least-requires least-requires-2 put-lines-requires same-length returns)

@@ -1,0 +1,44 @@
+-- "The program reads a day file .. from standard input": a day file that comes in pieces of any lengths, a turn for each of them, is the day file carried out at once. Which bytes came is all that
+-- is left to believe.
+use mathlib.Core.Bool.{Bool, true}
+use mathlib.Core.List.{List, _∷_, _++_}
+use mathlib.Core.Path.{_≡_}
+use Prim.Native.Nat.{ℕ, _+_, _-_, _≤_}
+use lib.Dec.{leb}
+use Rattle.rows.specs.Rows.{freshBook}
+use Rattle.book.specs.Facts.{Sound}
+use Rattle.records.specs.Runs.{ranOf}
+use Rattle.records.specs.LineNumbers.{answersOf}
+use Rattle.records.proofs.Pieces.{onFrom}
+use Rattle.lines.specs.Lines.{linesOf}
+use Rattle.feed.specs.Fed.{wholeDay}
+use Rattle.feed.specs.Pieces.{turnOf, dayBy, after, cameBy, placeBy, linesBy}
+use Rattle.feed.specs.Inner.{stopsAt}
+use Rattle.feed.proofs.Pieces.{so-far, read-so-far, done-so-far, sound-so-far, last-turn}
+use Rattle.feed.proofs.PieceLines.{lines-so-far, lines-whole}
+
+-- After any pieces, and with whatever follows: the day of all bytes is what the turns so far came to, and then the records of what is left and of what follows.
+pub the-day-of-all-bytes-so-far : (pieces : List (List ℕ)) (x : List ℕ) → (let s = after pieces in
+    ranOf freshBook (cameBy pieces ++ x) 1_000_000 ≡ onFrom (placeBy pieces) (s .read) (s .done) (ranOf (s .book) (s .rest ++ x) (1_000_000 - s .read)))
+the-day-of-all-bytes-so-far = so-far
+
+-- The lines of the turns so far, and then those of what is left and of what follows, are the lines of all bytes.
+pub the-lines-of-all-bytes-so-far : (pieces : List (List ℕ)) (x : List ℕ) → (let s = after pieces in
+    linesBy pieces ++ linesOf (answersOf (s .rest ++ x) (1_000_000 - s .read) (s .book) 0) ≡ linesOf (answersOf (cameBy pieces ++ x) 1_000_000 freshBook 0))
+the-lines-of-all-bytes-so-far = lines-so-far
+
+-- The counts and the book on the way: at most a million records, no more carried out than read, a sound book.
+pub on-the-way : (pieces : List (List ℕ)) → (let s = after pieces in (s .read ≤ 1_000_000) × (s .done ≤ s .read) × Sound (s .book))
+on-the-way pieces = (read-so-far pieces, done-so-far pieces, sound-so-far pieces)
+
+-- A turn that is the last, since it took all of a piece that is shorter than its space or the million is full, ends the day of all bytes that came ..
+pub the-last-turn-ends-the-day : (before : List (List ℕ)) (piece : List ℕ) (short : Bool)
+    → (let s = after before in stopsAt (turnOf s piece .closing) short (leb 1_000_000 (s .read + turnOf s piece .read)) ≡ true)
+    → dayBy (after before) piece ≡ wholeDay (cameBy (piece ∷ before))
+the-last-turn-ends-the-day = last-turn
+
+-- .. and then the lines of all turns are those of the whole day.
+pub the-lines-of-all-turns : (before : List (List ℕ)) (piece : List ℕ) (short : Bool)
+    → (let s = after before in stopsAt (turnOf s piece .closing) short (leb 1_000_000 (s .read + turnOf s piece .read)) ≡ true)
+    → linesBy (piece ∷ before) ≡ linesOf (answersOf (cameBy (piece ∷ before)) 1_000_000 freshBook 0)
+the-lines-of-all-turns = lines-whole

@@ -1,0 +1,62 @@
+-- `streams::write_all` meets its contract: each turn leaves less of the text, and only the end of the text ends it without a failure.
+use mathlib.Core.Bool.{false≢true}
+use mathlib.Core.Path.{sym}
+use Prim.Native.Nat.{_-_, _≤_}
+use native.Mathlib.Omega.{arith}
+use lib.ListN.{length, length-take, length-drop}
+use borrow.Author.Needs.{needs}
+use Rattle.streams.proofs.write_all.Statement.{statement}
+use Rattle.streams.proofs.write_all.Tie as tie
+
+abbrev Inv-loop : tie.InvT-loop
+Inv-loop fd text n₀ n = n ≤ length text
+
+abbrev μ-loop : tie.MeasureT-loop
+μ-loop fd text n₀ n = length text - n
+
+loop-holds : tie.Need-loop-holds Inv-loop μ-loop
+loop-holds c = omega arith
+
+sub-write-more : tie.Need-sub-write-more Inv-loop μ-loop
+sub-write-more c = omega arith
+
+part-write-more-start : tie.Need-part-write-more-start Inv-loop μ-loop
+part-write-more-start c = omega arith
+
+part-write-more-end : tie.Need-part-write-more-end Inv-loop μ-loop
+part-write-more-end c = omega arith
+
+write-more-requires : tie.Need-write-more-requires Inv-loop μ-loop
+write-more-requires c κs = search needs
+
+returns : tie.Need-returns Inv-loop μ-loop
+returns c = (omega arith, λ e. absurd (false≢true (sym e)))
+
+add-n : tie.Need-add-n Inv-loop μ-loop
+add-n c = omega (arith, simp (length-take, length-drop) at (c .before .write-more .ensures))
+
+loop-less : tie.Need-loop-less Inv-loop μ-loop
+loop-less c = omega (arith, simp (length-take, length-drop) at (c .before .write-more .ensures))
+
+loop-again : tie.Need-loop-again Inv-loop μ-loop
+loop-again c = omega (arith, simp (length-take, length-drop) at (c .before .write-more .ensures))
+
+returns-2 : tie.Need-returns-2 Inv-loop μ-loop
+returns-2 c = (omega arith, λ e. omega arith)
+
+pub write-all-spec : {M : Type 1} → statement M
+write-all-spec =
+    tie.close
+    (tie.spec
+    Inv-loop
+    μ-loop
+    loop-holds
+    sub-write-more
+    part-write-more-start
+    part-write-more-end
+    write-more-requires
+    returns
+    add-n
+    loop-less
+    loop-again
+    returns-2)

@@ -1,0 +1,28 @@
+-- `text::put_short` meets its contract: the digits, then the mark.
+use borrow.Author.Needs.{needs}
+use native.Mathlib.Omega.{arith}
+use Rattle.text.proofs.Digits.{length-most}
+use Rattle.text.proofs.Puts.{puts-one, and-then}
+use Rattle.text.proofs.put_short.Statement.{statement}
+use Rattle.text.proofs.put_short.Tie as tie
+
+put-five-requires : tie.Need-put-five-requires
+put-five-requires c κs = search needs
+
+slice-write-room : tie.Need-slice-write-room
+slice-write-room c = omega (arith, length-most 4 (c .before .before .before .before .before .args .n) (omega arith))
+
+add-result : tie.Need-add-result
+add-result c = search needs
+
+same-length : tie.Need-same-length
+same-length c = search needs
+
+returns : tie.Need-returns
+returns c =
+    let w = length-most 4 (c .before .before .before .before .before .args .n) (omega arith) in
+    (and-then _ _ (c .before .before .put-five .ensures) (puts-one _ _ _ (omega (arith, w))), omega (arith, w))
+
+pub put-short-spec : {M : Type 1} → statement M
+put-short-spec =
+    tie.close (tie.spec put-five-requires slice-write-room add-result same-length returns)
