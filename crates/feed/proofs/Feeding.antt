@@ -10,57 +10,63 @@ use lib.Seq.{length-take-le, take-add, drop-at}
 use borrow.Author.Tests.{ltb-false}
 use Rattle.sums.specs.Choice.{pick}
 use Rattle.rows.specs.declared.Book.{Book}
-use Rattle.rows.specs.Rows.{freshBook}
-use Rattle.book.specs.Facts.{Sound}
+use Rattle.book.specs.Sound.{soundB}
 use Rattle.dayfile.specs.Files.{Bytes}
 use Rattle.dayfile.proofs.Numbers.{bytes-drop}
 use Rattle.records.specs.declared.Ran.{Ran}
-use Rattle.records.specs.Runs.{ranOf}
+use Rattle.records.specs.declared.Closing.the-variants.{Unsound}
+use Rattle.records.specs.Runs.{endedWith, ranOf}
+use Rattle.records.proofs.NumbersPut.{ran-unsound}
 use Rattle.records.proofs.Stops.{Stopped}
 use Rattle.table.specs.declared.Table.{Table}
 use Rattle.table.specs.Words.{turned}
 use Rattle.feed.specs.declared.Day.{Day}
-use Rattle.feed.specs.Fed.{noDay, wholeDay, Came}
+use Rattle.feed.specs.Fed.{dayOf, noDay, wholeDay, Came}
 use Rattle.feed.specs.Pieces.{Stand, turnMost, turnOf, standAfter, dayBy, after, cameBy}
 use Rattle.feed.specs.Inner.{stopsAt}
-use Rattle.feed.proofs.Pieces.{turn-stops, turn-moves, read-so-far, done-so-far, sound-so-far, last-turn}
+use Rattle.feed.proofs.Pieces.{turn-stops, turn-moves, read-so-far, done-so-far, last-turn}
 
 -- how far the day file is carried out, the bytes left at the front of their space
 abbrev standing : List ℕ → Book → ℕ → ℕ → ℕ → Stand
 standing space book rest read done = record { book = book; rest = take rest space; read = read; done = done }
 
--- that is where the pieces so far came to
-pub record Feeding (space : List ℕ) (book : Book) (rest read done : ℕ) : Type 0 where
+-- that is where the pieces so far came to, over the book b
+pub record Feeding (b : Book) (space : List ℕ) (book : Book) (rest read done : ℕ) : Type 0 where
   pub pieces : List (List ℕ)
   pub bytes : Bytes (cameBy pieces)
   pub size : length space ≡ 8262
   pub within : rest ≤ 8262
-  pub is : standing space book rest read done ≡ after pieces
+  pub is : standing space book rest read done ≡ after b pieces
 
-pub nothing-read : (space : List ℕ) (book : Book) → length space ≡ 8262 → book ≡ freshBook → Feeding space book 0 0 0
+pub nothing-read : (b : Book) (space : List ℕ) → length space ≡ 8262 → Feeding b space b 0 0 0
 unfolding after cameBy
-nothing-read space book h e = record {
+nothing-read b space h = record {
   pieces = [];
   bytes = λ i. omega arith;
   size = h;
   within = omega arith;
-  is = ap (λ b. standing space b 0 0 0) e;
+  is = refl;
 }
 
 -- where a read or a write failed
-pub no-day-came : (d : Day) → d ≡ noDay → Came d
+pub no-day-came : (b : Book) (d : Day) → d ≡ noDay → Came b d
 unfolding noDay pick
-no-day-came d e = rw e (record { input = []; bytes = λ i. omega arith; is = refl })
+no-day-came b d e = rw e (record { input = []; bytes = λ i. omega arith; is = refl })
 
-module _ {space : List ℕ} {book : Book} {rest read done : ℕ} (g : Feeding space book rest read done) where
+pub came-over : {b b′ : Book} {d : Day} → b ≡ b′ → Came b d → Came b′ d
+came-over e c = rw (← e) c
+
+-- of a book that isn't sound nothing is read
+pub unsound-came : (b : Book) (d : Day) → soundB b ≡ false → d ≡ dayOf (endedWith Unsound b 0 0 0) → Came b d
+unfolding wholeDay pick
+unsound-came b d h e = rw e (record { input = []; bytes = λ i. omega arith; is = ap dayOf (ran-unsound b [] 1_000_000 h) })
+
+module _ {b : Book} {space : List ℕ} {book : Book} {rest read done : ℕ} (g : Feeding b space book rest read done) where
   pub read-upto : read ≤ 1_000_000
-  read-upto = rw (← g .is) at (read-so-far (g .pieces))
+  read-upto = rw (← g .is) at (read-so-far b (g .pieces))
 
   pub done-fewer : done ≤ read
-  done-fewer = rw (← g .is) at (done-so-far (g .pieces))
-
-  pub book-sound : Sound book
-  book-sound = rw (← g .is) at (sound-so-far (g .pieces))
+  done-fewer = rw (← g .is) at (done-so-far b (g .pieces))
 
 -- a part in the middle
 mid : (p n : ℕ) (l : List ℕ) → p ≤ n → n ≤ length l → drop p (take n l) ≡ take (n - p) (drop p l)
@@ -82,8 +88,8 @@ bytes-append (x ∷ l) m y z zero = y 0
 bytes-append (x ∷ l) m y z (suc i) = bytes-append l m (λ j. y (suc j)) z i
 
 -- one piece more: the bytes left and those read behind them, held of them in all, and the turn r of them
-pub record Piece (space : List ℕ) (book : Book) (rest read done : ℕ) (filled : List ℕ) (held : ℕ) (r : Ran) : Type 0 where
-  pub before : Feeding space book rest read done
+pub record Piece (b : Book) (space : List ℕ) (book : Book) (rest read done : ℕ) (filled : List ℕ) (held : ℕ) (r : Ran) : Type 0 where
+  pub before : Feeding b space book rest read done
   pub size : length filled ≡ 8262
   pub least : rest ≤ held
   pub most : held ≤ 8262
@@ -91,8 +97,8 @@ pub record Piece (space : List ℕ) (book : Book) (rest read done : ℕ) (filled
   pub bytes : Bytes filled
   pub is : r ≡ ranOf book (take held filled) (turnMost read)
 
-module _ {space : List ℕ} {book : Book} {rest read done : ℕ} {filled : List ℕ} {held : ℕ} {r : Ran}
-    (g : Piece space book rest read done filled held r) where
+module _ {b : Book} {space : List ℕ} {book : Book} {rest read done : ℕ} {filled : List ℕ} {held : ℕ} {r : Ran}
+    (g : Piece b space book rest read done filled held r) where
   abbrev s : Stand
   s = standing space book rest read done
 
@@ -131,12 +137,12 @@ module _ {space : List ℕ} {book : Book} {rest read done : ℕ} {filled : List 
 
   -- w says whether the turn is the last; t is the table that holds its book
   pub last-turn-came : (short : Bool) (w : Bool) → w ≡ stopsAt (r .closing) short (leb 1_000_000 (read + r .read)) → w ≡ true → (t : Table) → turned (r .book) ≡ t
-      → Came (record { table = t; closing = r .closing; read = read + r .read; done = done + r .done; failed = false })
+      → Came b (record { table = t; closing = r .closing; read = read + r .read; done = done + r .done; failed = false })
   unfolding pick
   last-turn-came short w e h t f =
       let p = g .before .pieces in
-      let stop : (let z = after p in stopsAt (turnOf z new .closing) short (leb 1_000_000 (z .read + turnOf z new .read)) ≡ true) = rw (← g .before .is, ← turn-is) (sym e ∙ h) in
-      let day : dayBy s new ≡ wholeDay (cameBy (new ∷ p)) = ap (λ z. dayBy z new) (g .before .is) ∙ last-turn p new short stop in
+      let stop : (let z = after b p in stopsAt (turnOf z new .closing) short (leb 1_000_000 (z .read + turnOf z new .read)) ≡ true) = rw (← g .before .is, ← turn-is) (sym e ∙ h) in
+      let day : dayBy s new ≡ wholeDay b (cameBy (new ∷ p)) = ap (λ z. dayBy z new) (g .before .is) ∙ last-turn b p new short stop in
       record {
         input = cameBy (new ∷ p);
         bytes = all-bytes;
@@ -147,7 +153,7 @@ module _ {space : List ℕ} {book : Book} {rest read done : ℕ} {filled : List 
       }
 
   pub turn-fed : (next : List ℕ) (left : ℕ) → length next ≡ 8262 → left ≡ held - r .place → take left next ≡ take left (drop (r .place) filled)
-      → Feeding next (r .book) left (read + r .read) (done + r .done)
+      → Feeding b next (r .book) left (read + r .read) (done + r .done)
   unfolding after
   turn-fed next left n l t = record {
     pieces = new ∷ g .before .pieces;

@@ -1,4 +1,3 @@
-mod FreshWords
 mod Moving
 pub mod Pieces
 pub mod PieceLines

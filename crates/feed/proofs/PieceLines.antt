@@ -11,7 +11,6 @@ use lib.ListN.{length, drop, length-drop}
 use lib.Seq.{drop-append-le}
 use borrow.Author.Tests.{leb-true}
 use Rattle.rows.specs.declared.Book.{Book}
-use Rattle.rows.specs.Rows.{freshBook}
 use Rattle.book.specs.Facts.{Sound}
 use Rattle.book.proofs.SoundTest.{sound←}
 use Rattle.dayfile.specs.declared.Found.{Found}
@@ -28,6 +27,8 @@ use Rattle.records.specs.Runs.{stopped, onward, runOf, ranOf}
 use Rattle.records.specs.LineNumbers.{answering, answersOf}
 use Rattle.records.proofs.Stops.{run-stops}
 use Rattle.records.proofs.NumbersPut.{ran-sound}
+use Rattle.records.proofs.SoundRun.{ran-keeps}
+use Rattle.records.proofs.Pieces.{onFrom, after-end, nothing-left as nothing-after}
 use Rattle.lines.specs.Lines.{lineOf, linesOf}
 use Rattle.feed.specs.Pieces.{Stand, turnMost, turnOf, standAfter, turnLines, after, cameBy, linesBy}
 use Rattle.feed.specs.Inner.{stopsAt}
@@ -85,46 +86,56 @@ answers-on s x (suc m) (suc n) h b at read done = by (foundAt s at) refl (λ b�
         ∙ ap (λ l. stepOf b r .answer ∷ l) (go b′ next d′)
         ∙ ap (λ k. stepOf b r .answer ∷ (answersOf s m b′ next ++ answersOf (s ++ x) k (t .book) (t .place))) fuel
 
+-- ---- the answers to a piece, up to m records, and then those to what is left and to what follows
+
+module _ (b : Book) (s x : List ℕ) (m n : ℕ) (h : m ≤ n) (g : Sound b) where
+  abbrev ran : Ran
+  ran = ranOf b s m
+
+  is-run : runOf s m b 0 0 0 ≡ ran
+  is-run = ran-sound b s m (sound← b g)
+
+  answers-in-pieces : answersOf (s ++ x) n b 0 ≡ answersOf s m b 0 ++ answersOf (drop (ran .place) s ++ x) (n - ran .read) (ran .book) 0
+  answers-in-pieces =
+      let first = answersOf s m b 0 in
+      let k = n - ran .read in
+      let fuel : n - (ran .read - 0) ≡ k = omega arith in
+      let inside : ran .place ≤ length s = rw is-run at (run-stops s m b 0 0 0 .within (omega arith)) in
+      answers-on s x m n h b 0 0 0
+      ∙ ap (λ q. first ++ AndThere (s ++ x) n 0 q) is-run
+      ∙ ap (λ j. first ++ answersOf (s ++ x) j (ran .book) (ran .place)) fuel
+      ∙ ap (λ p. first ++ answersOf (s ++ x) k (ran .book) p) (sym (add-zero (ran .place)))
+      ∙ ap (λ a. first ++ a) (answers-from (s ++ x) (ran .place) k (ran .book) 0)
+      ∙ ap (λ l. first ++ answersOf l k (ran .book) 0) (drop-append-le (ran .place) s x inside)
+
 -- ---- one turn
 
-module _ (s : Stand) (piece : List ℕ) (g : Sound (s .book)) where
-  ran-here : runOf (s .rest ++ piece) (turnMost (s .read)) (s .book) 0 0 0 ≡ turnOf s piece
-  ran-here = ran-sound (s .book) (s .rest ++ piece) (turnMost (s .read)) (sound← (s .book) g)
-
-  -- the answers from here on are the turn's, and then those to what it leaves with whatever follows
-  answers-turn : (x : List ℕ) → (let t = standAfter s piece in
-      answersOf ((s .rest ++ piece) ++ x) (1_000_000 - s .read) (s .book) 0
-      ≡ answersOf (s .rest ++ piece) (turnMost (s .read)) (s .book) 0 ++ answersOf (t .rest ++ x) (1_000_000 - t .read) (t .book) 0)
-  answers-turn x =
-      let l = s .rest ++ piece in
-      let m = turnMost (s .read) in
-      let r = turnOf s piece in
-      let t = standAfter s piece in
-      let first = answersOf l m (s .book) 0 in
-      let fuel : 1_000_000 - s .read - (r .read - 0) ≡ 1_000_000 - t .read = omega arith in
-      let inside : r .place ≤ length l = rw ran-here at (run-stops l m (s .book) 0 0 0 .within (omega arith)) in
-      answers-on l x m (1_000_000 - s .read) (omega arith) (s .book) 0 0 0
-      ∙ ap (λ q. first ++ AndThere (l ++ x) (1_000_000 - s .read) 0 q) ran-here
-      ∙ ap (λ k. first ++ answersOf (l ++ x) k (r .book) (r .place)) fuel
-      ∙ ap (λ p. first ++ answersOf (l ++ x) (1_000_000 - t .read) (r .book) p) (sym (add-zero (r .place)))
-      ∙ ap (λ a. first ++ a) (answers-from (l ++ x) (r .place) (1_000_000 - t .read) (r .book) 0)
-      ∙ ap (λ k. first ++ answersOf k (1_000_000 - t .read) (r .book) 0) (drop-append-le (r .place) l x inside)
+-- the answers from here on are the turn's, and then those to what it leaves with whatever follows
+answers-turn : (s : Stand) (piece : List ℕ) → Sound (s .book) → (x : List ℕ) → (let t = standAfter s piece in
+    answersOf ((s .rest ++ piece) ++ x) (1_000_000 - s .read) (s .book) 0
+    ≡ answersOf (s .rest ++ piece) (turnMost (s .read)) (s .book) 0 ++ answersOf (t .rest ++ x) (1_000_000 - t .read) (t .book) 0)
+answers-turn s piece g x =
+    let l = s .rest ++ piece in
+    let t = standAfter s piece in
+    let fuel : 1_000_000 - s .read - turnOf s piece .read ≡ 1_000_000 - t .read = omega arith in
+    answers-in-pieces (s .book) l x (turnMost (s .read)) (1_000_000 - s .read) (omega arith) g
+    ∙ ap (λ k. answersOf l (turnMost (s .read)) (s .book) 0 ++ answersOf (t .rest ++ x) k (t .book) 0) fuel
 
 -- THE LINES SO FAR, and then those of what is left and of what follows, are the lines of all bytes
-pub lines-so-far : (pieces : List (List ℕ)) (x : List ℕ) → (let s = after pieces in
-    linesBy pieces ++ linesOf (answersOf (s .rest ++ x) (1_000_000 - s .read) (s .book) 0) ≡ linesOf (answersOf (cameBy pieces ++ x) 1_000_000 freshBook 0))
+pub lines-so-far : (b : Book) → Sound b → (pieces : List (List ℕ)) (x : List ℕ) → (let s = after b pieces in
+    linesBy b pieces ++ linesOf (answersOf (s .rest ++ x) (1_000_000 - s .read) (s .book) 0) ≡ linesOf (answersOf (cameBy pieces ++ x) 1_000_000 b 0))
 unfolding after cameBy linesBy
-lines-so-far [] x = refl
-lines-so-far (piece ∷ before) x =
-    let s = after before in
+lines-so-far b h [] x = refl
+lines-so-far b h (piece ∷ before) x =
+    let s = after b before in
     let t = standAfter s piece in
     let rest = answersOf (t .rest ++ x) (1_000_000 - t .read) (t .book) 0 in
-    append-assoc (linesBy before) (turnLines s piece) (linesOf rest)
-    ∙ ap (λ l. linesBy before ++ l) (sym (lines-append (answersOf (s .rest ++ piece) (turnMost (s .read)) (s .book) 0) rest))
-    ∙ ap (λ a. linesBy before ++ linesOf a) (sym (answers-turn s piece (sound-so-far before) x))
-    ∙ ap (λ l. linesBy before ++ linesOf (answersOf l (1_000_000 - s .read) (s .book) 0)) (append-assoc (s .rest) piece x)
-    ∙ lines-so-far before (piece ++ x)
-    ∙ ap (λ l. linesOf (answersOf l 1_000_000 freshBook 0)) (sym (append-assoc (cameBy before) piece x))
+    append-assoc (linesBy b before) (turnLines s piece) (linesOf rest)
+    ∙ ap (λ l. linesBy b before ++ l) (sym (lines-append (answersOf (s .rest ++ piece) (turnMost (s .read)) (s .book) 0) rest))
+    ∙ ap (λ a. linesBy b before ++ linesOf a) (sym (answers-turn s piece (sound-so-far b h before) x))
+    ∙ ap (λ l. linesBy b before ++ linesOf (answersOf l (1_000_000 - s .read) (s .book) 0)) (append-assoc (s .rest) piece x)
+    ∙ lines-so-far b h before (piece ++ x)
+    ∙ ap (λ l. linesOf (answersOf l 1_000_000 b 0)) (sym (append-assoc (cameBy before) piece x))
 
 -- ---- the last turn leaves no answer
 
@@ -163,7 +174,7 @@ module _ (s : Stand) (piece : List ℕ) (g : Sound (s .book)) (short : Bool)
   nothing-there End c = inr (inl (turn-stops s piece .ended c))
   nothing-there Cut c = inr (inr (turn-stops s piece .short c))
   nothing-there Long c = inl (omega (arith, leb-true 1_000_000 (s .read + r .read) (rw c at e)))
-  nothing-there Unsound c = absurd (never-unsound l (turnMost (s .read)) (s .book) 0 0 0 (ap (λ (q : Ran). q .closing) (ran-here s piece g) ∙ c))
+  nothing-there Unsound c = absurd (never-unsound l (turnMost (s .read)) (s .book) 0 0 0 (ap (λ (q : Ran). q .closing) (ran-sound (s .book) l (turnMost (s .read)) (sound← (s .book) g)) ∙ c))
 
   nothing-left : (let t = standAfter s piece in answersOf (t .rest) (1_000_000 - t .read) (t .book) 0 ≡ [])
   nothing-left =
@@ -173,14 +184,53 @@ module _ (s : Stand) (piece : List ℕ) (g : Sound (s .book)) (short : Bool)
       ∙ no-answer l k (r .book) (r .place) (nothing-there (r .closing) refl)
 
 -- THE LINES OF ALL TURNS are the lines of the whole day, where the last turn ends it
-pub lines-whole : (before : List (List ℕ)) (piece : List ℕ) (short : Bool)
-    → (let s = after before in stopsAt (turnOf s piece .closing) short (leb 1_000_000 (s .read + turnOf s piece .read)) ≡ true)
-    → linesBy (piece ∷ before) ≡ linesOf (answersOf (cameBy (piece ∷ before)) 1_000_000 freshBook 0)
+pub lines-whole : (b : Book) → Sound b → (before : List (List ℕ)) (piece : List ℕ) (short : Bool)
+    → (let s = after b before in stopsAt (turnOf s piece .closing) short (leb 1_000_000 (s .read + turnOf s piece .read)) ≡ true)
+    → linesBy b (piece ∷ before) ≡ linesOf (answersOf (cameBy (piece ∷ before)) 1_000_000 b 0)
 unfolding after linesOf
-lines-whole before piece short e =
-    let t = standAfter (after before) piece in
-    sym (append-nil (linesBy (piece ∷ before)))
-    ∙ ap (λ a. linesBy (piece ∷ before) ++ linesOf a) (sym (nothing-left (after before) piece (sound-so-far before) short e))
-    ∙ ap (λ l. linesBy (piece ∷ before) ++ linesOf (answersOf l (1_000_000 - t .read) (t .book) 0)) (sym (append-nil (t .rest)))
-    ∙ lines-so-far (piece ∷ before) []
-    ∙ ap (λ l. linesOf (answersOf l 1_000_000 freshBook 0)) (append-nil (cameBy (piece ∷ before)))
+lines-whole b h before piece short e =
+    let t = standAfter (after b before) piece in
+    sym (append-nil (linesBy b (piece ∷ before)))
+    ∙ ap (λ a. linesBy b (piece ∷ before) ++ linesOf a) (sym (nothing-left (after b before) piece (sound-so-far b h before) short e))
+    ∙ ap (λ l. linesBy b (piece ∷ before) ++ linesOf (answersOf l (1_000_000 - t .read) (t .book) 0)) (sym (append-nil (t .rest)))
+    ∙ lines-so-far b h (piece ∷ before) []
+    ∙ ap (λ l. linesOf (answersOf l 1_000_000 b 0)) (append-nil (cameBy (piece ∷ before)))
+
+-- ---- two files one after the other
+
+-- where it is not the stated number that stopped a run, a larger one gives no more answers
+answers-enough : (s : List ℕ) (m n : ℕ) (b : Book) (at read done : ℕ) → m ≤ n → (runOf s m b at read done .closing ≡ Long → ⊥) → answersOf s n b at ≡ answersOf s m b at
+unfolding runOf answersOf
+answers-enough s zero n b at read done h w = by (foundAt s at) refl w
+  where
+    by : (f : Found) → foundAt s at ≡ f → (stopped f b at read done .closing ≡ Long → ⊥) → answersOf s n b at ≡ []
+    by NoBytes e w = no-answer s n b at (inr (inl e))
+    by TooFew e w = absurd (w refl)
+    by (Whole r next) e w = absurd (w refl)
+answers-enough s (suc m) zero b at read done h w = absurd (omega arith)
+answers-enough s (suc m) (suc n) b at read done h w = by (foundAt s at) w (λ b′ next d v. answers-enough s m n b′ next (read + 1) d (omega arith) v)
+  where
+    by : (f : Found) → (onward (runOf s m) f b at read done .closing ≡ Long → ⊥)
+        → ((b′ : Book) (next d : ℕ) → (runOf s m b′ next (read + 1) d .closing ≡ Long → ⊥) → answersOf s n b′ next ≡ answersOf s m b′ next)
+        → answering (answersOf s n) f b ≡ answering (answersOf s m) f b
+    by NoBytes v go = refl
+    by TooFew v go = refl
+    by (Whole r next) v go =
+        let b′ = stepOf b r .book in
+        ap (λ l. stepOf b r .answer ∷ l) (go b′ next (done + carriedIn (stepOf b r .answer .outcome)) v)
+
+-- THE LINES OF TWO FILES, the second over the book after the first, are those of both joined
+module _ (b : Book) (s x : List ℕ) (n : ℕ) (g : Sound b) (e : ranOf b s n .closing ≡ End) (w : ranOf b (s ++ x) n .closing ≡ Long → ⊥) where
+  abbrev day : Ran
+  day = ranOf b s n
+
+  pub lines-of-two : linesOf (answersOf (s ++ x) n b 0) ≡ linesOf (answersOf s n b 0) ++ linesOf (answersOf x n (day .book) 0)
+  lines-of-two =
+      let k = n - day .read in
+      let sound = sound← (day .book) (ran-keeps b s n g) in
+      let short : runOf x k (day .book) 0 0 0 .closing ≡ Long → ⊥ = λ l. w (ap (λ (r : Ran). r .closing) (after-end b s x n e ∙ ap (onFrom (day .place) (day .read) (day .done)) (sym (ran-sound (day .book) x k sound))) ∙ l) in
+      ap linesOf (
+      answers-in-pieces b s x n n (omega arith) g
+      ∙ ap (λ l. answersOf s n b 0 ++ answersOf (l ++ x) k (day .book) 0) (nothing-after b s x n e)
+      ∙ ap (λ a. answersOf s n b 0 ++ a) (sym (answers-enough x k n (day .book) 0 0 0 (omega arith) short)))
+      ∙ lines-append (answersOf s n b 0) (answersOf x n (day .book) 0)

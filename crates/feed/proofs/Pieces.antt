@@ -9,9 +9,8 @@ use lib.Dec.{leb}
 use lib.ListN.{length, drop}
 use borrow.Author.Tests.{leb-true, leb-false}
 use Rattle.sums.proofs.Choices.{test-clash}
-use Rattle.rows.specs.Rows.{freshBook}
+use Rattle.rows.specs.declared.Book.{Book}
 use Rattle.book.specs.Facts.{Sound}
-use Rattle.book.proofs.FreshSound.{fresh-sound}
 use Rattle.dayfile.specs.Files.{Bytes}
 use Rattle.records.specs.declared.Closing.{Closing}
 use Rattle.records.specs.declared.Closing.the-variants.{End, Cut, Long, Unsound}
@@ -90,40 +89,40 @@ module _ (s : Stand) (piece : List ℕ) where
         by Unsound e f = test-clash refl f
 
 -- THE PIECES SO FAR: with whatever follows, the day of all bytes that came is what they came to, and then the records of what is left and of what follows
-pub so-far : (pieces : List (List ℕ)) (x : List ℕ) → (let s = after pieces in
-    ranOf freshBook (cameBy pieces ++ x) 1_000_000 ≡ onFrom (placeBy pieces) (s .read) (s .done) (ranOf (s .book) (s .rest ++ x) (1_000_000 - s .read)))
+pub so-far : (b : Book) (pieces : List (List ℕ)) (x : List ℕ) → (let s = after b pieces in
+    ranOf b (cameBy pieces ++ x) 1_000_000 ≡ onFrom (placeBy b pieces) (s .read) (s .done) (ranOf (s .book) (s .rest ++ x) (1_000_000 - s .read)))
 unfolding after cameBy placeBy
-so-far [] x = on-none (ranOf freshBook x 1_000_000)
-so-far (piece ∷ before) x =
-    let s = after before in
+so-far b [] x = on-none (ranOf b x 1_000_000)
+so-far b (piece ∷ before) x =
+    let s = after b before in
     let r = turnOf s piece in
-    ap (λ l. ranOf freshBook l 1_000_000) (append-assoc (cameBy before) piece x)
-    ∙ so-far before (piece ++ x)
-    ∙ ap (λ l. onFrom (placeBy before) (s .read) (s .done) (ranOf (s .book) l (1_000_000 - s .read))) (sym (append-assoc (s .rest) piece x))
-    ∙ ap (onFrom (placeBy before) (s .read) (s .done)) (turn-on s piece x)
-    ∙ on-twice (placeBy before) (s .read) (s .done) (r .place) (r .read) (r .done) _
+    ap (λ l. ranOf b l 1_000_000) (append-assoc (cameBy before) piece x)
+    ∙ so-far b before (piece ++ x)
+    ∙ ap (λ l. onFrom (placeBy b before) (s .read) (s .done) (ranOf (s .book) l (1_000_000 - s .read))) (sym (append-assoc (s .rest) piece x))
+    ∙ ap (onFrom (placeBy b before) (s .read) (s .done)) (turn-on s piece x)
+    ∙ on-twice (placeBy b before) (s .read) (s .done) (r .place) (r .read) (r .done) _
 
-pub read-so-far : (pieces : List (List ℕ)) → after pieces .read ≤ 1_000_000
+pub read-so-far : (b : Book) (pieces : List (List ℕ)) → after b pieces .read ≤ 1_000_000
 unfolding after
-read-so-far [] = omega arith
-read-so-far (piece ∷ before) = omega (arith, turn-stops (after before) piece .upto, read-so-far before)
+read-so-far b [] = omega arith
+read-so-far b (piece ∷ before) = omega (arith, turn-stops (after b before) piece .upto, read-so-far b before)
 
-pub done-so-far : (pieces : List (List ℕ)) → after pieces .done ≤ after pieces .read
+pub done-so-far : (b : Book) (pieces : List (List ℕ)) → after b pieces .done ≤ after b pieces .read
 unfolding after
-done-so-far [] = omega arith
-done-so-far (piece ∷ before) = omega (arith, turn-stops (after before) piece .fewer, done-so-far before)
+done-so-far b [] = omega arith
+done-so-far b (piece ∷ before) = omega (arith, turn-stops (after b before) piece .fewer, done-so-far b before)
 
-pub sound-so-far : (pieces : List (List ℕ)) → Sound (after pieces .book)
+pub sound-so-far : (b : Book) → Sound b → (pieces : List (List ℕ)) → Sound (after b pieces .book)
 unfolding after
-sound-so-far [] = fresh-sound
-sound-so-far (piece ∷ before) = let s = after before in ran-keeps (s .book) (s .rest ++ piece) (turnMost (s .read)) (sound-so-far before)
+sound-so-far b h [] = h
+sound-so-far b h (piece ∷ before) = let s = after b before in ran-keeps (s .book) (s .rest ++ piece) (turnMost (s .read)) (sound-so-far b h before)
 
 -- THE LAST TURN: the day is that of all bytes that came
-pub last-turn : (before : List (List ℕ)) (piece : List ℕ) (short : Bool)
-    → (let s = after before in stopsAt (turnOf s piece .closing) short (leb 1_000_000 (s .read + turnOf s piece .read)) ≡ true)
-    → dayBy (after before) piece ≡ wholeDay (cameBy (piece ∷ before))
+pub last-turn : (b : Book) (before : List (List ℕ)) (piece : List ℕ) (short : Bool)
+    → (let s = after b before in stopsAt (turnOf s piece .closing) short (leb 1_000_000 (s .read + turnOf s piece .read)) ≡ true)
+    → dayBy (after b before) piece ≡ wholeDay b (cameBy (piece ∷ before))
 unfolding wholeDay cameBy
-last-turn before piece short e =
-    let s = after before in
-    ap (λ r. dayOf (onFrom (placeBy before) (s .read) (s .done) r)) (sym (turn-enough s piece (turn-last s piece short e)))
-    ∙ ap dayOf (sym (so-far before piece))
+last-turn b before piece short e =
+    let s = after b before in
+    ap (λ r. dayOf (onFrom (placeBy b before) (s .read) (s .done) r)) (sym (turn-enough s piece (turn-last s piece short e)))
+    ∙ ap dayOf (sym (so-far b before piece))

@@ -4,6 +4,7 @@ use mathlib.Core.List.{List}
 use mathlib.Core.Path.{_≡_}
 use Prim.Native.Nat.{ℕ}
 use Rattle.sums.specs.Choice.{pick}
+use Rattle.rows.specs.declared.Book.{Book}
 use Rattle.rows.specs.Rows.{freshBook}
 use Rattle.table.specs.Words.{turned}
 use Rattle.dayfile.specs.Files.{Bytes}
@@ -16,16 +17,17 @@ use Rattle.feed.specs.declared.Day.{Day}
 abbrev pub dayOf : Ran → Day
 dayOf r = record { table = turned (r .book); closing = r .closing; read = r .read; done = r .done; failed = false }
 
--- "The program reads a day file .. over a fresh book"; "It stops at the end, at a cut or at a million records"
-unfoldable pub wholeDay : List ℕ → Day
-wholeDay s = dayOf (ranOf freshBook s 1_000_000)
+-- "The program reads a day file .. over a fresh book", or over the one that it is handed over; "It stops at the end, at a cut or at a million records"; an unsound book is
+-- given back with `1`
+unfoldable pub wholeDay : Book → List ℕ → Day
+wholeDay b s = dayOf (ranOf b s 1_000_000)
 
 -- A read that fails is not the end of a file, and a write that fails is not done: then there is no day. No program prints what stands here.
 unfoldable pub noDay : Day
 noDay = record { table = turned freshBook; closing = End; read = 0; done = 0; failed = true }
 
--- No contract can say which bytes are read, nor whether a read or a write fails. This one says that there are bytes of which d is the day, unless a call failed.
-pub record Came (d : Day) : Type 0 where
+-- No contract can say which bytes are read, nor whether a read or a write fails. This one says that there are bytes of which d is the day over the book b, unless a call failed.
+pub record Came (b : Book) (d : Day) : Type 0 where
   pub input : List ℕ
   pub bytes : Bytes input
-  pub is : d ≡ pick (d .failed) noDay (wholeDay input)
+  pub is : d ≡ pick (d .failed) noDay (wholeDay b input)

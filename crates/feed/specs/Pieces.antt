@@ -4,7 +4,6 @@ use mathlib.Core.List.{List, [], _∷_, _++_}
 use Prim.Native.Nat.{ℕ, _+_, _-_, min}
 use lib.ListN.{drop}
 use Rattle.rows.specs.declared.Book.{Book}
-use Rattle.rows.specs.Rows.{freshBook}
 use Rattle.table.specs.Words.{turned}
 use Rattle.records.specs.declared.Ran.{Ran}
 use Rattle.records.specs.Runs.{ranOf}
@@ -19,9 +18,9 @@ pub record Stand : Type 0 where
   pub read : ℕ
   pub done : ℕ
 
--- nothing came: "over a fresh book"
-abbrev pub atFirst : Stand
-atFirst = record { book = freshBook; rest = []; read = 0; done = 0 }
+-- nothing came: the book is the one handed over, as a fresh one
+abbrev pub atFirst : Book → Stand
+atFirst b = record { book = b; rest = []; read = 0; done = 0 }
 
 -- how many records a turn carries out at most: those left of the million, and as many as their lines have room for
 abbrev pub turnMost : ℕ → ℕ
@@ -47,19 +46,19 @@ dayBy s piece =
 abbrev pub turnLines : Stand → List ℕ → List ℕ
 turnLines s piece = linesOf (answersOf (s .rest ++ piece) (turnMost (s .read)) (s .book) 0)
 
--- after some pieces, the latest of which stands first in the list: how far the day file is carried out, all bytes that came, the place reached in them, and all lines
-unfoldable pub after : List (List ℕ) → Stand
-after [] = atFirst
-after (piece ∷ before) = standAfter (after before) piece
+-- over a book, after some pieces, the latest of which stands first in the list: how far the day file is carried out, all bytes that came, the place reached in them, and all lines
+unfoldable pub after : Book → List (List ℕ) → Stand
+after b [] = atFirst b
+after b (piece ∷ before) = standAfter (after b before) piece
 
 unfoldable pub cameBy : List (List ℕ) → List ℕ
 cameBy [] = []
 cameBy (piece ∷ before) = cameBy before ++ piece
 
-unfoldable pub placeBy : List (List ℕ) → ℕ
-placeBy [] = 0
-placeBy (piece ∷ before) = placeBy before + turnOf (after before) piece .place
+unfoldable pub placeBy : Book → List (List ℕ) → ℕ
+placeBy b [] = 0
+placeBy b (piece ∷ before) = placeBy b before + turnOf (after b before) piece .place
 
-unfoldable pub linesBy : List (List ℕ) → List ℕ
-linesBy [] = []
-linesBy (piece ∷ before) = linesBy before ++ turnLines (after before) piece
+unfoldable pub linesBy : Book → List (List ℕ) → List ℕ
+linesBy b [] = []
+linesBy b (piece ∷ before) = linesBy b before ++ turnLines (after b before) piece

@@ -1,7 +1,10 @@
-// A day file from standard input, carried out over a fresh book in turns.
+// A day file from standard input, carried out in turns.
 ghost use mathlib.Core.Bool.{true};
 ghost use mathlib.Core.Path.{_≡_};
-ghost use Rattle.feed.specs.Fed.{noDay, Came};
+ghost use Rattle.table.specs.Words.{turnedBack};
+ghost use Rattle.book.specs.Facts.{Sound};
+ghost use Rattle.records.specs.Runs.{endedWith};
+ghost use Rattle.feed.specs.Fed.{noDay, dayOf, Came};
 pub use records::Closing;
 use space::SPACE;
 use steps::At;
@@ -53,16 +56,32 @@ fn no_day() -> Day
     }
 }
 
-// The day file on standard input, with a line for each record on standard output where that is asked for. The end of a piece is no cut: the rest of it
-// stays, and the next piece is read behind it. Only a piece that doesn't fill the space is the last one. A failure is told on standard error, for the program
-// named.
-pub fn whole_day(program: &[u8], printing: bool) -> Day
-    ensures { λ d. ⌜ Came d ⌝ }
+fn unsound(t: Table) -> Day
+    ensures { λ d. ⌜ d ≡ dayOf (endedWith Closing.Unsound (turnedBack t) 0 0 0) ⌝ }
+{
+    let sort = t.sort;
+    let live = t.live;
+    let tm = t.tm;
+    let amounts = t.amounts;
+    table::sizes(sort, live, tm, amounts);
+    Day {
+        table: t,
+        closing: Closing::Unsound,
+        read: 0,
+        done: 0,
+        failed: false,
+    }
+}
+
+// The turns over a sound book. The end of a piece is no cut: the rest of it stays, and the next piece is read behind it. Only a piece that doesn't fill the
+// space is the last one.
+fn in_turns(program: &[u8], printing: bool, t: Table) -> Day
+    requires { ⌜ Sound (turnedBack t) ⌝ }
+    ensures { λ d. ⌜ Came (turnedBack t) d ⌝ }
 {
     let mut space = space::blank();
     let mut numbers = [0u16; NUMBERS];
     let mut text = [0u8; ROOM];
-    let t = book::fresh();
     let mut sort = t.sort;
     let mut live = t.live;
     let mut tm = t.tm;
@@ -133,4 +152,15 @@ pub fn whole_day(program: &[u8], printing: bool) -> Day
         done,
         failed: false,
     }
+}
+
+// The day file on standard input, carried out over a book, with a line for each record on standard output where that is asked for. Of a book that isn't sound
+// nothing is read. A failure is told on standard error, for the program named.
+pub fn whole_day(program: &[u8], printing: bool, t: Table) -> Day
+    ensures { λ d. ⌜ Came (turnedBack t) d ⌝ }
+{
+    if !book::is_sound(t) {
+        return unsound(t);
+    }
+    in_turns(program, printing, t)
 }

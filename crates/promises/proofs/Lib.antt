@@ -12,3 +12,4 @@ pub mod OneResult
 pub mod Quick
 pub mod Claim
 pub mod PieceByPiece
+pub mod TwoDays

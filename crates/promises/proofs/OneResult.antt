@@ -237,11 +237,13 @@ pub of-feed-whole-day :
     (κs : Lfts 1) (a : Args feed.whole_day.signature κs) (x y : Res feed.whole_day.signature κs) (e : AtExit feed.whole_day.ended κs)
     (p : feed.whole_day.Reads.Learnt κs a x e) (q : feed.whole_day.Reads.Learnt κs a y e) →
     p .input ≡ q .input → x .failed ≡ y .failed → x ≡ y
-of-feed-whole-day κs a x y e p q same luck = p .is ∙ ap (λ t. pick t noDay (wholeDay (p .input))) luck ∙ ap (λ s. pick (y .failed) noDay (wholeDay s)) same ∙ sym (q .is)
+of-feed-whole-day κs a x y e p q same luck =
+    let b = turnedBack (a .1 .1 .0) in
+    p .is ∙ ap (λ t. pick t noDay (wholeDay b (p .input))) luck ∙ ap (λ s. pick (y .failed) noDay (wholeDay b s)) same ∙ sym (q .is)
 
 -- and that is all that it leaves open: the day of any bytes meets it, and so does a failure.
 pub whatever-bytes-came :
     (κs : Lfts 1) (a : Args feed.whole_day.signature κs) (e : AtExit feed.whole_day.ended κs) (s : List ℕ) →
-    Bytes s → feed.whole_day.Reads.Learnt κs a (wholeDay s) e × feed.whole_day.Reads.Learnt κs a noDay e
+    Bytes s → feed.whole_day.Reads.Learnt κs a (wholeDay (turnedBack (a .1 .1 .0)) s) e × feed.whole_day.Reads.Learnt κs a noDay e
 unfolding pick wholeDay noDay
 whatever-bytes-came κs a e s bytes = (record { input = s; bytes = bytes; is = refl }, record { input = s; bytes = bytes; is = refl })

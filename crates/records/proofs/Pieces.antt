@@ -1,11 +1,11 @@
 -- A day file carried out in pieces is the day file carried out at once.
 use mathlib.Core.Bool.{Bool, true, false}
-use mathlib.Core.List.{List, _++_}
+use mathlib.Core.List.{List, [], _++_}
 use mathlib.Core.Path.{_≡_, refl, sym, ap, _∙_}
 use Prim.Native.Nat.{ℕ, zero, suc, _+_, _-_, _≤_}
 use native.Mathlib.Nat.{add-assoc, add-zero, zero-add}
 use native.Mathlib.Omega.{arith}
-use lib.ListN.{drop}
+use lib.ListN.{drop, drop-of-length-le}
 use lib.Seq.{drop-append-le}
 use Rattle.rows.specs.declared.Book.{Book}
 use Rattle.book.specs.Sound.{soundB}
@@ -15,13 +15,14 @@ use Rattle.dayfile.specs.declared.Found.{Found}
 use Rattle.dayfile.specs.declared.Found.the-variants.{End as NoBytes, Cut as TooFew, Whole}
 use Rattle.dayfile.specs.Reading.{foundAt}
 use Rattle.dayfile.proofs.Growing.{further, found-further, found-longer}
+use Rattle.dayfile.proofs.Places.{end-at}
 use Rattle.desk.specs.Answers.{carriedIn}
 use Rattle.desk.specs.Steps.{stepOf}
-use Rattle.records.specs.declared.Closing.the-variants.{Unsound}
+use Rattle.records.specs.declared.Closing.the-variants.{End, Long, Unsound}
 use Rattle.records.specs.declared.Ran.{Ran}
 use Rattle.records.specs.Runs.{endedWith, stopped, onward, runOf, ranOf}
 use Rattle.records.proofs.SoundRun.{run-sound}
-use Rattle.records.proofs.Stops.{run-stops}
+use Rattle.records.proofs.Stops.{run-stops, ran-stops, ran-enough}
 use Rattle.records.proofs.NumbersPut.{ran-sound, ran-unsound}
 
 -- what a run came to, after place bytes and with these counts before it
@@ -127,3 +128,24 @@ module _ (b : Book) (s x : List ℕ) (m n : ℕ) (h : m ≤ n) where
           ∙ on-none (endedWith Unsound b 0 0 0)
           ∙ ap (onFrom 0 0 0) (ran-unsound b (s ++ x) (n - 0) e)
           ∙ ap (λ r. restOf r s x n) (ran-unsound b s m e)
+
+-- ---- a piece that was read to its end, and then what follows, over the book after it
+
+module _ (b : Book) (s x : List ℕ) (n : ℕ) (e : ranOf b s n .closing ≡ End) where
+  abbrev first : Ran
+  first = ranOf b s n
+
+  pub nothing-left : drop (first .place) s ≡ []
+  nothing-left = drop-of-length-le s (end-at s (first .place) (ran-stops b s n .ended e))
+
+  pub after-end : ranOf b (s ++ x) n ≡ onFrom (first .place) (first .read) (first .done) (ranOf (first .book) x (n - first .read))
+  after-end =
+      in-pieces b s x n n (omega arith)
+      ∙ ap (λ l. onFrom (first .place) (first .read) (first .done) (ranOf (first .book) (l ++ x) (n - first .read))) nothing-left
+
+  -- where the stated number doesn't stop the whole, it is the second piece's too
+  pub two-pieces : (ranOf b (s ++ x) n .closing ≡ Long → ⊥) → ranOf b (s ++ x) n ≡ onFrom (first .place) (first .read) (first .done) (ranOf (first .book) x n)
+  two-pieces w =
+      after-end
+      ∙ ap (onFrom (first .place) (first .read) (first .done))
+      (sym (ran-enough (first .book) x (n - first .read) n (omega arith) (λ l. w (ap (λ (r : Ran). r .closing) after-end ∙ l))))

@@ -4,6 +4,7 @@ ghost use mathlib.Core.Path.{_≡_};
 ghost use Prim.Native.Nat.{_≤_};
 ghost use lib.ListN.{length};
 
+pub mod files;
 pub mod standard;
 
 // How often a call is tried again that a signal interrupted before a byte was moved; then it counts as failed.

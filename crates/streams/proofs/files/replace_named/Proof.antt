@@ -1,0 +1,60 @@
+-- `streams::files::replace_named` meets its contract.
+use mathlib.Core.Bool.{false≢true}
+use mathlib.Core.Path.{sym, _∙_}
+use native.Mathlib.Omega.{arith}
+use borrow.Author.Needs.{needs}
+use Rattle.streams.proofs.files.replace_named.Statement.{statement}
+use Rattle.streams.proofs.files.replace_named.Tie as tie
+
+buffer-requires : tie.Need-buffer-requires
+buffer-requires c κs = search needs
+
+slice-aggregate-arg : tie.Need-slice-aggregate-arg
+slice-aggregate-arg c = search needs
+
+arg-requires : tie.Need-arg-requires
+arg-requires c κs = search needs
+
+errno-requires : tie.Need-errno-requires
+errno-requires c κs = search needs
+
+slice-aggregate-cannot : tie.Need-slice-aggregate-cannot
+slice-aggregate-cannot c = search needs
+
+cannot-requires : tie.Need-cannot-requires
+cannot-requires c κs = search needs
+
+nothing-moved-requires : tie.Need-nothing-moved-requires
+nothing-moved-requires c κs = search needs
+
+returns : tie.Need-returns
+returns c = (omega arith, λ e. absurd (false≢true (sym e ∙ c .nothing-moved .ensures .0)))
+
+array-share-prefix-name : tie.Need-array-share-prefix-name
+array-share-prefix-name c = search needs
+
+slice-aggregate-replace-file : tie.Need-slice-aggregate-replace-file
+slice-aggregate-replace-file c = search needs
+
+replace-file-requires : tie.Need-replace-file-requires
+replace-file-requires c κs = search needs
+
+returns-2 : tie.Need-returns-2
+returns-2 c = search needs
+
+pub replace-named-spec : {M : Type 1} → statement M
+replace-named-spec =
+    tie.close
+    (tie.spec
+    buffer-requires
+    slice-aggregate-arg
+    arg-requires
+    errno-requires
+    slice-aggregate-cannot
+    cannot-requires
+    nothing-moved-requires
+    returns
+    array-share-prefix-name
+    slice-aggregate-replace-file
+    replace-file-requires
+    returns-2)
