@@ -12,8 +12,8 @@ use Rattle.sums.specs.Choice.{pick}
 use Rattle.sums.specs.Listed.{listTo}
 use Rattle.sums.proofs.Choices.{and-right, and-join, pick-yes, pick-no}
 use Rattle.sums.proofs.Lists.{list-is}
-use Rattle.dayfile.specs.Bytes.{number, bytesOf}
-use Rattle.dayfile.proofs.Numbers.{length-bytesOf, drop-bytesOf, number-bytesOf}
+use Rattle.numbers.specs.Bytes.{number, bytesOf}
+use Rattle.numbers.proofs.Numbers.{length-bytesOf, drop-bytesOf, number-bytesOf}
 use Rattle.closeouts.specs.declared.losses.Losses.{Losses}
 use Rattle.closeouts.specs.Losses.{lossIn, lossCount, lossesOf, lossFile, Fits, Came}
 

@@ -7,8 +7,7 @@ use lib.Dec.{eqb, leb}
 use lib.ListN.{length, take, drop, getD}
 use Rattle.sums.specs.Choice.{pick}
 use Rattle.sums.specs.Listed.{listTo}
-use Rattle.dayfile.specs.Bytes.{number, bytesOf}
-use Rattle.dayfile.specs.Files.{Bytes}
+use Rattle.numbers.specs.Bytes.{number, bytesOf, Bytes}
 use Rattle.closeouts.specs.declared.losses.Losses.{Losses}
 
 -- "all numbers are high byte first": loss i is the number that the eight bytes behind those of i losses say

@@ -7,12 +7,11 @@ use native.Mathlib.Omega.{arith}
 use lib.ListN.{length, drop, length-drop}
 use mir.Syntax.{w64}
 use mir.Val.{Fits}
-use Rattle.dayfile.specs.Bytes.{number, bytesOf}
-use Rattle.dayfile.specs.Files.{Bytes}
+use Rattle.numbers.specs.Bytes.{number, bytesOf, Bytes}
+use Rattle.numbers.proofs.Numbers.{length-bytesOf, number-bytesOf, drop-bytesOf, bytesOf-number, bytes-drop}
 use Rattle.dayfile.specs.Records.{bit, goodAmount}
 use Rattle.dayfile.specs.Reading.{got, past}
 use Rattle.dayfile.specs.Written.{field}
-use Rattle.dayfile.proofs.Numbers.{length-bytesOf, number-bytesOf, drop-bytesOf, bytesOf-number, bytes-drop}
 use Rattle.dayfile.proofs.Marks.{bit-lt}
 use Rattle.dayfile.proofs.Good.{amount-most, amount-unnamed}
 

@@ -11,15 +11,14 @@ use lib.Seq.{drop-append-le, drop-drop}
 use borrow.Author.Tests.{le-leb, leb-false}
 use Rattle.sums.specs.Choice.{pick}
 use Rattle.sums.proofs.Choices.{pick-yes}
+use Rattle.numbers.specs.Bytes.{number, Bytes}
+use Rattle.numbers.proofs.Numbers.{bytes-drop}
 use Rattle.dayfile.specs.declared.Record.{Record}
 use Rattle.dayfile.specs.declared.Found.{Found}
 use Rattle.dayfile.specs.declared.Found.the-variants.{End, Cut, Whole}
-use Rattle.dayfile.specs.Bytes.{number}
-use Rattle.dayfile.specs.Files.{Bytes}
 use Rattle.dayfile.specs.Records.{bit}
 use Rattle.dayfile.specs.Reading.{sizeOf, got, past, recordOf, foundFrom, foundAt}
 use Rattle.dayfile.proofs.Apart.{zero-is-not-one}
-use Rattle.dayfile.proofs.Numbers.{bytes-drop}
 use Rattle.dayfile.proofs.Marks.{ones-bits}
 use Rattle.dayfile.proofs.Amounts.{past-length}
 use Rattle.dayfile.proofs.Lengths.{size-most}

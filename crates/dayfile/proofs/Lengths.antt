@@ -4,11 +4,11 @@ use Prim.Native.Nat.{ℕ, _+_, _*_, _/_, _^_, _≤_, _<_}
 use native.Mathlib.Omega.{arith}
 use lib.Count.{ones, ones-le}
 use lib.ListN.{length, length-append}
+use Rattle.numbers.proofs.Numbers.{length-bytesOf}
 use Rattle.dayfile.specs.declared.Record.{Record}
 use Rattle.dayfile.specs.Records.{faultOf}
 use Rattle.dayfile.specs.Reading.{sizeOf}
 use Rattle.dayfile.specs.Written.{bodyOf, writtenOf}
-use Rattle.dayfile.proofs.Numbers.{length-bytesOf}
 use Rattle.dayfile.proofs.Marks.{ones-bits, ones-zero}
 use Rattle.dayfile.proofs.Amounts.{length-bit}
 use Rattle.dayfile.proofs.Good.{no-fault-good, suits-lt}

@@ -1,5 +1,4 @@
 mod Apart
-pub mod Numbers
 mod Marks
 mod Amounts
 mod Looking

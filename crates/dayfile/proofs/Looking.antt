@@ -7,13 +7,13 @@ use lib.ListN.{length, drop, getD, length-drop, drop-of-length-le}
 use lib.Seq.{drop-cons, drop-drop}
 use borrow.Author.Tests.{le-leb, lt-leb}
 use Rattle.sums.proofs.Choices.{pick-first, pick-second, refused-by}
+use Rattle.numbers.specs.Bytes.{number}
+use Rattle.numbers.proofs.Numbers.{two-at}
 use Rattle.dayfile.specs.declared.Record.{Record}
 use Rattle.dayfile.specs.declared.Found.the-variants.{End as NoBytes, Cut as TooFew, Whole}
 use Rattle.dayfile.specs.declared.Read.the-variants.{End, Cut, Good, Bad}
-use Rattle.dayfile.specs.Bytes.{number}
 use Rattle.dayfile.specs.Records.{bit, faultOf}
 use Rattle.dayfile.specs.Reading.{sizeOf, got, recordOf, foundFrom, foundAt, judged, readOf, readAt}
-use Rattle.dayfile.proofs.Numbers.{two-at}
 use Rattle.dayfile.proofs.Amounts.{past-bit}
 
 pub found-end : (s : List ℕ) (at : ℕ) → length s ≤ at → NoBytes ≡ foundAt s at

@@ -1,25 +1,20 @@
 -- Laws of bytes put into a room, one run after another.
 use mathlib.Core.Path.{_≡_, refl}
-use mathlib.Core.List.{List, [], _∷_, _++_}
-use Prim.Native.Nat.{ℕ, suc, _+_, _/_, _%_, _^_}
-use native.Mathlib.Nat.{add-zero, add-suc, suc-add, div-one}
-use native.Mathlib.Numerals.{add-one}
+use mathlib.Core.List.{List, _++_}
+use Prim.Native.Nat.{ℕ, _+_}
 use native.Mathlib.Omega.{arith}
 use lib.ListN.{length, set, length-append, length-set}
 use lib.Seq.{sets}
+use Rattle.numbers.specs.Bytes.{bytesOf}
+use Rattle.numbers.proofs.Numbers.{length-bytesOf}
+use Rattle.numbers.proofs.Rooms.{sets-append}
 use Rattle.dayfile.specs.declared.Record.{Record}
-use Rattle.dayfile.specs.Bytes.{bytesOf}
 use Rattle.dayfile.specs.Records.{bit}
 use Rattle.dayfile.specs.Written.{field, bodyOf, writtenOf}
 use Rattle.dayfile.specs.Putting.{Put}
-use Rattle.dayfile.proofs.Numbers.{length-bytesOf, bytesOf-add}
 use Rattle.dayfile.proofs.Amounts.{field-named, field-unnamed}
 
--- two runs, one after the other, are one
-sets-append : (vs ws l : List ℕ) (i : ℕ) → sets (sets l i vs) (i + length vs) ws ≡ sets l i (vs ++ ws)
-sets-append [] ws l i = rw add-zero
-sets-append (v ∷ vs) ws l i = rw (add-suc, ← suc-add) (sets-append vs ws (set l i v) (suc i))
-
+-- one run, and another one where it ended
 pub put-more : {l m n : List ℕ} {i j k : ℕ} {f g : List ℕ} → Put l i f j m → Put m j g k n → Put l i (f ++ g) k n
 put-more {l} {m} {n} {i} {j} {k} {f} {g} p q = record {
   place = rw length-append (omega (arith, p .place, q .place));
@@ -28,15 +23,6 @@ put-more {l} {m} {n} {i} {j} {k} {f} {g} p q = record {
 
 pub put-bytes : {l m : List ℕ} (k i x : ℕ) → m ≡ sets l i (bytesOf k x) → Put l i (bytesOf k x) (i + k) m
 put-bytes k i x e = record { place = rw length-bytesOf refl; held = e }
-
-pub sets-two : (l : List ℕ) (at x : ℕ) → set (set l at (x / 256 % 256)) (at + 1) (x % 256) ≡ sets l at (bytesOf 2 x)
-unfolding bytesOf
-sets-two l at x = rw (div-one, add-one)
-
--- the high j bytes of x and then its low k bytes
-pub sets-both : (l m n : List ℕ) (j k at x : ℕ) → m ≡ sets l at (bytesOf j (x / 256 ^ k)) → n ≡ sets m (at + j) (bytesOf k (x % 256 ^ k))
-    → n ≡ sets l at (bytesOf (j + k) x)
-sets-both l m n j k at x p q = rw (bytesOf-add j k x) (put-more (put-bytes j at _ p) (put-bytes k (at + j) _ q) .held)
 
 pub put-none : (l : List ℕ) (i b x : ℕ) → b ≡ 0 → Put l i (field b x) i l
 put-none l i b x h = record { place = rw (field-unnamed b x h) (omega arith); held = rw (field-unnamed b x h) refl }

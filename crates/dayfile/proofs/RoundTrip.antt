@@ -10,17 +10,18 @@ use lib.Seq.{drop-append-seam, take-append-seam, drop-drop}
 use borrow.Author.Tests.{le-leb}
 use Rattle.sums.specs.Choice.{unlessRefused}
 use Rattle.sums.proofs.Choices.{pick-yes}
+use Rattle.numbers.specs.Bytes.{Bytes}
+use Rattle.numbers.proofs.Numbers.{bytes-drop}
 use Rattle.dayfile.specs.declared.Record.{Record}
 use Rattle.dayfile.specs.declared.Found.{Found}
 use Rattle.dayfile.specs.declared.Found.the-variants.{End as NoBytes, Cut as TooFew, Whole}
 use Rattle.dayfile.specs.declared.Read.the-variants.{End, Good, Bad}
 use Rattle.dayfile.specs.declared.Wrote.the-variants.{Written}
-use Rattle.dayfile.specs.Files.{Bytes, WordsFit, AllGood, none, also, Reads, done, more, fileOf}
+use Rattle.dayfile.specs.Files.{WordsFit, AllGood, none, also, Reads, done, more, fileOf}
 use Rattle.dayfile.specs.Records.{faultOf}
 use Rattle.dayfile.specs.Written.{bodyOf, writtenOf, wroteOf, roomAfter}
 use Rattle.dayfile.specs.Reading.{sizeOf, foundFrom, foundAt, judged, readOf, readAt}
 use Rattle.dayfile.proofs.Apart.{zero-is-not-one}
-use Rattle.dayfile.proofs.Numbers.{bytes-drop}
 use Rattle.dayfile.proofs.Good.{no-fault-good, suits-lt}
 use Rattle.dayfile.proofs.Lengths.{length-body, length-written}
 use Rattle.dayfile.proofs.Answers.{refused-not, wrote-all}

@@ -1,17 +1,12 @@
--- What the theorems on whole day files speak of. Of it only `Bytes` stands in a promise, that of the crate feed.
+-- What the theorems on whole day files speak of: no promise of a public call cites it.
 use mathlib.Core.List.{List, [], _∷_, _++_}
 use mathlib.Core.Path.{_≡_}
 use Prim.Native.Nat.{ℕ, _^_, _<_}
-use lib.ListN.{getD}
 use Rattle.dayfile.specs.declared.Record.{Record}
 use Rattle.dayfile.specs.declared.Read.the-variants.{End, Good}
 use Rattle.dayfile.specs.Records.{faultOf}
 use Rattle.dayfile.specs.Written.{writtenOf}
 use Rattle.dayfile.specs.Reading.{readAt}
-
--- every element is a byte
-abbrev pub Bytes : List ℕ → Type 0
-Bytes l = (i : ℕ) → getD l i 0 < 256
 
 -- The numbers that a record's words can hold: u16 for serial and account, u8 for code and second mark byte.
 pub record WordsFit (r : Record) : Type 0 where

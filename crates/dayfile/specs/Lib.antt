@@ -1,4 +1,3 @@
-pub mod Bytes
 pub mod Records
 pub mod Written
 pub mod Reading

@@ -5,12 +5,12 @@ use lib.Count.{ones}
 use lib.Dec.{leb}
 use lib.ListN.{length, drop}
 use Rattle.sums.specs.Choice.{pick, unlessRefused}
+use Rattle.numbers.specs.Bytes.{number}
 use Rattle.dayfile.specs.declared.Record.{Record}
 use Rattle.dayfile.specs.declared.Found.{Found}
 use Rattle.dayfile.specs.declared.Found.the-variants.{End as NoBytes, Cut as TooFew, Whole}
 use Rattle.dayfile.specs.declared.Read.{Read}
 use Rattle.dayfile.specs.declared.Read.the-variants.{End, Cut, Good, Bad}
-use Rattle.dayfile.specs.Bytes.{number}
 use Rattle.dayfile.specs.Records.{bit, faultOf}
 
 -- "then eight bytes for each one in the second mark byte": a record's length, unknown codes included

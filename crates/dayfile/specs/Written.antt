@@ -7,10 +7,10 @@ use lib.ListN.{length}
 use Rattle.sums.specs.Choice.{unlessRefused}
 use Rattle.sums.specs.Table.{Line, _when_, first}
 use Rattle.sums.specs.Room.{atStart}
+use Rattle.numbers.specs.Bytes.{bytesOf}
 use Rattle.dayfile.specs.declared.Record.{Record}
 use Rattle.dayfile.specs.declared.Wrote.{Wrote}
 use Rattle.dayfile.specs.declared.Wrote.the-variants.{Written, Refused}
-use Rattle.dayfile.specs.Bytes.{bytesOf}
 use Rattle.dayfile.specs.Records.{bit, faults}
 
 -- For a good record: its second mark byte has none of the bits 6 and 7. "eight bytes for each one in the second mark byte":

@@ -3,7 +3,6 @@ ghost use mathlib.Core.Path.{_≡_};
 ghost use Prim.Native.Nat.{_+_, _*_, _≤_, _<_};
 ghost use lib.ListN.{length, drop};
 ghost use lib.Count.{ones};
-ghost use Rattle.dayfile.specs.Bytes.{number};
 ghost use Rattle.dayfile.specs.Reading.{got, recordOf, foundAt, readAt};
 ghost use Rattle.dayfile.specs.Taking.{placesFrom};
 use crate::Found;
@@ -11,22 +10,9 @@ use crate::Read;
 use crate::Record;
 use crate::records::fault_of;
 use crate::records::size;
+use numbers::number2;
+use numbers::number8;
 use rows::Kinds;
-
-fn number2(piece: &[u8], place: usize) -> u16
-    requires { ⌜ place + 2 ≤ length (now piece) ⌝ }
-    ensures { λ r. ⌜ r ≡ number 2 (drop place (now (piece .entry))) ⌝ }
-{
-    piece[place] as u16 * 256 + piece[place + 1] as u16
-}
-
-fn number8(piece: &[u8], place: usize) -> u64
-    requires { ⌜ place + 8 ≤ length (now piece) ⌝ }
-    ensures { λ r. ⌜ r ≡ number 8 (drop place (now (piece .entry))) ⌝ }
-{
-    (number2(piece, place) as u64 * 281474976710656 + number2(piece, place + 2) as u64 * 4294967296)
-        + (number2(piece, place + 4) as u64 * 65536 + number2(piece, place + 6) as u64)
-}
 
 // The amount at a place where its bit is 1, or 0.
 fn amount_at(piece: &[u8], place: usize, bit: u8) -> u64

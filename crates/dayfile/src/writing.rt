@@ -3,37 +3,14 @@ ghost use mathlib.Core.Path.{_≡_};
 ghost use Prim.Native.Nat.{_+_, _≤_};
 ghost use lib.ListN.{length};
 ghost use lib.Seq.{sets};
-ghost use Rattle.dayfile.specs.Bytes.{bytesOf};
 ghost use Rattle.dayfile.specs.Written.{field, writtenOf, wroteOf, roomAfter};
 ghost use Rattle.dayfile.specs.Putting.{Put};
 use crate::Record;
 use crate::Wrote;
 use crate::records::fault_of;
 use crate::records::size;
-
-fn put2(room: &mut [u8], place: usize, x: u16)
-    requires { ⌜ place + 2 ≤ length (now room) ⌝ }
-    ensures { λ _. ⌜ now (room .exit) ≡ sets (now (room .entry)) place (bytesOf 2 x) ⌝ }
-{
-    room[place] = (x / 256 % 256) as u8;
-    room[place + 1] = (x % 256) as u8;
-}
-
-fn put4(room: &mut [u8], place: usize, x: u32)
-    requires { ⌜ place + 4 ≤ length (now room) ⌝ }
-    ensures { λ _. ⌜ now (room .exit) ≡ sets (now (room .entry)) place (bytesOf 4 x) ⌝ }
-{
-    put2(room, place, (x / 65536) as u16);
-    put2(room, place + 2, (x % 65536) as u16);
-}
-
-fn put8(room: &mut [u8], place: usize, x: u64)
-    requires { ⌜ place + 8 ≤ length (now room) ⌝ }
-    ensures { λ _. ⌜ now (room .exit) ≡ sets (now (room .entry)) place (bytesOf 8 x) ⌝ }
-{
-    put4(room, place, (x / 4294967296) as u32);
-    put4(room, place + 4, (x % 4294967296) as u32);
-}
+use numbers::put2;
+use numbers::put8;
 
 // Puts an amount at a place where its bit is 1, and gives the place after it.
 fn put_amount(room: &mut [u8], place: usize, bit: u8, x: u64) -> usize

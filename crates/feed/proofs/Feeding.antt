@@ -9,10 +9,10 @@ use lib.ListN.{length, take, drop}
 use lib.Seq.{length-take-le, take-add, drop-at}
 use borrow.Author.Tests.{ltb-false}
 use Rattle.sums.specs.Choice.{pick}
+use Rattle.numbers.specs.Bytes.{Bytes}
+use Rattle.numbers.proofs.Numbers.{bytes-drop}
 use Rattle.rows.specs.declared.Book.{Book}
 use Rattle.book.specs.Sound.{soundB}
-use Rattle.dayfile.specs.Files.{Bytes}
-use Rattle.dayfile.proofs.Numbers.{bytes-drop}
 use Rattle.records.specs.declared.Ran.{Ran}
 use Rattle.records.specs.declared.Closing.the-variants.{Unsound}
 use Rattle.records.specs.Runs.{endedWith, ranOf}

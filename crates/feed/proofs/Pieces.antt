@@ -9,9 +9,9 @@ use lib.Dec.{leb}
 use lib.ListN.{length, drop}
 use borrow.Author.Tests.{leb-true, leb-false}
 use Rattle.sums.proofs.Choices.{test-clash}
+use Rattle.numbers.specs.Bytes.{Bytes}
 use Rattle.rows.specs.declared.Book.{Book}
 use Rattle.book.specs.Facts.{Sound}
-use Rattle.dayfile.specs.Files.{Bytes}
 use Rattle.records.specs.declared.Closing.{Closing}
 use Rattle.records.specs.declared.Closing.the-variants.{End, Cut, Long, Unsound}
 use Rattle.records.specs.declared.Ran.{Ran}

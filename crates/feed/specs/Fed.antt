@@ -4,10 +4,10 @@ use mathlib.Core.List.{List}
 use mathlib.Core.Path.{_≡_}
 use Prim.Native.Nat.{ℕ}
 use Rattle.sums.specs.Choice.{pick}
+use Rattle.numbers.specs.Bytes.{Bytes}
 use Rattle.rows.specs.declared.Book.{Book}
 use Rattle.rows.specs.Rows.{freshBook}
 use Rattle.table.specs.Words.{turned}
-use Rattle.dayfile.specs.Files.{Bytes}
 use Rattle.records.specs.declared.Closing.the-variants.{End}
 use Rattle.records.specs.declared.Ran.{Ran}
 use Rattle.records.specs.Runs.{ranOf}

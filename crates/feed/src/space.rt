@@ -2,7 +2,7 @@
 ghost use mathlib.Core.Path.{_≡_};
 ghost use Prim.Native.Nat.{_+_, _-_, _≤_};
 ghost use lib.ListN.{length, take, drop};
-ghost use Rattle.dayfile.specs.Files.{Bytes};
+ghost use Rattle.numbers.specs.Bytes.{Bytes};
 use streams::Moved;
 use streams::standard::read_input;
 

@@ -8,6 +8,7 @@ use Rattle.sums.specs.Sum.{sum, all}
 use Rattle.sums.specs.Choice.{pick}
 use Rattle.sums.specs.Listed.{listTo}
 use Rattle.sums.specs.Table.{first}
+use Rattle.numbers.specs.Bytes.{number}
 use Rattle.rows.specs.View.{needTM, needCM, need, blocked, deemed}
 use Rattle.rows.specs.Rows.{freshBook, hasLiveClient, needAt, view}
 use Rattle.rows.specs.Modes.{useTM, useCM, useOf, modeAfter, looked}
@@ -17,7 +18,6 @@ use Rattle.book.proofs.FreshSound.{fresh-sound, fresh-test}
 use Rattle.dayfile.specs.declared.Record.{Record}
 use Rattle.dayfile.specs.declared.Found.{Found}
 use Rattle.dayfile.specs.declared.Found.the-variants.{End as NoBytes, Cut as TooFew, Whole}
-use Rattle.dayfile.specs.Bytes.{number}
 use Rattle.dayfile.specs.Records.{faultOf}
 use Rattle.dayfile.specs.Reading.{got, past, recordOf, foundFrom, foundAt, sizeOf}
 use Rattle.rules.specs.Effects.{amended}

@@ -11,6 +11,7 @@ use borrow.Author.Tests.{eqb-true}
 use Rattle.sums.specs.Sum.{sum, only}
 use Rattle.sums.specs.Table.{Given, NoneHolds}
 use Rattle.sums.proofs.Sums.{sum-eq}
+use Rattle.numbers.specs.Bytes.{Bytes}
 use Rattle.rows.specs.declared.Row.{Row}
 use Rattle.rows.specs.declared.Book.{Book}
 use Rattle.rows.specs.View.{View, isTM, isCP, isClientOf, ofClients, members, ownDeemed, deemedTM, needTM, needCM, need, blocked, deemed}
@@ -23,7 +24,7 @@ use Rattle.dayfile.specs.declared.Record.{Record}
 use Rattle.dayfile.specs.declared.Found.the-variants.{Whole}
 use Rattle.dayfile.specs.declared.Read.the-variants.{Good}
 use Rattle.dayfile.specs.declared.Wrote.the-variants.{Written}
-use Rattle.dayfile.specs.Files.{Bytes, Reads, WordsFit, AllGood, fileOf}
+use Rattle.dayfile.specs.Files.{Reads, WordsFit, AllGood, fileOf}
 use Rattle.dayfile.specs.Records.{faultOf}
 use Rattle.dayfile.specs.Reading.{foundAt, readAt}
 use Rattle.dayfile.specs.Written.{writtenOf, wroteOf, roomAfter}

@@ -16,10 +16,10 @@ use borrow.Fn.World.{World}
 use Rattle.table.specs.declared.Table.{Table}
 use Rattle.table.specs.Words.{turnedBack}
 use Rattle.book.specs.NeedsListed.{needsRefusal, needsRoom}
-use Rattle.dayfile.specs.Files.{Bytes}
 use Rattle.dayfile.specs.Reading.{placeAfter}
 use Rattle.dayfile.specs.Reader.{startOf, readBy, movedTo}
 use Rattle.sums.specs.Choice.{pick}
+use Rattle.numbers.specs.Bytes.{Bytes}
 use Rattle.streams.specs.declared.Moved.{Moved}
 use Rattle.feed.specs.Fed.{noDay, wholeDay}
 use Rattle.table.proofs as table

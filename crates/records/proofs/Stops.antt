@@ -6,11 +6,11 @@ use mathlib.Core.Path.{_≡_, refl, sym, _∙_}
 use Prim.Native.Nat.{ℕ, zero, suc, _+_, _≤_, _<_}
 use native.Mathlib.Omega.{arith}
 use lib.ListN.{length}
+use Rattle.numbers.specs.Bytes.{Bytes}
 use Rattle.rows.specs.declared.Book.{Book}
 use Rattle.book.specs.Sound.{soundB}
 use Rattle.dayfile.specs.declared.Found.{Found}
 use Rattle.dayfile.specs.declared.Found.the-variants.{End as NoBytes, Cut as TooFew, Whole}
-use Rattle.dayfile.specs.Files.{Bytes}
 use Rattle.dayfile.specs.Reading.{foundAt}
 use Rattle.dayfile.proofs.Places.{next-within, end-at}
 use Rattle.dayfile.proofs.Growing.{cut-near}

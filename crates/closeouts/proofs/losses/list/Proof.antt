@@ -29,11 +29,11 @@ count-of-requires c κs = search needs
 loop-holds : tie.Need-loop-holds Inv-loop μ-loop
 loop-holds c = (c .count-of .ensures, omega arith, length-replicate {A = ℕ} 256 0, λ j l. absurd (omega arith))
 
-mul-eight : tie.Need-mul-eight Inv-loop μ-loop
-mul-eight c = omega (arith, within c)
+mul-number8 : tie.Need-mul-number8 Inv-loop μ-loop
+mul-number8 c = omega (arith, within c)
 
-eight-requires : tie.Need-eight-requires Inv-loop μ-loop
-eight-requires c κs = omega (arith, within c)
+number8-requires : tie.Need-number8-requires Inv-loop μ-loop
+number8-requires c κs = omega (arith, within c)
 
 mul-list : tie.Need-mul-list Inv-loop μ-loop
 mul-list c = omega (arith, within (c .before))
@@ -52,8 +52,8 @@ loop-again c =
     let l = c .before .before .loop in (
       l .inv .0,
       omega arith,
-      length-set (l .list) (l .i) (c .eight .result) ∙ l .inv .2,
-      filled-step (lossIn _) (l .list) 0 (l .i) (c .eight .result) (omega (arith, l .inv .2, within (c .before))) (l .inv .3) (c .eight .ensures),
+      length-set (l .list) (l .i) (c .number8 .result) ∙ l .inv .2,
+      filled-step (lossIn _) (l .list) 0 (l .i) (c .number8 .result) (omega (arith, l .inv .2, within (c .before))) (l .inv .3) (c .number8 .ensures),
     )
 
 returns : tie.Need-returns Inv-loop μ-loop
@@ -70,8 +70,8 @@ list-spec =
     μ-loop
     count-of-requires
     loop-holds
-    mul-eight
-    eight-requires
+    mul-number8
+    number8-requires
     mul-list
     array-write-list
     add-i

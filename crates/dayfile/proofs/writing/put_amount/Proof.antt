@@ -2,7 +2,7 @@
 use mathlib.Core.Path.{ap}
 use native.Mathlib.Omega.{arith}
 use lib.ListN.{length}
-use Rattle.dayfile.proofs.Numbers.{length-bytesOf}
+use Rattle.numbers.proofs.Numbers.{length-bytesOf}
 use Rattle.dayfile.proofs.Amounts.{field-named}
 use Rattle.dayfile.proofs.Rooms.{put-none, put-eight}
 use borrow.Author.Needs.{needs}

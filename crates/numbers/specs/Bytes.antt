@@ -1,6 +1,11 @@
 -- "all numbers are high byte first"
-use Prim.Native.Nat.{ℕ, zero, suc, _+_, _*_, _/_, _%_, _^_}
+use Prim.Native.Nat.{ℕ, zero, suc, _+_, _*_, _/_, _%_, _^_, _<_}
 use mathlib.Core.List.{List, [], _∷_}
+use lib.ListN.{getD}
+
+-- every element is a byte
+abbrev pub Bytes : List ℕ → Type 0
+Bytes l = (i : ℕ) → getD l i 0 < 256
 
 -- the number that l's first k bytes say
 unfoldable pub number : ℕ → List ℕ → ℕ

@@ -1,10 +1,10 @@
--- `dayfile::writing::put2` meets its contract.
+-- `numbers::put2` meets its contract.
 use native.Mathlib.Omega.{arith}
 use lib.ListN.{length-set}
-use Rattle.dayfile.proofs.Rooms.{sets-two}
+use Rattle.numbers.proofs.Rooms.{sets-two}
 use borrow.Author.Needs.{needs}
-use Rattle.dayfile.proofs.writing.put2.Statement.{statement}
-use Rattle.dayfile.proofs.writing.put2.Tie as tie
+use Rattle.numbers.proofs.put2.Statement.{statement}
+use Rattle.numbers.proofs.put2.Tie as tie
 
 cast-room : tie.Need-cast-room
 cast-room c = search needs

@@ -1,8 +1,8 @@
--- `dayfile::writing::put4` meets its contract.
-use Rattle.dayfile.proofs.Rooms.{sets-both}
+-- `numbers::put4` meets its contract.
+use Rattle.numbers.proofs.Rooms.{sets-both}
 use borrow.Author.Needs.{needs}
-use Rattle.dayfile.proofs.writing.put4.Statement.{statement}
-use Rattle.dayfile.proofs.writing.put4.Tie as tie
+use Rattle.numbers.proofs.put4.Statement.{statement}
+use Rattle.numbers.proofs.put4.Tie as tie
 
 cast-put2 : tie.Need-cast-put2
 cast-put2 c = search needs

@@ -1,8 +1,8 @@
--- `dayfile::writing::put8` meets its contract.
-use Rattle.dayfile.proofs.Rooms.{sets-both}
+-- `numbers::put8` meets its contract.
+use Rattle.numbers.proofs.Rooms.{sets-both}
 use borrow.Author.Needs.{needs}
-use Rattle.dayfile.proofs.writing.put8.Statement.{statement}
-use Rattle.dayfile.proofs.writing.put8.Tie as tie
+use Rattle.numbers.proofs.put8.Statement.{statement}
+use Rattle.numbers.proofs.put8.Tie as tie
 
 cast-put4 : tie.Need-cast-put4
 cast-put4 c = search needs

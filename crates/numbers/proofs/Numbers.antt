@@ -10,8 +10,7 @@ use lib.Dec.{lit<}
 use lib.ListN.{length, drop, getD}
 use lib.Pow.{pow-add}
 use lib.Seq.{drop-at, drop-cons, drop-drop, getD-drop}
-use Rattle.dayfile.specs.Bytes.{number, bytesOf}
-use Rattle.dayfile.specs.Files.{Bytes}
+use Rattle.numbers.specs.Bytes.{number, bytesOf, Bytes}
 
 pow-pos : (k : ℕ) → 0 < 256 ^ k
 pow-pos k = one-le-pow k 256 (lit< tt)

@@ -1,10 +1,10 @@
--- `dayfile::reading::number2` meets its contract.
+-- `numbers::number2` meets its contract.
 use Prim.Native.Nat.{_+_}
 use native.Mathlib.Omega.{arith}
-use Rattle.dayfile.proofs.Numbers.{number-two}
+use Rattle.numbers.proofs.Numbers.{number-two}
 use borrow.Author.Needs.{needs}
-use Rattle.dayfile.proofs.reading.number2.Statement.{statement}
-use Rattle.dayfile.proofs.reading.number2.Tie as tie
+use Rattle.numbers.proofs.number2.Statement.{statement}
+use Rattle.numbers.proofs.number2.Tie as tie
 
 shared-slice-read-result : tie.Need-shared-slice-read-result
 shared-slice-read-result c = search needs

@@ -1,9 +1,9 @@
--- `dayfile::reading::number8` meets its contract: four numbers of two bytes each, and no sum of them wraps.
+-- `numbers::number8` meets its contract: four numbers of two bytes each, and no sum of them wraps.
 use denote.Ref.{now}
-use Rattle.dayfile.proofs.Numbers.{number-eight}
+use Rattle.numbers.proofs.Numbers.{number-eight}
 use borrow.Author.Needs.{needs}
-use Rattle.dayfile.proofs.reading.number8.Statement.{statement}
-use Rattle.dayfile.proofs.reading.number8.Tie as tie
+use Rattle.numbers.proofs.number8.Statement.{statement}
+use Rattle.numbers.proofs.number8.Tie as tie
 
 number2-requires : tie.Need-number2-requires
 number2-requires c κs = search needs

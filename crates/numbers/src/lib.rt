@@ -1,0 +1,45 @@
+// Numbers as bytes, high byte first: read at a place of a piece, put at a place of a room. Internal: a caller sees to it that the bytes are there.
+ghost use mathlib.Core.Path.{_≡_};
+ghost use Prim.Native.Nat.{_+_, _≤_};
+ghost use lib.ListN.{length, drop};
+ghost use lib.Seq.{sets};
+ghost use Rattle.numbers.specs.Bytes.{number, bytesOf};
+
+pub fn number2(piece: &[u8], place: usize) -> u16
+    requires { ⌜ place + 2 ≤ length (now piece) ⌝ }
+    ensures { λ r. ⌜ r ≡ number 2 (drop place (now (piece .entry))) ⌝ }
+{
+    piece[place] as u16 * 256 + piece[place + 1] as u16
+}
+
+pub fn number8(piece: &[u8], place: usize) -> u64
+    requires { ⌜ place + 8 ≤ length (now piece) ⌝ }
+    ensures { λ r. ⌜ r ≡ number 8 (drop place (now (piece .entry))) ⌝ }
+{
+    (number2(piece, place) as u64 * 281474976710656 + number2(piece, place + 2) as u64 * 4294967296)
+        + (number2(piece, place + 4) as u64 * 65536 + number2(piece, place + 6) as u64)
+}
+
+pub fn put2(room: &mut [u8], place: usize, x: u16)
+    requires { ⌜ place + 2 ≤ length (now room) ⌝ }
+    ensures { λ _. ⌜ now (room .exit) ≡ sets (now (room .entry)) place (bytesOf 2 x) ⌝ }
+{
+    room[place] = (x / 256 % 256) as u8;
+    room[place + 1] = (x % 256) as u8;
+}
+
+fn put4(room: &mut [u8], place: usize, x: u32)
+    requires { ⌜ place + 4 ≤ length (now room) ⌝ }
+    ensures { λ _. ⌜ now (room .exit) ≡ sets (now (room .entry)) place (bytesOf 4 x) ⌝ }
+{
+    put2(room, place, (x / 65536) as u16);
+    put2(room, place + 2, (x % 65536) as u16);
+}
+
+pub fn put8(room: &mut [u8], place: usize, x: u64)
+    requires { ⌜ place + 8 ≤ length (now room) ⌝ }
+    ensures { λ _. ⌜ now (room .exit) ≡ sets (now (room .entry)) place (bytesOf 8 x) ⌝ }
+{
+    put4(room, place, (x / 4294967296) as u32);
+    put4(room, place + 4, (x % 4294967296) as u32);
+}
