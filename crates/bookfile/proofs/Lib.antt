@@ -1,0 +1,5 @@
+mod Filling
+mod Tested
+mod Joining
+mod Parts
+mod Wrote

@@ -1,0 +1,81 @@
+-- `bookfile::writing::put_amounts` meets its contract.
+use mathlib.Core.Path.{_≡_, refl, ap, _∙_}
+use Prim.Native.Nat.{_+_, _-_, _*_, _≤_}
+use native.Mathlib.Omega.{arith}
+use lib.ListN.{length}
+use lib.Seq.{sets}
+use Rattle.numbers.specs.Bytes.{bytesOf}
+use Rattle.numbers.proofs.Numbers.{length-bytesOf}
+use Rattle.table.specs.Words.{wordAt}
+use Rattle.bookfile.specs.Written.{joined}
+use Rattle.bookfile.proofs.Joining.{joined-put}
+use Rattle.bookfile.proofs.writing.put_amounts.Statement.{statement}
+use Rattle.bookfile.proofs.writing.put_amounts.Tie as tie
+
+abbrev Inv-loop : tie.InvT-loop
+Inv-loop room₀ place amounts i k₀ room k =
+    (k ≤ 10) × (length room ≡ length room₀) × (room ≡ sets room₀ place (joined (λ j. bytesOf 8 (wordAt amounts j i)) k))
+
+abbrev μ-loop : tie.MeasureT-loop
+μ-loop room₀ place amounts i k₀ room k = 10 - k
+
+loop-holds : tie.Need-loop-holds Inv-loop μ-loop
+unfolding joined
+loop-holds c = (omega arith, refl, refl)
+
+mul-put8 : tie.Need-mul-put8 Inv-loop μ-loop
+mul-put8 c = omega arith
+
+add-put8 : tie.Need-add-put8 Inv-loop μ-loop
+add-put8 c = omega arith
+
+word-at-requires : tie.Need-word-at-requires Inv-loop μ-loop
+word-at-requires c κs = omega arith
+
+put8-requires : tie.Need-put8-requires Inv-loop μ-loop
+put8-requires c κs = omega arith
+
+add-k : tie.Need-add-k Inv-loop μ-loop
+add-k c = omega arith
+
+loop-less : tie.Need-loop-less Inv-loop μ-loop
+loop-less c = omega arith
+
+loop-again : tie.Need-loop-again Inv-loop μ-loop
+loop-again c =
+    let c1 = c .before .before in
+    let c0 = c1 .before .before .before .before in
+    let l = c0 .loop in
+    let a = c0 .before .before .args in (
+      omega arith,
+      c1 .put8 .kept .0 ∙ l .inv .1,
+      joined-put (λ j. bytesOf 8 (wordAt (a .amounts .now) j (a .i))) 8 (λ j. length-bytesOf 8 (wordAt (a .amounts .now) j (a .i))) _ _ _ (a .place) (l .k) (l .inv .2)
+          (c1 .put8 .ensures ∙ ap (λ x. sets (l .room) (a .place + 8 * l .k) (bytesOf 8 x)) (c1 .before .word-at .ensures)),
+    )
+
+same-length : tie.Need-same-length Inv-loop μ-loop
+same-length c = c .before .loop .inv .1
+
+returns : tie.Need-returns Inv-loop μ-loop
+returns c =
+    let l = c .before .loop in
+    let a = c .before .before .before .args in
+    let e : l .k ≡ 10 = omega arith in
+    l .inv .2 ∙ ap (λ n. sets (a .room .now) (a .place) (joined (λ j. bytesOf 8 (wordAt (a .amounts .now) j (a .i))) n)) e
+
+pub put-amounts-spec : {M : Type 1} → statement M
+put-amounts-spec =
+    tie.close
+    (tie.spec
+    Inv-loop
+    μ-loop
+    loop-holds
+    mul-put8
+    add-put8
+    word-at-requires
+    put8-requires
+    add-k
+    loop-less
+    loop-again
+    same-length
+    returns)

@@ -1,0 +1,63 @@
+-- `bookfile::writing::put_head` meets its contract.
+use mathlib.Core.List.{List}
+use mathlib.Core.Path.{_≡_, _∙_}
+use Prim.Native.Nat.{ℕ}
+use native.Mathlib.Omega.{arith}
+use borrow.Author.Needs.{needs}
+use lib.ListN.{length, set, length-set}
+use Rattle.numbers.specs.Bytes.{bytesOf}
+use Rattle.numbers.proofs.Numbers.{length-bytesOf}
+use Rattle.bookfile.proofs.Parts.{put-then}
+use Rattle.bookfile.proofs.writing.put_head.Statement.{statement}
+use Rattle.bookfile.proofs.writing.put_head.Tie as tie
+
+-- the room with the mark put
+abbrev begun : List ℕ → List ℕ
+begun l = set (set (set (set l 0 76) 1 86) 2 66) 3 1
+
+length-begun : (l : List ℕ) → length (begun l) ≡ length l
+length-begun l = simp length-set
+
+slice-write-room : tie.Need-slice-write-room
+slice-write-room c = search needs
+
+slice-write-room-2 : tie.Need-slice-write-room-2
+slice-write-room-2 c = simp length-set (omega arith)
+
+slice-write-room-3 : tie.Need-slice-write-room-3
+slice-write-room-3 c = simp length-set (omega arith)
+
+slice-write-room-4 : tie.Need-slice-write-room-4
+slice-write-room-4 c = simp length-set (omega arith)
+
+put2-requires : tie.Need-put2-requires
+put2-requires c κs = simp length-set (omega arith)
+
+put2-requires-2 : tie.Need-put2-requires-2
+put2-requires-2 c κs =
+    let a = c .before .before .before .before .before .before .args in
+    omega (arith, length-begun (a .room .now))
+
+same-length : tie.Need-same-length
+same-length c =
+    let c1 = c .before .before .before .before .before .before in
+    c .before .before .put22 .kept .0 ∙ c1 .put2 .kept .0 ∙ simp length-set
+
+returns : tie.Need-returns
+returns c =
+    let c1 = c .before .before .before .before .before .before in
+    let a = c1 .before .before .before .args in
+    put-then (begun (a .room .now)) _ _ (bytesOf 2 (a .count)) (bytesOf 2 (a .serial)) 4 2 (c1 .put2 .ensures) (c .before .before .put22 .ensures) (length-bytesOf 2 (a .count))
+
+pub put-head-spec : {M : Type 1} → statement M
+put-head-spec =
+    tie.close
+    (tie.spec
+    slice-write-room
+    slice-write-room-2
+    slice-write-room-3
+    slice-write-room-4
+    put2-requires
+    put2-requires-2
+    same-length
+    returns)

@@ -1,0 +1,30 @@
+-- `bookfile::writing::write` meets its contract.
+use borrow.Author.Needs.{needs}
+use Rattle.bookfile.proofs.Parts.{put-written}
+use Rattle.bookfile.proofs.Wrote.{other-room, fitting-room}
+use Rattle.bookfile.proofs.writing.write.Statement.{statement}
+use Rattle.bookfile.proofs.writing.write.Tie as tie
+
+returns : tie.Need-returns
+returns c = other-room (c .before .before .args .t) _ (c .if1 .taken)
+
+put-head-requires : tie.Need-put-head-requires
+put-head-requires c κs = search needs
+
+put-places-requires : tie.Need-put-places-requires
+put-places-requires c κs = search needs
+
+same-length : tie.Need-same-length
+same-length c = search needs
+
+returns-2 : tie.Need-returns-2
+returns-2 c =
+    let cp = c .before .before in
+    let ch = cp .before .before .before .before in
+    let e = ch .before .before in
+    let a = e .before .before .args in
+    fitting-room (a .t) (a .room .now) _ (e .if1 .left) (put-written (a .t) (a .room .now) _ _ (e .if1 .left) (ch .put-head .ensures) (cp .put-places .ensures))
+
+pub write-spec : {M : Type 1} → statement M
+write-spec =
+    tie.close (tie.spec returns put-head-requires put-places-requires same-length returns-2)
