@@ -1,6 +1,5 @@
-// The close-out of the book after the day file on standard input, with the losses of the file that the argument names: the
-// closing line, then a line for each account and the total, or the refusal. Where that file can't be read, a line on standard
-// error alone.
+// The close-out of the book after the day file on standard input, over a fresh book or the one in the file FROM, with the losses of the file LOSSES: the
+// closing line, then a line for each account and the total, or the refusal. Where a file can't be read, a line on standard error alone.
 ghost use mathlib.Core.Path.{_≡_};
 ghost use Prim.Native.Nat.{_≤_};
 ghost use lib.ListN.{length, replicate};
@@ -56,16 +55,23 @@ fn close_out(t: Table, list: [u64; 256], count: usize)
 
 fn main() {
     let help = streams::standard::help(
-        b"closeouts: carries out the day file on standard input over a fresh book; the closing line, then who pays the losses in the file named, a line for each account\nusage: closeouts LOSSES < DAYFILE\n",
+        b"closeouts: carries out the day file on standard input over a fresh book, or over the one in the file FROM (- for a fresh one); the closing line, then who pays the losses in the file LOSSES, a line for each account\nusage: closeouts LOSSES [FROM] < DAYFILE\n",
     );
     if help.asked {
+        return;
+    }
+    if streams::standard::too_many_words(b"closeouts", 2) {
         return;
     }
     let losses = file::from_argument();
     if !losses.readable {
         return;
     }
-    let day = feed::whole_day(b"closeouts", false);
+    let from = feed::books::from_word(b"closeouts", 2);
+    if from.failed {
+        return;
+    }
+    let day = feed::whole_day(b"closeouts", false, from.table);
     if day.failed {
         return;
     }

@@ -1,3 +1,4 @@
 pub mod Fed
 pub mod Pieces
+pub mod Books
 pub mod Inner

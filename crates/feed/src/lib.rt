@@ -17,6 +17,7 @@ use turn::NUMBERS;
 use turn::ROOM;
 use turn::stops;
 
+pub mod books;
 mod space;
 mod turn;
 

@@ -71,3 +71,17 @@ pub fn help(text: &[u8]) -> Helped
         count: told.count,
     }
 }
+
+// Whether there are more words than a program takes. That is told: a word that nothing reads may be a name that was meant.
+pub fn too_many_words(program: &[u8], most: usize) -> bool {
+    let count = os::arg_count();
+    if count <= most {
+        return false;
+    }
+    if count - most == 1 {
+        return false;
+    }
+    io::write_all(STDERR_FILENO, program);
+    io::write_all(STDERR_FILENO, b": too many words\n");
+    true
+}

@@ -1,0 +1,19 @@
+-- `feed::books::held` meets its contract.
+use mathlib.Core.Path.{ap}
+use Rattle.feed.specs.Books.{fromHeld}
+use borrow.Author.Needs.{needs}
+use Rattle.feed.proofs.books.held.Statement.{statement}
+use Rattle.feed.proofs.books.held.Tie as tie
+
+read-requires : tie.Need-read-requires
+read-requires c κs = search needs
+
+tell-none-requires : tie.Need-tell-none-requires
+tell-none-requires c κs = search needs
+
+returns : tie.Need-returns
+unfolding fromHeld
+returns c = ap fromHeld (c .before .before .before .before .read .ensures)
+
+pub held-spec : {M : Type 1} → statement M
+held-spec = tie.close (tie.spec read-requires tell-none-requires returns)
