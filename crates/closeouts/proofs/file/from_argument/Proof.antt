@@ -22,11 +22,17 @@ unreadable-requires c κs = search needs
 returns : tie.Need-returns
 returns c = (omega arith, none-came _ (c .unreadable .ensures))
 
-slice-aggregate-read-file : tie.Need-slice-aggregate-read-file
-slice-aggregate-read-file c = search needs
+slice-aggregate-read-named : tie.Need-slice-aggregate-read-named
+slice-aggregate-read-named c = search needs
 
-read-file-requires : tie.Need-read-file-requires
-read-file-requires c κs = search needs
+slice-aggregate-read-named-2 : tie.Need-slice-aggregate-read-named-2
+slice-aggregate-read-named-2 c = search needs
+
+slice-aggregate-read-named-3 : tie.Need-slice-aggregate-read-named-3
+slice-aggregate-read-named-3 c = search needs
+
+read-named-requires : tie.Need-read-named-requires
+read-named-requires c κs = search needs
 
 unreadable-requires-2 : tie.Need-unreadable-requires-2
 unreadable-requires-2 c κs = search needs
@@ -55,8 +61,10 @@ from-argument-spec =
     write-all-requires
     unreadable-requires
     returns
-    slice-aggregate-read-file
-    read-file-requires
+    slice-aggregate-read-named
+    slice-aggregate-read-named-2
+    slice-aggregate-read-named-3
+    read-named-requires
     unreadable-requires-2
     returns-2
     array-share-prefix-bytes
