@@ -107,6 +107,9 @@ pub struct Book {
     /// For each account, the excess of those directly under it, in tenths,
     /// added up. Kept so that a look needs no walk over all the rows.
     over: [u64; MOST_ACCOUNTS],
+    /// Whether every mode has been looked at. Those of a book that was handed
+    /// over need not fit its figures until a record is carried out.
+    looked: bool,
 }
 
 /// What an account leaves to the one that answers for it.
@@ -128,7 +131,34 @@ impl Book {
             modes: [Mode::Off; MOST_ACCOUNTS],
             needs: [0; MOST_ACCOUNTS],
             over: [0; MOST_ACCOUNTS],
+            looked: true,
         }
+    }
+
+    /// A sound book that comes from outside: what is kept for the look is
+    /// worked out from its rows.
+    pub fn handed_over(
+        rows: [Row; MOST_ACCOUNTS],
+        count: usize,
+        serial: u16,
+        modes: [Mode; MOST_ACCOUNTS],
+        needs: [u64; MOST_ACCOUNTS],
+    ) -> Book {
+        let mut book = Book {
+            rows,
+            count,
+            serial,
+            modes,
+            needs,
+            over: [0; MOST_ACCOUNTS],
+            looked: false,
+        };
+        for (account, used) in book.uses().into_iter().enumerate() {
+            if book.is_member(account) {
+                book.over[account] = used - 10 * rows[account].margin;
+            }
+        }
+        book
     }
 
     /// "The account is not live, or its number was never given" is the opposite.

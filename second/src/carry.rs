@@ -40,9 +40,14 @@ impl Answer {
 
 type Carried = Result<Outcome, Refusal>;
 
+/// A record that was read.
+pub fn carry(book: &mut Book, record: &Record) -> Answer {
+    carry_values(book, &record.values())
+}
+
 /// Refusal 3 changes nothing; from 4 on the serial moves as for a record
 /// carried out. Modes are "looked at after every record carried out".
-pub fn carry(book: &mut Book, record: &Record) -> Answer {
+pub fn carry_values(book: &mut Book, record: &Values) -> Answer {
     let outcome = if record.serial != book.serial {
         Outcome::Refused(Refusal::WrongSerial)
     } else {
@@ -50,7 +55,7 @@ pub fn carry(book: &mut Book, record: &Record) -> Answer {
         instruct(book, record).unwrap_or_else(Outcome::Refused)
     };
     if !matches!(outcome, Outcome::Refused(_)) {
-        book.look_along(usize::from(record.account));
+        book.look_after(usize::from(record.account));
     }
     Answer {
         serial: record.serial,
@@ -60,11 +65,14 @@ pub fn carry(book: &mut Book, record: &Record) -> Answer {
     }
 }
 
-fn instruct(book: &mut Book, record: &Record) -> Carried {
-    let amounts = record.checked()?;
+fn instruct(book: &mut Book, record: &Values) -> Carried {
+    if let Some(fault) = record.fault() {
+        return Err(fault);
+    }
     if !book.is_live(record.account) {
         return Err(Refusal::NotLive);
     }
+    let amounts = record.amounts;
     let account = usize::from(record.account);
     let kinds = [amounts[0], amounts[1], amounts[2], amounts[3]];
     match record.code {

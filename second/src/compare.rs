@@ -190,8 +190,10 @@ fn kinds_met(made: &Made, looks: &Looks, moves: &Moves) -> usize {
 /// be taken out against the rules by the letter, and 13 against its old line.
 fn own_answer(made: &Made, tally: &mut Tally) -> Result<Own, String> {
     let (mut faults, mut read) = (0, 0);
-    let (mut looks, mut moves) = (Looks::fresh(), Moves::fresh());
-    let (mut holds, mut margins) = (Holds::over(&made.bytes), Margins::over(&made.bytes));
+    let fresh = Book::fresh();
+    let (mut looks, mut moves) = (Looks::from(&fresh), Moves::from(&fresh));
+    let mut holds = Holds::from(&fresh, &made.bytes);
+    let mut margins = Margins::from(&fresh, &made.bytes);
     let mut stops = Vec::new();
     let checked = made.kind != MILLION_KIND.0;
     let (out, book, day) = print::day_seen(&made.bytes, |answer, book| {

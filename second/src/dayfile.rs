@@ -24,6 +24,16 @@ pub const UNPLEDGE: u8 = 9;
 pub const SET_MARGIN: u8 = 10;
 pub const RETIRE: u8 = 11;
 
+/// A record handed over as values: the second mark byte and six amounts.
+#[derive(Clone, Copy, PartialEq, Eq, Default, Debug)]
+pub struct Values {
+    pub serial: u16,
+    pub code: u8,
+    pub mark: u8,
+    pub account: u16,
+    pub amounts: [u64; 6],
+}
+
 /// A whole record, its amounts still as bytes: refusals 3, 4 and 5 come
 /// before any look at them, and an unsuited mark may name up to eight.
 #[derive(Clone, Copy)]
@@ -62,23 +72,36 @@ impl<'a> Reader<'a> {
 
     /// With the end and with a cut the place stays where it was.
     pub fn next(&mut self) -> Next<'a> {
-        let left = self.left();
-        if left.is_empty() {
-            return Next::End;
+        let next = first_of(self.left());
+        if let Next::Record(record) = &next {
+            self.place += length(record.mark);
         }
-        if left.len() < HEAD || left.len() < length(left[1]) {
-            return Next::Cut;
-        }
-        let length = length(left[1]);
-        self.place += length;
-        Next::Record(Record {
-            code: left[0],
-            mark: left[1],
-            serial: u16::from_be_bytes([left[2], left[3]]),
-            account: u16::from_be_bytes([left[4], left[5]]),
-            amounts: &left[HEAD..length],
-        })
+        next
     }
+}
+
+/// What bytes begin with.
+fn first_of(left: &[u8]) -> Next<'_> {
+    if left.is_empty() {
+        return Next::End;
+    }
+    if left.len() < HEAD || left.len() < length(left[1]) {
+        return Next::Cut;
+    }
+    Next::Record(Record {
+        code: left[0],
+        mark: left[1],
+        serial: u16::from_be_bytes([left[2], left[3]]),
+        account: u16::from_be_bytes([left[4], left[5]]),
+        amounts: &left[HEAD..length(left[1])],
+    })
+}
+
+/// What stands at a place. "A place past the piece's end counts as the end",
+/// the largest number too.
+pub fn next_at(piece: &[u8], place: u64) -> Next<'_> {
+    let place = usize::try_from(place).unwrap_or(usize::MAX);
+    first_of(piece.get(place..).unwrap_or(&[]))
 }
 
 /// "Eight bytes for each one in the second mark byte", whatever the code.
@@ -97,26 +120,65 @@ pub fn suits(code: u8, mark: u8) -> Option<bool> {
     }
 }
 
-impl Record<'_> {
-    /// The six amounts, 0 for each not named, or the first of 4, 5, 6.
-    pub fn checked(&self) -> Result<[u64; 6], Refusal> {
+impl Values {
+    /// The first of 4, 5, 6 that applies. "An unnamed amount that isn't 0
+    /// gives 6."
+    pub fn fault(&self) -> Option<Refusal> {
         match suits(self.code, self.mark) {
-            None => return Err(Refusal::UnknownCode),
-            Some(false) => return Err(Refusal::UnsuitedMark),
+            None => return Some(Refusal::UnknownCode),
+            Some(false) => return Some(Refusal::UnsuitedMark),
             Some(true) => {}
         }
         let least = if self.code == SET_MARGIN { 0 } else { 1 };
+        let in_range = self.amounts.iter().enumerate().all(|(bit, amount)| {
+            if self.mark & (1 << bit) != 0 {
+                (least..=CEILING).contains(amount)
+            } else {
+                *amount == 0
+            }
+        });
+        (!in_range).then_some(Refusal::OutOfRange)
+    }
+
+    /// The bytes of a day file. Amounts that aren't named have none.
+    pub fn lay(&self, out: &mut Vec<u8>) {
+        let named = (0..6).filter(|bit| self.mark & (1 << bit) != 0);
+        let amounts: Vec<u64> = named.map(|bit| self.amounts[bit]).collect();
+        lay(
+            out,
+            self.code,
+            self.mark,
+            self.serial,
+            self.account,
+            &amounts,
+        );
+    }
+}
+
+impl Record<'_> {
+    /// "A record that has been read holds 0 for each amount it doesn't name."
+    /// What bits 6 and 7 name never shows: no code suits them.
+    pub fn values(&self) -> Values {
         let mut amounts = [0; 6];
         let mut named = numbers(self.amounts);
         for (bit, amount) in amounts.iter_mut().enumerate() {
             if self.mark & (1 << bit) != 0 {
                 *amount = named.next().unwrap_or(0);
-                if !(least..=CEILING).contains(amount) {
-                    return Err(Refusal::OutOfRange);
-                }
             }
         }
-        Ok(amounts)
+        Values {
+            serial: self.serial,
+            code: self.code,
+            mark: self.mark,
+            account: self.account,
+            amounts,
+        }
+    }
+
+    /// The six amounts, 0 for each not named, or the first of 4, 5, 6.
+    pub fn checked(&self) -> Result<[u64; 6], Refusal> {
+        let values = self.values();
+        values.fault().map_or(Ok(values.amounts), Err)
     }
 }
 

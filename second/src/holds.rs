@@ -90,11 +90,11 @@ impl Taking {
 }
 
 impl<'a> Holds<'a> {
-    /// Over the whole day, from its start.
-    pub fn over(piece: &'a [u8]) -> Holds<'a> {
+    /// Over the whole day, from its start with this book.
+    pub fn from(book: &Book, piece: &'a [u8]) -> Holds<'a> {
         Holds {
             reader: Reader::new(piece),
-            before: Book::fresh(),
+            before: book.clone(),
             turned: Vec::new(),
             met: Met::default(),
         }

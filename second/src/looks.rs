@@ -87,9 +87,10 @@ pub struct Looks {
 }
 
 impl Looks {
-    pub fn fresh() -> Looks {
+    /// Over a day that starts with this book.
+    pub fn from(book: &Book) -> Looks {
         Looks {
-            modes: [Mode::Off; MOST_ACCOUNTS],
+            modes: book.modes,
             seen: [None; MOST_ACCOUNTS],
             has_been_on: [false; MOST_ACCOUNTS],
             met: Met::default(),

@@ -72,12 +72,12 @@ pub struct Margins<'a> {
 }
 
 impl<'a> Margins<'a> {
-    /// Over the whole day, from its start.
-    pub fn over(piece: &'a [u8]) -> Margins<'a> {
+    /// Over the whole day, from its start with this book.
+    pub fn from(book: &Book, piece: &'a [u8]) -> Margins<'a> {
         Margins {
             reader: Reader::new(piece),
-            margins: [0; MOST_ACCOUNTS],
-            is_full: false,
+            margins: book.rows.map(|row| row.margin),
+            is_full: is_full(book),
             met: Met::default(),
         }
     }
@@ -94,8 +94,7 @@ impl<'a> Margins<'a> {
         };
         if answer.refusal() == 0 {
             self.margins = book.rows.map(|row| row.margin);
-            let cm = book.standings()[0];
-            self.is_full = cm.collateral > 0 && cm.free == 0;
+            self.is_full = is_full(book);
         }
         fits
     }
@@ -116,6 +115,11 @@ impl<'a> Margins<'a> {
         }
         is_refused == passes_cover(book, account, margin) && (margin > before || !is_refused)
     }
+}
+
+fn is_full(book: &Book) -> bool {
+    let cm = book.standings()[0];
+    cm.collateral > 0 && cm.free == 0
 }
 
 /// The margin of a record that comes as far as 13.

@@ -44,9 +44,10 @@ pub struct Moves {
 }
 
 impl Moves {
-    pub fn fresh() -> Moves {
+    /// Over a day that starts with this book.
+    pub fn from(book: &Book) -> Moves {
         Moves {
-            before: Book::fresh().standings(),
+            before: book.standings(),
             met: Met::default(),
         }
     }

@@ -3,7 +3,7 @@
 use crate::book::{Book, Sort, Standing};
 use crate::carry::Answer;
 use crate::closeout::{close_out_bytes, CloseOut};
-use crate::day::{run, run_fresh, Closing, Day, MILLION};
+use crate::day::{run, Closing, Day, MILLION};
 
 /// How the line begins that stands on standard error in place of the output.
 pub const CANNOT_READ: &str = "closeouts: cannot read the file of losses";
@@ -53,18 +53,46 @@ fn push_closing(out: &mut Vec<u8>, day: &Day) {
     push_numbers(out, &[day.read as u64, day.carried as u64]);
 }
 
-/// The output of `day`; `each` may look at every answer besides.
-pub fn day_seen(piece: &[u8], mut each: impl FnMut(&Answer, &Book)) -> (Vec<u8>, Book, Day) {
+/// The closing line over a book that isn't sound, and all there is of it.
+pub const UNSOUND: &[u8] = b"1 0 0\n";
+/// What `closeouts` prints after it.
+pub const UNSOUND_CLOSE_OUT: &[u8] = b"refused 1\n";
+
+/// The lines of `day` without the closing line; `each` may look at every
+/// answer besides.
+fn day_lines(
+    mut book: Book,
+    piece: &[u8],
+    mut each: impl FnMut(&Answer, &Book),
+) -> (Vec<u8>, Book, Day) {
     let mut out = Vec::with_capacity(piece.len() + 64);
-    let mut book = Book::fresh();
     let day = run(&mut book, piece, MILLION, |answer, book| {
         push_answer(&mut out, answer);
         each(answer, book);
     });
+    (out, book, day)
+}
+
+/// Lines and closing line apart: the book is kept between them.
+pub fn day_parts(
+    book: Book,
+    piece: &[u8],
+    each: impl FnMut(&Answer, &Book),
+) -> (Vec<u8>, Vec<u8>, Book) {
+    let (lines, book, day) = day_lines(book, piece, each);
+    let mut closing = Vec::new();
+    push_closing(&mut closing, &day);
+    (lines, closing, book)
+}
+
+/// The output of `day` over a fresh book.
+pub fn day_seen(piece: &[u8], each: impl FnMut(&Answer, &Book)) -> (Vec<u8>, Book, Day) {
+    let (mut out, book, day) = day_lines(Book::fresh(), piece, each);
     push_closing(&mut out, &day);
     (out, book, day)
 }
 
+#[cfg(test)]
 pub fn day(piece: &[u8]) -> Vec<u8> {
     day_seen(piece, |_, _| {}).0
 }
@@ -107,36 +135,50 @@ pub fn standing_lines(book: &Book) -> Vec<u8> {
     out
 }
 
-/// The output of `standings`.
-pub fn standings(piece: &[u8]) -> Vec<u8> {
-    let (book, day) = run_fresh(piece);
+/// The closing line after a day over this book, and the book then.
+fn closed(mut book: Book, piece: &[u8]) -> (Vec<u8>, Book) {
+    let day = run(&mut book, piece, MILLION, |_, _| {});
     let mut out = Vec::new();
     push_closing(&mut out, &day);
+    (out, book)
+}
+
+/// The output of `standings`.
+pub fn standings_over(book: Book, piece: &[u8]) -> Vec<u8> {
+    let (mut out, book) = closed(book, piece);
     out.extend(standing_lines(&book));
     out
 }
 
+pub fn standings(piece: &[u8]) -> Vec<u8> {
+    standings_over(Book::fresh(), piece)
+}
+
 /// The output of `needs`.
-pub fn needs(piece: &[u8]) -> Vec<u8> {
-    let (book, day) = run_fresh(piece);
-    let mut out = Vec::new();
-    push_closing(&mut out, &day);
+pub fn needs_over(book: Book, piece: &[u8]) -> Vec<u8> {
+    let (mut out, book) = closed(book, piece);
     for (account, need) in book.all_needs().into_iter().enumerate() {
         push_numbers(&mut out, &[account as u64, need]);
     }
     out
 }
 
+pub fn needs(piece: &[u8]) -> Vec<u8> {
+    needs_over(Book::fresh(), piece)
+}
+
 /// The output of `closeouts`, once the file of losses is read.
-pub fn closeouts(piece: &[u8], losses: &[u8]) -> Vec<u8> {
-    let (book, day) = run_fresh(piece);
-    let mut out = Vec::new();
-    push_closing(&mut out, &day);
+pub fn closeouts_over(book: Book, piece: &[u8], losses: &[u8]) -> Vec<u8> {
+    let (mut out, book) = closed(book, piece);
     match close_out_bytes(&book, losses) {
         Ok(answer) => push_close_out(&mut out, &answer),
         Err(refusal) => out.extend_from_slice(format!("refused {}\n", refusal as u8).as_bytes()),
     }
     out
+}
+
+pub fn closeouts(piece: &[u8], losses: &[u8]) -> Vec<u8> {
+    closeouts_over(Book::fresh(), piece, losses)
 }
 
 fn push_close_out(out: &mut Vec<u8>, answer: &CloseOut) {

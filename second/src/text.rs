@@ -15,7 +15,7 @@ const CODE_WORDS: [&str; 11] = [
 ];
 
 /// The running serial after these bytes.
-fn moved_on(mut running: u16, bytes: &[u8]) -> u16 {
+pub fn moved_on(mut running: u16, bytes: &[u8]) -> u16 {
     let mut reader = Reader::new(bytes);
     while let Next::Record(record) = reader.next() {
         if record.serial == running {
@@ -40,7 +40,7 @@ pub fn write(text: &[u8]) -> Result<Vec<u8>, String> {
     Ok(out)
 }
 
-fn line_bytes(line: &str, running: u16) -> Result<Vec<u8>, String> {
+pub fn line_bytes(line: &str, running: u16) -> Result<Vec<u8>, String> {
     let said = line.split('#').next().unwrap_or("");
     let words: Vec<&str> = said.split_whitespace().collect();
     match words.as_slice() {
@@ -120,14 +120,14 @@ fn kind_amounts(words: &[&str]) -> Result<(u8, Vec<u64>), String> {
     Ok((mark, named.into_iter().flatten().collect()))
 }
 
-fn parsed<T: FromStr>(word: &str, what: &str) -> Result<T, String> {
+pub fn parsed<T: FromStr>(word: &str, what: &str) -> Result<T, String> {
     // The library's reading lets a plus sign through, the form doesn't.
     let plain = word.bytes().all(|byte| byte.is_ascii_digit());
     let number = if plain { word.parse().ok() } else { None };
     number.ok_or_else(|| format!("`{word}` is no {what}"))
 }
 
-fn hex_bytes(hex: &str) -> Result<Vec<u8>, String> {
+pub fn hex_bytes(hex: &str) -> Result<Vec<u8>, String> {
     if hex.is_empty() || !hex.len().is_multiple_of(2) {
         return Err("raw needs two hexadecimal digits for each byte".to_string());
     }
@@ -148,9 +148,14 @@ pub fn hex(bytes: &[u8]) -> String {
 
 /// A day file's bytes to text that `write` turns into the same bytes.
 pub fn read(piece: &[u8]) -> String {
+    read_from(piece, 0)
+}
+
+/// The same for a piece that a book with this next serial is to carry out.
+pub fn read_from(piece: &[u8], serial: u16) -> String {
     let mut out = String::new();
     let mut reader = Reader::new(piece);
-    let mut running = 0;
+    let mut running = serial;
     loop {
         let start = reader.place();
         let next = reader.next();

@@ -23,11 +23,21 @@ impl Book {
         10 * self.rows[account].margin + self.over[account]
     }
 
-    /// The look after a record carried out. A record moves the figures of the
+    /// The look after a record carried out: at all TMs and the CM where none
+    /// has been made yet.
+    pub fn look_after(&mut self, account: usize) {
+        if self.looked {
+            return self.look_along(account);
+        }
+        (0..self.count).for_each(|account| self.look_at(account));
+        self.looked = true;
+    }
+
+    /// A record moves the figures of the
     /// account it names and of those that answer for it; at every other TM a
     /// look with the same figures as before would leave the mode as it is.
     /// `Looks` holds this against a look at all of them.
-    pub fn look_along(&mut self, account: usize) {
+    fn look_along(&mut self, account: usize) {
         let mut at = account;
         self.look_at(at);
         while at != 0 {

@@ -2,6 +2,8 @@
 
 use super::*;
 use crate::day::{run, Closing, Day};
+use crate::programs;
+use std::ffi::OsString;
 
 fn closing(piece: &[u8], most: usize) -> Day {
     run(&mut Book::fresh(), piece, most, |_, _| {})
@@ -89,8 +91,8 @@ fn closeouts_lines() {
 #[test]
 fn losses_that_cannot_be_read() {
     let said = |path: Option<&str>| {
-        let path = path.map(std::ffi::OsString::from);
-        crate::closeouts_command(path.as_ref()).unwrap_err()
+        let path: Vec<OsString> = path.map(OsString::from).into_iter().collect();
+        programs::closeouts(&path, &|| panic!()).unwrap_err()
     };
     let cannot = "closeouts: cannot read the file of losses";
     assert_eq!(said(None), format!("{cannot}: none is named"));

@@ -328,7 +328,7 @@ serial 19 unpledge {account} 1"
 
 /// The takings out of one day, whose answers must be the ones of the rules.
 fn holds(bytes: &[u8]) -> Holds<'_> {
-    let mut holds = Holds::over(bytes);
+    let mut holds = Holds::from(&Book::fresh(), bytes);
     print::day_seen(bytes, |answer, book| assert!(holds.after(answer, book)));
     holds
 }

@@ -66,7 +66,7 @@ fn a_book_that_is_not_covered() {
 
 /// The margins of one day, whose answers the old line must give too.
 fn margins(bytes: &[u8]) -> Margins<'_> {
-    let mut margins = Margins::over(bytes);
+    let mut margins = Margins::from(&Book::fresh(), bytes);
     print::day_seen(bytes, |answer, book| assert!(margins.after(answer, book)));
     margins
 }

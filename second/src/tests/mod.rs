@@ -1,9 +1,12 @@
 //! The documents' own figures, each refusal with its neighbour just allowed,
 //! and made-up days and close-outs held against the rules by the letter.
 
+mod bookfiles;
 mod bytes;
+mod calls;
 mod closeouts;
 mod days;
+mod faults;
 mod figures;
 mod forms;
 mod holds;
@@ -12,6 +15,7 @@ mod modes;
 mod needs;
 mod refusals;
 mod soundness;
+mod stories;
 
 use crate::book::Book;
 use crate::{day, print, text};

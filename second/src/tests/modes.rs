@@ -245,7 +245,7 @@ fn modes_by_the_letter() {
 
 /// The looks of one day, which the book's own modes must follow.
 fn looks(bytes: &[u8]) -> Looks {
-    let mut looks = Looks::fresh();
+    let mut looks = Looks::from(&Book::fresh());
     print::day_seen(bytes, |answer, book| assert!(looks.after(answer, book)));
     looks
 }
@@ -317,7 +317,7 @@ fn is_at_all([nine, under_nine, lower, half, tenth]: [[usize; 2]; 5]) -> bool {
 #[test]
 fn wavering_days_come_to_the_thresholds() {
     let kind = kind_named("wavering").unwrap();
-    let mut met = Looks::fresh().met;
+    let mut met = Looks::from(&Book::fresh()).met;
     for seed in 0..40 {
         met.add(&looks(&make(kind, seed, NO_LIMIT)).met);
     }

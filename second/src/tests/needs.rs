@@ -193,7 +193,7 @@ fn needs_by_the_letter() {
 
 /// The moves of one day, which the book's own needs must follow.
 fn moves(bytes: &[u8]) -> Moves {
-    let mut moves = Moves::fresh();
+    let mut moves = Moves::from(&Book::fresh());
     print::day_seen(bytes, |answer, book| assert!(moves.after(answer, book)));
     moves
 }
@@ -253,7 +253,7 @@ fn moved_days_end_about_collaterals() {
 #[test]
 fn moving_days_come_to_every_edge() {
     let kind = kind_named("moving").unwrap();
-    let mut met = Moves::fresh().met;
+    let mut met = Moves::from(&Book::fresh()).met;
     for seed in 0..40 {
         met.add(&moves(&make(kind, seed, NO_LIMIT)).met);
     }

@@ -1,0 +1,243 @@
+//! What each call answers. "Every line has all its numbers at a refusal too",
+//! but for `read_at`.
+
+use super::Call;
+use crate::carry::{carry_values, Answer};
+use crate::closeout::close_out;
+use crate::day::{run, Closing};
+use crate::dayfile::{length, next_at, Next, Values};
+use crate::mode::Mode;
+use crate::refusal::Refusal;
+use crate::table::Table;
+use std::fmt::Display;
+
+/// The line without its newline, and the word in it that tells the outcome: a
+/// refusal or 0, `end`, or a closing word.
+pub struct Answered {
+    pub line: String,
+    pub word: String,
+}
+
+/// Refusal 1 is given by no record's check, so it stands here.
+const UNSOUND: u8 = 1;
+
+pub fn answer(call: &Call) -> Answered {
+    match call {
+        Call::IsSound(book) => told(u8::from(book.is_sound()), &[]),
+        Call::Standing(book, account) => standing(book, *account),
+        Call::CarryOut(book, record) => carry_out(book, record),
+        Call::CarryOutNext(book, piece, place) => carry_out_next(book, piece, *place),
+        Call::Day(book, piece, number) => day(book, piece, *number),
+        Call::ReadAt(piece, place) => read_at(piece, *place),
+        Call::Write(record, room) => write(record, *room),
+        Call::CloseOut(book, losses, room) => close_out_call(book, losses, *room),
+        Call::Needs(book, room) => needs(book, *room),
+    }
+}
+
+/// The word first, then the rest of the line.
+fn told(word: impl Display, rest: &[u64]) -> Answered {
+    let word = word.to_string();
+    let line = spaced(word.clone(), rest);
+    Answered { line, word }
+}
+
+fn spaced(mut line: String, rest: &[u64]) -> String {
+    for number in rest {
+        line += &format!(" {number}");
+    }
+    line
+}
+
+/// "Refusals 1, 7, and all five figures 0"; a refused one shows off.
+fn standing(table: &Table, account: u16) -> Answered {
+    let Some(book) = table.book() else {
+        return told(UNSOUND, &[0; 6]);
+    };
+    if !book.is_live(account) {
+        return told(Refusal::NotLive as u8, &[0; 6]);
+    }
+    let standing = book.standings()[usize::from(account)];
+    let figures = [
+        standing.collateral,
+        standing.need,
+        standing.blocked,
+        standing.deemed,
+        standing.free,
+        u64::from(standing.mode == Mode::On),
+    ];
+    told(0, &figures)
+}
+
+/// `same`, or count, serial, and every place of which a word differs.
+fn book_words(before: &Table, after: &Table) -> String {
+    if before == after {
+        return "same".to_string();
+    }
+    let mut words = format!("{} {}", after.count, after.serial);
+    for (number, place) in after.places.iter().enumerate() {
+        if before.places[number] != *place {
+            words = spaced(format!("{words} {number}"), place);
+        }
+    }
+    words
+}
+
+/// Serial, code, account, refusal or `end`, number given, the place if there
+/// is one, and the book.
+fn record_line(
+    names: [u64; 3],
+    word: String,
+    given: u16,
+    place: Option<u64>,
+    book: &str,
+) -> Answered {
+    let [serial, code, account] = names;
+    let place = place.map_or(String::new(), |place| format!(" {place}"));
+    Answered {
+        line: format!("{serial} {code} {account} {word} {given}{place} {book}"),
+        word,
+    }
+}
+
+/// "With 1, 2 and the end, its serial, code and account are 0", and the book
+/// and the place stay.
+fn nameless(word: impl Display, place: Option<u64>) -> Answered {
+    record_line([0; 3], word.to_string(), 0, place, "same")
+}
+
+fn record_answered(answer: &Answer, place: Option<u64>, before: &Table, after: &Table) -> Answered {
+    let names = [
+        u64::from(answer.serial),
+        u64::from(answer.code),
+        u64::from(answer.account),
+    ];
+    let word = answer.refusal().to_string();
+    let book = book_words(before, after);
+    record_line(names, word, answer.opened(), place, &book)
+}
+
+fn carry_out(table: &Table, record: &Values) -> Answered {
+    let Some(mut book) = table.book() else {
+        return nameless(UNSOUND, None);
+    };
+    let answer = carry_values(&mut book, record);
+    record_answered(&answer, None, table, &Table::of(&book))
+}
+
+/// "An unsound book gives 1 even at the end."
+fn carry_out_next(table: &Table, piece: &[u8], place: u64) -> Answered {
+    let Some(mut book) = table.book() else {
+        return nameless(UNSOUND, Some(place));
+    };
+    let record = match next_at(piece, place) {
+        Next::End => return nameless("end", Some(place)),
+        Next::Cut => return nameless(Refusal::Cut as u8, Some(place)),
+        Next::Record(record) => record,
+    };
+    let answer = carry_values(&mut book, &record.values());
+    let past = place + length(record.mark) as u64;
+    record_answered(&answer, Some(past), table, &Table::of(&book))
+}
+
+/// "An unsound book gives 1 as the closing word, place 0, counts of 0 and the
+/// same book."
+fn day(table: &Table, piece: &[u8], number: u64) -> Answered {
+    let Some(mut book) = table.book() else {
+        return with_book(told(UNSOUND, &[0; 3]), "same");
+    };
+    let most = usize::try_from(number).unwrap_or(usize::MAX);
+    let day = run(&mut book, piece, most, |_, _| {});
+    let word = match day.closing {
+        Closing::End => "end",
+        Closing::Cut => "cut",
+        Closing::Long => "long",
+    };
+    let counts = [day.place as u64, day.read as u64, day.carried as u64];
+    let after = book_words(table, &Table::of(&book));
+    with_book(told(word, &counts), &after)
+}
+
+fn with_book(answered: Answered, book: &str) -> Answered {
+    Answered {
+        line: format!("{} {book}", answered.line),
+        ..answered
+    }
+}
+
+fn read_at(piece: &[u8], place: u64) -> Answered {
+    let record = match next_at(piece, place) {
+        Next::End => return told("end", &[]),
+        Next::Cut => return told(Refusal::Cut as u8, &[]),
+        Next::Record(record) => record.values(),
+    };
+    let mut rest = vec![
+        place + length(record.mark) as u64,
+        u64::from(record.serial),
+        u64::from(record.code),
+        u64::from(record.account),
+    ];
+    if let Some(fault) = record.fault() {
+        return told(fault as u8, &rest);
+    }
+    rest.push(u64::from(record.mark));
+    rest.extend(record.amounts);
+    told(0, &rest)
+}
+
+/// "Place i (from 0) of a lent room holds i + 1 beforehand."
+fn lent(room: usize) -> Vec<u64> {
+    (1..=room as u64).collect()
+}
+
+/// "4, 5, then 6 .., then 15; it then writes nothing. When it writes, the room
+/// past the record stays unchanged."
+fn write(record: &Values, room: usize) -> Answered {
+    let mut bytes = Vec::new();
+    record.lay(&mut bytes);
+    let refusal = match record.fault() {
+        Some(fault) => fault as u8,
+        None if room < bytes.len() => Refusal::WrongLength as u8,
+        None => 0,
+    };
+    let written = if refusal == 0 { bytes } else { Vec::new() };
+    let mut rest = vec![written.len() as u64];
+    let kept = lent(room).into_iter().skip(written.len());
+    rest.extend(written.iter().map(|&byte| u64::from(byte)));
+    rest.extend(kept.map(|number| number % 256));
+    told(refusal, &rest)
+}
+
+/// "The checks are 1, 15 (losses, then room), 16. A refusal leaves the room
+/// untouched and gives a total of 0."
+fn close_out_call(table: &Table, losses: &[u64], room: usize) -> Answered {
+    let refused = |refusal: u8| {
+        let rest: Vec<u64> = [0].into_iter().chain(lent(room)).collect();
+        told(refusal, &rest)
+    };
+    let Some(book) = table.book() else {
+        return refused(UNSOUND);
+    };
+    if losses.len() != book.count || room != 4 * book.count {
+        return refused(Refusal::WrongLength as u8);
+    }
+    match close_out(&book, losses.to_vec()) {
+        Err(refusal) => refused(refusal as u8),
+        Ok(closed) => {
+            let mut rest = vec![closed.total];
+            for paid in closed.payments {
+                rest.extend([paid.own, paid.tm, paid.cm, paid.uncovered]);
+            }
+            told(0, &rest)
+        }
+    }
+}
+
+/// "Refusals 1; 15, room not one for each account."
+fn needs(table: &Table, room: usize) -> Answered {
+    match table.book() {
+        None => told(UNSOUND, &lent(room)),
+        Some(book) if room != book.count => told(Refusal::WrongLength as u8, &lent(room)),
+        Some(book) => told(0, &book.all_needs()),
+    }
+}

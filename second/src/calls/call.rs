@@ -1,0 +1,132 @@
+//! One call with its arguments, from its bytes and back.
+
+use super::input::Input;
+use crate::bookfile;
+use crate::dayfile::Values;
+use crate::table::Table;
+
+#[derive(Clone, PartialEq, Eq, Debug)]
+pub enum Call {
+    IsSound(Table),
+    Standing(Table, u16),
+    CarryOut(Table, Values),
+    /// Book, piece, place.
+    CarryOutNext(Table, Vec<u8>, u64),
+    /// Book, piece, stated number.
+    Day(Table, Vec<u8>, u64),
+    ReadAt(Vec<u8>, u64),
+    /// A room is its length alone.
+    Write(Values, usize),
+    /// Book, losses, room.
+    CloseOut(Table, Vec<u64>, usize),
+    Needs(Table, usize),
+}
+
+/// The names of calls 1 to 9.
+pub const NAMES: [&str; 9] = [
+    "is_sound",
+    "standing",
+    "carry_out",
+    "carry_out_next",
+    "day",
+    "read_at",
+    "write",
+    "close_out",
+    "needs",
+];
+
+impl Call {
+    /// None for what is no call. Calls of later requests get their line here.
+    pub fn read(input: &mut Input) -> Option<Call> {
+        let call = match input.byte()? {
+            1 => Call::IsSound(input.book()?),
+            2 => Call::Standing(input.book()?, input.short()?),
+            3 => Call::CarryOut(input.book()?, input.record()?),
+            4 => Call::CarryOutNext(input.book()?, input.piece()?, input.long()?),
+            5 => Call::Day(input.book()?, input.piece()?, input.long()?),
+            6 => Call::ReadAt(input.piece()?, input.long()?),
+            7 => Call::Write(input.record()?, input.room()?),
+            8 => Call::CloseOut(input.book()?, input.list()?, input.room()?),
+            9 => Call::Needs(input.book()?, input.room()?),
+            _ => return None,
+        };
+        Some(call)
+    }
+
+    /// The byte that stands for it.
+    pub fn number(&self) -> u8 {
+        match self {
+            Call::IsSound(..) => 1,
+            Call::Standing(..) => 2,
+            Call::CarryOut(..) => 3,
+            Call::CarryOutNext(..) => 4,
+            Call::Day(..) => 5,
+            Call::ReadAt(..) => 6,
+            Call::Write(..) => 7,
+            Call::CloseOut(..) => 8,
+            Call::Needs(..) => 9,
+        }
+    }
+
+    pub fn name(&self) -> &'static str {
+        NAMES[usize::from(self.number()) - 1]
+    }
+
+    pub fn book(&self) -> Option<&Table> {
+        match self {
+            Call::IsSound(book) | Call::Standing(book, _) | Call::CarryOut(book, _) => Some(book),
+            Call::CarryOutNext(book, _, _) | Call::Day(book, _, _) => Some(book),
+            Call::CloseOut(book, _, _) | Call::Needs(book, _) => Some(book),
+            Call::ReadAt(..) | Call::Write(..) => None,
+        }
+    }
+
+    pub fn lay(&self, out: &mut Vec<u8>) {
+        let book = self.book().map(bookfile::bytes);
+        self.lay_over(out, book.as_deref().unwrap_or(&[]));
+    }
+
+    /// With these bytes for its book, whatever they are.
+    pub fn lay_over(&self, out: &mut Vec<u8>, book: &[u8]) {
+        out.push(self.number());
+        out.extend_from_slice(book);
+        match self {
+            Call::IsSound(_) => {}
+            Call::Standing(_, account) => out.extend_from_slice(&account.to_be_bytes()),
+            Call::CarryOut(_, record) => lay_record(out, record),
+            Call::CarryOutNext(_, piece, number)
+            | Call::Day(_, piece, number)
+            | Call::ReadAt(piece, number) => {
+                lay_length(out, piece.len());
+                out.extend_from_slice(piece);
+                out.extend_from_slice(&number.to_be_bytes());
+            }
+            Call::Write(record, room) => {
+                lay_record(out, record);
+                lay_length(out, *room);
+            }
+            Call::CloseOut(_, losses, room) => {
+                lay_length(out, losses.len());
+                for loss in losses {
+                    out.extend_from_slice(&loss.to_be_bytes());
+                }
+                lay_length(out, *room);
+            }
+            Call::Needs(_, room) => lay_length(out, *room),
+        }
+    }
+}
+
+fn lay_length(out: &mut Vec<u8>, length: usize) {
+    out.extend_from_slice(&(length as u32).to_be_bytes());
+}
+
+/// "Serial 2, code 1, second mark byte 1, account 2, six amounts 8 each."
+fn lay_record(out: &mut Vec<u8>, record: &Values) {
+    out.extend_from_slice(&record.serial.to_be_bytes());
+    out.extend_from_slice(&[record.code, record.mark]);
+    out.extend_from_slice(&record.account.to_be_bytes());
+    for amount in record.amounts {
+        out.extend_from_slice(&amount.to_be_bytes());
+    }
+}

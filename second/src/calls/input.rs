@@ -1,0 +1,91 @@
+//! The arguments of calls, one after the other. None stands for what is cut
+//! short, past its limit or no book.
+
+use super::{LIST_MOST, PIECE_MOST};
+use crate::bookfile;
+use crate::dayfile::Values;
+use crate::table::Table;
+
+#[derive(Clone, Copy)]
+pub struct Input<'a> {
+    left: &'a [u8],
+}
+
+impl<'a> Input<'a> {
+    pub fn of(bytes: &'a [u8]) -> Input<'a> {
+        Input { left: bytes }
+    }
+
+    pub fn left(&self) -> &'a [u8] {
+        self.left
+    }
+
+    fn bytes(&mut self, many: usize) -> Option<&'a [u8]> {
+        let (taken, rest) = self.left.split_at_checked(many)?;
+        self.left = rest;
+        Some(taken)
+    }
+
+    fn number(&mut self, width: usize) -> Option<u64> {
+        let bytes = self.bytes(width)?;
+        Some(
+            bytes
+                .iter()
+                .fold(0, |sum, &byte| sum << 8 | u64::from(byte)),
+        )
+    }
+
+    pub fn byte(&mut self) -> Option<u8> {
+        self.number(1).map(|number| number as u8)
+    }
+
+    /// An account, or a serial.
+    pub fn short(&mut self) -> Option<u16> {
+        self.number(2).map(|number| number as u16)
+    }
+
+    /// A place, or a number.
+    pub fn long(&mut self) -> Option<u64> {
+        self.number(8)
+    }
+
+    fn length(&mut self, most: usize) -> Option<usize> {
+        let length = self.number(4)? as usize;
+        (length <= most).then_some(length)
+    }
+
+    pub fn book(&mut self) -> Option<Table> {
+        bookfile::table(self.bytes(bookfile::LENGTH)?)
+    }
+
+    pub fn record(&mut self) -> Option<Values> {
+        let (serial, code) = (self.short()?, self.byte()?);
+        let (mark, account) = (self.byte()?, self.short()?);
+        let mut amounts = [0; 6];
+        for amount in &mut amounts {
+            *amount = self.long()?;
+        }
+        Some(Values {
+            serial,
+            code,
+            mark,
+            account,
+            amounts,
+        })
+    }
+
+    pub fn piece(&mut self) -> Option<Vec<u8>> {
+        let length = self.length(PIECE_MOST)?;
+        self.bytes(length).map(<[u8]>::to_vec)
+    }
+
+    /// "The length counts elements."
+    pub fn list(&mut self) -> Option<Vec<u64>> {
+        let length = self.length(LIST_MOST)?;
+        (0..length).map(|_| self.long()).collect()
+    }
+
+    pub fn room(&mut self) -> Option<usize> {
+        self.length(LIST_MOST)
+    }
+}

@@ -1,0 +1,145 @@
+//! The programs `day`, `standings`, `needs` and `closeouts`: over a fresh
+//! book, or over the one that FROM holds. A FROM that can't be read, or is no
+//! book, is told and nothing is printed; over one that isn't sound the day
+//! stays unread.
+
+use crate::book::{Book, MOST_ACCOUNTS};
+use crate::holds::Holds;
+use crate::looks::Looks;
+use crate::margins::Margins;
+use crate::moves::Moves;
+use crate::table::Table;
+use crate::{bookfile, print, put_out, usage, Output};
+use std::ffi::OsString;
+use std::fs::File;
+use std::io::{self, Read};
+use std::path::Path;
+
+/// How the day file is read, if it comes to that.
+type Reading<'a> = &'a dyn Fn() -> Output;
+
+/// The book to start from, or None where it isn't sound.
+fn start(program: &str, from: Option<&OsString>) -> Result<Option<Book>, String> {
+    match from {
+        Some(path) if path != "-" => match bookfile::read_file(path) {
+            Ok(table) => Ok(table.book()),
+            Err(error) => Err(format!(
+                "{program}: cannot read the book: {}: {error}",
+                path.to_string_lossy()
+            )),
+        },
+        _ => Ok(Some(Book::fresh())),
+    }
+}
+
+pub fn day(words: &[OsString], day_file: Reading) -> Output {
+    let checks = words.first().is_some_and(|word| word == "--check");
+    let words = &words[usize::from(checks)..];
+    let (from, to) = match words {
+        [] => (None, None),
+        [from] => (Some(from), None),
+        [from, to] => (Some(from), Some(to)),
+        _ => return Err(usage()),
+    };
+    let Some(book) = start("day", from)? else {
+        return Ok(print::UNSOUND.to_vec());
+    };
+    let piece = day_file()?;
+    let (lines, closing, after) = if checks {
+        checked_day(book, &piece)?
+    } else {
+        print::day_parts(book, &piece, |_, _| {})
+    };
+    if let Some(to) = to {
+        keep(to, &after).inspect_err(|_| {
+            let _ = put_out(&lines);
+        })?;
+    }
+    Ok([lines, closing].concat())
+}
+
+/// The book has its place before the closing line is printed. Where it can't
+/// be kept that line is missing.
+fn keep(to: &OsString, book: &Book) -> Result<(), String> {
+    let kept = bookfile::write_file(Path::new(to), &Table::of(book));
+    kept.map_err(|error| {
+        format!(
+            "day: cannot keep the book: {}: {error}",
+            to.to_string_lossy()
+        )
+    })
+}
+
+/// As `day`, but looks after every record whether the book is sound, its
+/// modes are as a look at all would have them, its needs moved as they can, what
+/// was to be taken out got the answer of the rules, and 13's old line agrees.
+fn checked_day(book: Book, piece: &[u8]) -> Result<(Vec<u8>, Vec<u8>, Book), String> {
+    let (mut seen, mut first_fault) = (0, None);
+    let (mut looks, mut moves) = (Looks::from(&book), Moves::from(&book));
+    let mut holds = Holds::from(&book, piece);
+    let mut margins = Margins::from(&book, piece);
+    let parts = print::day_parts(book, piece, |answer, book| {
+        seen += 1;
+        let agrees = looks.after(answer, book) & moves.after(answer, book);
+        let agrees = agrees & holds.after(answer, book) & margins.after(answer, book);
+        let is_sound = book.is_sound() && book.uses_agree() && Table::of(book).is_sound();
+        if first_fault.is_none() && !(agrees && is_sound) {
+            first_fault = Some(seen);
+        }
+    });
+    match first_fault {
+        None => Ok(parts),
+        Some(record) => Err(format!(
+            "record {record} is answered wrongly or leaves a book that is not sound"
+        )),
+    }
+}
+
+/// What a program that takes FROM alone prints.
+fn shown(
+    program: &str,
+    words: &[OsString],
+    day_file: Reading,
+    text: fn(Book, &[u8]) -> Vec<u8>,
+) -> Output {
+    if words.len() > 1 {
+        return Err(usage());
+    }
+    match start(program, words.first())? {
+        Some(book) => Ok(text(book, &day_file()?)),
+        None => Ok(print::UNSOUND.to_vec()),
+    }
+}
+
+pub fn standings(words: &[OsString], day_file: Reading) -> Output {
+    shown("standings", words, day_file, print::standings_over)
+}
+
+pub fn needs(words: &[OsString], day_file: Reading) -> Output {
+    shown("needs", words, day_file, print::needs_over)
+}
+
+/// Where the losses can't be read, that is told and the day stays unread.
+pub fn closeouts(words: &[OsString], day_file: Reading) -> Output {
+    let cannot = print::CANNOT_READ;
+    let path = words
+        .first()
+        .ok_or_else(|| format!("{cannot}: none is named"))?;
+    if words.len() > 2 {
+        return Err(usage());
+    }
+    let losses = losses_file(path)
+        .map_err(|error| format!("{cannot}: {}: {error}", path.to_string_lossy()))?;
+    match start("closeouts", words.get(1))? {
+        Some(book) => Ok(print::closeouts_over(book, &day_file()?, &losses)),
+        None => Ok([print::UNSOUND, print::UNSOUND_CLOSE_OUT].concat()),
+    }
+}
+
+/// One byte past the most that any book could want is refusal 15 already.
+fn losses_file(path: &OsString) -> io::Result<Vec<u8>> {
+    let mut bytes = Vec::new();
+    let most = 8 * MOST_ACCOUNTS as u64 + 1;
+    File::open(path)?.take(most).read_to_end(&mut bytes)?;
+    Ok(bytes)
+}

@@ -1,0 +1,254 @@
+//! A readable form of calls, so that a case reads like a story.
+//!
+//! A story has one book, fresh at first. Some lines change it; a call is
+//! handed the book as it is then and leaves it. `#` begins a comment.
+//!
+//!     fresh                         the CM alone, with nothing
+//!     do RECORD                     carries a record out; it is an error if it is refused
+//!     set PLACE WORD VALUE          one word: sort live tm received.cash received.deposits
+//!                                   received.guarantees received.securities allocated.cash
+//!                                   (and so on) pledged margin mode need
+//!     count N, serial N             the number of accounts, the next serial
+//!     settle                        kept needs worked out afresh
+//!     byte AT VALUE                 one byte of the written form, counted from 0
+//!
+//!     is_sound
+//!     standing ACCOUNT
+//!     carry_out RECORD
+//!     carry_out_next PLACE PIECE
+//!     day NUMBER PIECE
+//!     read_at PLACE PIECE
+//!     write RECORD room N
+//!     close_out room N losses LOSS ..
+//!     needs room N
+//!
+//!     bytes HEX                     bytes as they stand, for what is no call
+//!     cut N                         takes the last N bytes off again
+//!
+//! RECORD is a line as `second write` takes it: `margin 3 60000`, with `serial
+//! N` ahead of it for another serial than the book's, or `raw HEX`; or all of
+//! it: `values SERIAL CODE MARK ACCOUNT` and six amounts. PIECE is any number
+//! of such lines and of `zeros N`, with `;` between them; nothing is an empty
+//! piece. Serials run on from the book's.
+
+mod read;
+
+use crate::bookfile::{self, PLACE, PLACES};
+use crate::calls::Call;
+use crate::carry::carry_values;
+use crate::dayfile::{Next, Reader, Values};
+use crate::table::{Table, MODE, NEED, WIDTHS, WORDS};
+use crate::text::{hex_bytes, line_bytes, moved_on, parsed};
+pub use read::read;
+#[allow(unused_imports)]
+pub use read::short;
+
+struct Story {
+    /// The book's written form. It need not be a book.
+    book: Vec<u8>,
+    out: Vec<u8>,
+}
+
+type Done = Result<(), String>;
+
+/// Text to the bytes of calls; an error names its line.
+pub fn write(text: &[u8]) -> Result<Vec<u8>, String> {
+    let mut story = Story {
+        book: bookfile::bytes(&Table::fresh()),
+        out: Vec::new(),
+    };
+    for (place, line) in text.split(|&byte| byte == b'\n').enumerate() {
+        std::str::from_utf8(line)
+            .map_err(|_| "not plain text".to_string())
+            .and_then(|line| story.line(line))
+            .map_err(|error| format!("line {}: {error}", place + 1))?;
+    }
+    Ok(story.out)
+}
+
+impl Story {
+    fn line(&mut self, line: &str) -> Done {
+        let said = line.split('#').next().unwrap_or("").trim();
+        let (word, rest) = said.split_once(char::is_whitespace).unwrap_or((said, ""));
+        let words: Vec<&str> = rest.split_whitespace().collect();
+        match (word, words.as_slice()) {
+            ("", _) => Ok(()),
+            ("bytes", hex) => {
+                self.out.extend(hex_bytes(&hex.concat())?);
+                Ok(())
+            }
+            ("cut", [many]) => self.cut(parsed(many, "number of bytes")?),
+            ("fresh" | "do" | "set" | "count" | "serial" | "settle" | "byte", words) => {
+                self.change(word, rest, words)
+            }
+            (_, words) => {
+                let call = self.call(word, rest, words)?;
+                let book = call.book().map_or(&[][..], |_| &self.book);
+                call.lay_over(&mut self.out, book);
+                Ok(())
+            }
+        }
+    }
+
+    fn cut(&mut self, many: usize) -> Done {
+        let left = self.out.len().checked_sub(many);
+        let left = left.ok_or("there are not so many bytes to cut")?;
+        self.out.truncate(left);
+        Ok(())
+    }
+
+    fn change(&mut self, word: &str, rest: &str, words: &[&str]) -> Done {
+        match (word, words) {
+            ("fresh", []) => self.book = bookfile::bytes(&Table::fresh()),
+            ("do", _) => self.carry_out(rest)?,
+            ("set", [place, word, value]) => self.set(place, word, value)?,
+            ("count", [count]) => self.put(4, 2, parsed(count, "number of accounts")?)?,
+            ("serial", [serial]) => self.put(6, 2, parsed(serial, "serial")?)?,
+            ("settle", []) => self.settle()?,
+            ("byte", [at, value]) => self.put(parsed(at, "place")?, 1, parsed(value, "byte")?)?,
+            _ => return Err(format!("`{word}` is said otherwise")),
+        }
+        Ok(())
+    }
+
+    /// A number into so many bytes of the written form.
+    fn put(&mut self, at: usize, width: usize, value: u64) -> Done {
+        if width < 8 && value >> (8 * width) != 0 {
+            return Err(format!("`{value}` is too large"));
+        }
+        let slot = self.book.get_mut(at..at + width);
+        let slot = slot.ok_or("a book has 23816 bytes")?;
+        slot.copy_from_slice(&value.to_be_bytes()[8 - width..]);
+        Ok(())
+    }
+
+    fn set(&mut self, place: &str, word: &str, value: &str) -> Done {
+        let place: usize = parsed(place, "place")?;
+        if place > 255 {
+            return Err("a book has places 0 to 255".to_string());
+        }
+        let known = WORDS.iter().position(|&known| known == word);
+        let word = known.ok_or_else(|| format!("unknown word `{word}`"))?;
+        let before: usize = WIDTHS[..word].iter().sum();
+        let at = PLACES + place * PLACE + before;
+        self.put(at, WIDTHS[word], parsed(value, "value")?)
+    }
+
+    fn table(&self) -> Result<Table, String> {
+        bookfile::table(&self.book).ok_or_else(|| "the book is none".to_string())
+    }
+
+    /// "The book isn't sound" is no part of a story that goes on.
+    fn carry_out(&mut self, said: &str) -> Done {
+        let record = self.record(said)?;
+        let book = self.table()?.book();
+        let mut book = book.ok_or("the book isn't sound")?;
+        match carry_values(&mut book, &record).refusal() {
+            0 => {
+                self.book = bookfile::bytes(&Table::of(&book));
+                Ok(())
+            }
+            refusal => Err(format!("`{said}` is refused with {refusal}")),
+        }
+    }
+
+    fn settle(&mut self) -> Done {
+        let mut table = self.table()?;
+        for (place, need) in table.needs_afresh().into_iter().enumerate() {
+            let need = u64::try_from(need);
+            table.places[place][NEED] = need.map_err(|_| "a need is past its word")?;
+        }
+        self.book = bookfile::bytes(&table);
+        Ok(())
+    }
+
+    fn serial(&self) -> u16 {
+        u16::from_be_bytes([self.book[6], self.book[7]])
+    }
+
+    fn record(&self, said: &str) -> Result<Values, String> {
+        let words: Vec<&str> = said.split_whitespace().collect();
+        if let ["values", numbers @ ..] = words.as_slice() {
+            return values(numbers);
+        }
+        let bytes = line_bytes(said, self.serial())?;
+        let mut reader = Reader::new(&bytes);
+        match (reader.next(), reader.left()) {
+            (Next::Record(record), []) => Ok(record.values()),
+            _ => Err("one whole record is expected".to_string()),
+        }
+    }
+
+    fn piece(&self, said: &str) -> Result<Vec<u8>, String> {
+        let (mut piece, mut running) = (Vec::new(), self.serial());
+        for part in said.split(';') {
+            let words: Vec<&str> = part.split_whitespace().collect();
+            let bytes = match words.as_slice() {
+                ["zeros", many] => vec![0; parsed(many, "number of bytes")?],
+                ["values", numbers @ ..] => {
+                    let mut bytes = Vec::new();
+                    values(numbers)?.lay(&mut bytes);
+                    bytes
+                }
+                _ => line_bytes(part, running)?,
+            };
+            running = moved_on(running, &bytes);
+            piece.extend(bytes);
+        }
+        Ok(piece)
+    }
+
+    /// The book of the call is put in its place afterwards.
+    fn call(&self, word: &str, rest: &str, words: &[&str]) -> Result<Call, String> {
+        let book = Table::fresh();
+        let call = match (word, words) {
+            ("is_sound", []) => Call::IsSound(book),
+            ("standing", [account]) => Call::Standing(book, parsed(account, "account")?),
+            ("carry_out", _) => Call::CarryOut(book, self.record(rest)?),
+            ("carry_out_next", [place, ..]) => {
+                Call::CarryOutNext(book, self.piece(after(rest))?, parsed(place, "place")?)
+            }
+            ("day", [number, ..]) => {
+                Call::Day(book, self.piece(after(rest))?, parsed(number, "number")?)
+            }
+            ("read_at", [place, ..]) => {
+                Call::ReadAt(self.piece(after(rest))?, parsed(place, "place")?)
+            }
+            ("write", [record @ .., "room", room]) => {
+                Call::Write(self.record(&record.join(" "))?, parsed(room, "room")?)
+            }
+            ("close_out", ["room", room, "losses", losses @ ..]) => {
+                Call::CloseOut(book, numbers(losses)?, parsed(room, "room")?)
+            }
+            ("needs", ["room", room]) => Call::Needs(book, parsed(room, "room")?),
+            _ => return Err(format!("unknown word `{word}`, or it is said otherwise")),
+        };
+        Ok(call)
+    }
+}
+
+/// What stands behind the first word.
+fn after(rest: &str) -> &str {
+    rest.trim_start()
+        .split_once(char::is_whitespace)
+        .map_or("", |(_, after)| after)
+}
+
+fn numbers(words: &[&str]) -> Result<Vec<u64>, String> {
+    words.iter().map(|word| parsed(word, "number")).collect()
+}
+
+/// Serial, code, second mark byte, account, six amounts.
+fn values(words: &[&str]) -> Result<Values, String> {
+    let [serial, code, mark, account, amounts @ ..] = words else {
+        return Err("values need ten numbers".to_string());
+    };
+    let amounts = numbers(amounts)?.try_into();
+    Ok(Values {
+        serial: parsed(serial, "serial")?,
+        code: parsed(code, "code")?,
+        mark: parsed(mark, "second mark byte")?,
+        account: parsed(account, "account")?,
+        amounts: amounts.map_err(|_| "values need ten numbers")?,
+    })
+}

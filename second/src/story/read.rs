@@ -1,0 +1,127 @@
+//! The bytes of calls back to a story that `write` turns into the same bytes,
+//! and one call in short.
+
+use super::*;
+use crate::calls::Calls;
+use crate::text::{hex, read_from};
+
+/// A story of the whole input; what is no call stands at its end as bytes.
+pub fn read(bytes: &[u8]) -> String {
+    let mut out = String::new();
+    let mut book = Table::fresh();
+    let mut calls = Calls::of(bytes);
+    for call in calls.by_ref() {
+        if let Some(now) = call.book() {
+            out += &changes(&book, now);
+            book = now.clone();
+        }
+        out += &call_line(&call, book.serial);
+        out.push('\n');
+    }
+    if !calls.left().is_empty() {
+        out += &format!("bytes {}\n", hex(calls.left()));
+    }
+    out
+}
+
+/// From the book before or from a fresh one, whichever takes fewer lines.
+fn changes(before: &Table, now: &Table) -> String {
+    let fresh = Table::fresh();
+    let (on, anew) = (changed_words(before, now), changed_words(&fresh, now));
+    if on.len() <= anew.len() {
+        on.concat()
+    } else {
+        format!("fresh\n{}", anew.concat())
+    }
+}
+
+fn changed_words(before: &Table, now: &Table) -> Vec<String> {
+    let mut lines = Vec::new();
+    if before.count != now.count {
+        lines.push(format!("count {}\n", now.count));
+    }
+    if before.serial != now.serial {
+        lines.push(format!("serial {}\n", now.serial));
+    }
+    for (number, place) in now.places.iter().enumerate() {
+        let was = &before.places[number];
+        for word in (0..WORDS.len()).filter(|&word| was[word] != place[word]) {
+            lines.push(format!("set {number} {} {}\n", WORDS[word], place[word]));
+        }
+    }
+    lines
+}
+
+/// One call as a line of a story, its book aside.
+fn call_line(call: &Call, serial: u16) -> String {
+    let name = call.name();
+    let line = match call {
+        Call::IsSound(_) => name.to_string(),
+        Call::Standing(_, account) => format!("{name} {account}"),
+        Call::CarryOut(_, record) => format!("{name} {}", record_words(record, serial)),
+        Call::CarryOutNext(_, piece, number)
+        | Call::Day(_, piece, number)
+        | Call::ReadAt(piece, number) => {
+            format!("{name} {number} {}", piece_words(piece, serial))
+        }
+        Call::Write(record, room) => {
+            format!("{name} {} room {room}", record_words(record, serial))
+        }
+        Call::CloseOut(_, losses, room) => {
+            let losses: String = losses.iter().map(|loss| format!(" {loss}")).collect();
+            format!("{name} room {room} losses{losses}")
+        }
+        Call::Needs(_, room) => format!("{name} room {room}"),
+    };
+    line.trim_end().to_string()
+}
+
+fn piece_words(piece: &[u8], serial: u16) -> String {
+    let lines = read_from(piece, serial);
+    lines.trim_end().replace('\n', " ; ")
+}
+
+/// In words where its bytes say all of it.
+fn record_words(record: &Values, serial: u16) -> String {
+    let mut bytes = Vec::new();
+    record.lay(&mut bytes);
+    match Reader::new(&bytes).next() {
+        Next::Record(read) if read.values() == *record => piece_words(&bytes, serial),
+        _ => {
+            let amounts = record.amounts.map(|amount| amount.to_string()).join(" ");
+            let Values {
+                serial,
+                code,
+                mark,
+                account,
+                ..
+            } = record;
+            format!("values {serial} {code} {mark} {account} {amounts}")
+        }
+    }
+}
+
+/// How many characters of a call are shown.
+const SHORT: usize = 300;
+
+/// A call for a person to follow up: its line, and what its book is like.
+pub fn short(call: &Call) -> String {
+    let serial = call.book().map_or(0, |book| book.serial);
+    let mut line = call_line(call, serial);
+    if line.len() > SHORT {
+        line.truncate(SHORT);
+        line += " ..";
+    }
+    if let Some(book) = call.book() {
+        let mut faults = book.faults();
+        faults.sort();
+        faults.dedup();
+        faults.truncate(6);
+        let on = book.places.iter().filter(|place| place[MODE] != 0).count();
+        line += &format!(
+            "\n  its book: {} accounts, next serial {}, {on} modes on, faults {faults:?}",
+            book.count, book.serial
+        );
+    }
+    line
+}

@@ -1,0 +1,225 @@
+//! Document 01, "A sound book", with K2 and K3, clause by clause and of any
+//! words at all: sums are of 128 bits, and no clause trusts another.
+
+use super::*;
+use crate::book::CEILING;
+
+/// One way in which a book isn't sound. Each is a clause by itself, told apart
+/// by word and sort so that a comparison can say which ones it has met.
+#[derive(Clone, Copy, PartialEq, Eq, PartialOrd, Ord, Debug)]
+pub enum Fault {
+    /// "The number of accounts is 1 to 256."
+    NoAccounts,
+    TooManyAccounts,
+    /// "Account 0 is the CM and live."
+    TopIsNoCm,
+    TopIsRetired,
+    TopHasTm,
+    /// "Rows beyond the number are all zero": this word isn't.
+    Beyond(usize),
+    /// "Every other account is a TM, a CP, or a client .."
+    UnknownSort,
+    SecondCm,
+    /// A row that is no client has TM word 0. By its sort.
+    HasTm(u64),
+    /// ".. whose TM is a lower-numbered TM row."
+    OwnTm,
+    HigherTm,
+    TmBeyond,
+    TmPastTable,
+    /// The row named is of this sort.
+    TmOfSort(u64),
+    TmUnknown,
+    /// "A live client's TM is live."
+    TmIsRetired,
+    /// "A retired account's amounts are all zero": sort and word.
+    RetiredHas(u64, usize),
+    /// "Received (each kind), pledged and margin are at most the ceiling."
+    PastCeiling(usize),
+    /// "Allocated is at most received in each kind."
+    AllocatedPast(usize),
+    /// "The CM's need is at most the CM's collateral."
+    NotCovered,
+    /// "Only a live TM or the CM can be in the mode": sort, live.
+    ModeOn(u64, u64),
+    /// "Each kept need equals the need worked out afresh", and is 0 for
+    /// clients and CPs: sort, live, and whether it is too high.
+    KeptNeed(u64, u64, bool),
+}
+
+/// The words of a row that are amounts.
+const AMOUNTS: std::ops::RangeInclusive<usize> = RECEIVED..=MARGIN;
+
+impl Fault {
+    /// All those that a book can have as its only fault. A row that names no
+    /// known sort as its TM always comes with that row's own fault.
+    pub fn all() -> Vec<Fault> {
+        use Fault::*;
+        let mut all = vec![NoAccounts, TooManyAccounts];
+        all.extend([TopIsNoCm, TopIsRetired, TopHasTm]);
+        all.extend((0..WORDS.len()).map(Beyond));
+        all.extend([UnknownSort, SecondCm, HasTm(TRADING), HasTm(CP)]);
+        all.extend([OwnTm, HigherTm, TmBeyond, TmPastTable]);
+        all.extend([TmOfSort(CM), TmOfSort(CLIENT), TmOfSort(CP), TmIsRetired]);
+        for sort in [TRADING, CLIENT, CP] {
+            all.extend(AMOUNTS.map(|word| RetiredHas(sort, word)));
+        }
+        let limited = (RECEIVED..RECEIVED + KINDS).chain([PLEDGED, MARGIN]);
+        all.extend(limited.map(PastCeiling));
+        all.extend((ALLOCATED..ALLOCATED + KINDS).map(AllocatedPast));
+        all.push(NotCovered);
+        all.extend([ModeOn(TRADING, 0), ModeOn(CLIENT, 0), ModeOn(CLIENT, 1)]);
+        all.extend([ModeOn(CP, 0), ModeOn(CP, 1)]);
+        all.extend([KeptNeed(CM, 1, false), KeptNeed(CM, 1, true)]);
+        all.extend([KeptNeed(TRADING, 1, false), KeptNeed(TRADING, 1, true)]);
+        all.push(KeptNeed(TRADING, 0, true));
+        for sort in [CLIENT, CP] {
+            all.extend([KeptNeed(sort, 0, true), KeptNeed(sort, 1, true)]);
+        }
+        all
+    }
+}
+
+impl Table {
+    pub fn is_sound(&self) -> bool {
+        self.faults().is_empty()
+    }
+
+    /// Every fault of every place; a kind of fault may stand there often.
+    pub fn faults(&self) -> Vec<Fault> {
+        let mut faults = Vec::new();
+        match usize::from(self.count) {
+            0 => faults.push(Fault::NoAccounts),
+            1..=MOST_ACCOUNTS => {}
+            _ => faults.push(Fault::TooManyAccounts),
+        }
+        self.top_faults(&mut faults);
+        let held = self.held().max(1);
+        for place in &self.places[held..] {
+            let words = (0..WORDS.len()).filter(|&word| place[word] != 0);
+            faults.extend(words.map(Fault::Beyond));
+        }
+        for account in 0..held {
+            self.row_faults(account, &mut faults);
+        }
+        self.need_faults(held, &mut faults);
+        faults
+    }
+
+    fn top_faults(&self, faults: &mut Vec<Fault>) {
+        let top = &self.places[0];
+        if top[SORT] != CM {
+            faults.push(Fault::TopIsNoCm);
+        }
+        if top[LIVE] == 0 {
+            faults.push(Fault::TopIsRetired);
+        }
+        if top[TM] != 0 {
+            faults.push(Fault::TopHasTm);
+        }
+    }
+
+    fn row_faults(&self, account: usize, faults: &mut Vec<Fault>) {
+        let place = &self.places[account];
+        if account != 0 {
+            match place[SORT] {
+                CM => faults.push(Fault::SecondCm),
+                CLIENT => faults.extend(self.tm_fault(account)),
+                sort @ (TRADING | CP) if place[TM] != 0 => faults.push(Fault::HasTm(sort)),
+                TRADING | CP => {}
+                _ => faults.push(Fault::UnknownSort),
+            }
+            let (sort, live) = (place[SORT], place[LIVE]);
+            if place[MODE] != 0 && (sort, live) != (TRADING, 1) {
+                faults.push(Fault::ModeOn(sort, live));
+            }
+        }
+        limit_faults(place, faults);
+    }
+
+    fn tm_fault(&self, account: usize) -> Option<Fault> {
+        let tm = self.places[account][TM] as usize;
+        if tm >= MOST_ACCOUNTS {
+            return Some(Fault::TmPastTable);
+        }
+        if tm >= self.held() {
+            return Some(Fault::TmBeyond);
+        }
+        if tm >= account {
+            let own = tm == account;
+            return Some(if own { Fault::OwnTm } else { Fault::HigherTm });
+        }
+        match self.places[tm][SORT] {
+            TRADING => {
+                let is_left = self.places[account][LIVE] == 1 && self.places[tm][LIVE] == 0;
+                is_left.then_some(Fault::TmIsRetired)
+            }
+            sort @ (CM | CLIENT | CP) => Some(Fault::TmOfSort(sort)),
+            _ => Some(Fault::TmUnknown),
+        }
+    }
+
+    fn need_faults(&self, held: usize, faults: &mut Vec<Fault>) {
+        let afresh = self.needs_afresh();
+        for (place, &need) in self.places[..held].iter().zip(&afresh) {
+            let kept = u128::from(place[NEED]);
+            if kept != need {
+                faults.push(Fault::KeptNeed(place[SORT], place[LIVE], kept > need));
+            }
+        }
+        if afresh[0] > collateral(&self.places[0]) {
+            faults.push(Fault::NotCovered);
+        }
+    }
+
+    /// What must be kept at each place: the CM's need at place 0, each TM's at
+    /// its own, 0 at any other.
+    pub fn needs_afresh(&self) -> [u128; MOST_ACCOUNTS] {
+        let held = &self.places[..self.held()];
+        let mut needs = [0; MOST_ACCOUNTS];
+        for (need, place) in needs.iter_mut().zip(held) {
+            if place[SORT] == TRADING {
+                *need = u128::from(place[MARGIN]);
+            }
+        }
+        for place in held.iter().filter(|place| place[SORT] == CLIENT) {
+            let tm = place[TM] as usize;
+            if held.get(tm).is_some_and(|tm| tm[SORT] == TRADING) {
+                needs[tm] += deemed(u128::from(place[MARGIN]), place);
+            }
+        }
+        let mut cm = u128::from(self.places[0][MARGIN]);
+        for (place, &need) in held.iter().zip(&needs).skip(1) {
+            match place[SORT] {
+                TRADING => cm += deemed(need, place),
+                CP => cm += deemed(u128::from(place[MARGIN]), place),
+                _ => {}
+            }
+        }
+        needs[0] = cm;
+        needs
+    }
+}
+
+/// "The sum of the four allocated amounts and pledged."
+fn collateral(place: &Place) -> u128 {
+    let words = ALLOCATED..=PLEDGED;
+    words.map(|word| u128::from(place[word])).sum()
+}
+
+fn deemed(need: u128, place: &Place) -> u128 {
+    need.saturating_sub(collateral(place))
+}
+
+fn limit_faults(place: &Place, faults: &mut Vec<Fault>) {
+    if place[LIVE] == 0 {
+        let words = AMOUNTS.filter(|&word| place[word] != 0);
+        faults.extend(words.map(|word| Fault::RetiredHas(place[SORT], word)));
+    }
+    let limited = (RECEIVED..RECEIVED + KINDS).chain([PLEDGED, MARGIN]);
+    let past = limited.filter(|&word| place[word] > CEILING);
+    faults.extend(past.map(Fault::PastCeiling));
+    let allocated = ALLOCATED..ALLOCATED + KINDS;
+    let past = allocated.filter(|&word| place[word] > place[word - KINDS]);
+    faults.extend(past.map(Fault::AllocatedPast));
+}
