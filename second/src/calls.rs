@@ -5,10 +5,12 @@
 mod answers;
 mod call;
 mod input;
+mod met;
 
 pub use answers::{answer, Answered};
 pub use call::Call;
 use input::Input;
+pub use met::Met;
 
 /// "Length 4, then so many bytes (at most 65,536)."
 pub const PIECE_MOST: usize = 65_536;

@@ -4,9 +4,9 @@
 use crate::rng::Rng;
 use std::io::{self, Write};
 use std::path::Path;
-use std::process::{ChildStdin, Command, Output, Stdio};
+use std::process::{Child, ChildStdin, Command, Output, Stdio};
 use std::thread;
-use std::time::Duration;
+use std::time::{Duration, Instant};
 
 #[derive(Clone, Copy)]
 pub enum Pace {
@@ -17,7 +17,7 @@ pub enum Pace {
 }
 
 /// A program is a path, or else words such as `second day`.
-pub fn ask(program: &str, argument: Option<&Path>, input: &[u8], pace: Pace) -> io::Result<Output> {
+fn spawned(program: &str, arguments: &[&Path]) -> io::Result<Child> {
     let mut words = program.split_whitespace();
     let mut command = if Path::new(program).is_file() {
         Command::new(program)
@@ -26,17 +26,42 @@ pub fn ask(program: &str, argument: Option<&Path>, input: &[u8], pace: Pace) -> 
         command.args(words);
         command
     };
-    command.args(argument);
+    command.args(arguments);
     command
         .stdin(Stdio::piped())
         .stdout(Stdio::piped())
         .stderr(Stdio::piped());
-    let mut child = command.spawn()?;
+    command.spawn()
+}
+
+pub fn ask(program: &str, arguments: &[&Path], input: &[u8], pace: Pace) -> io::Result<Output> {
+    let mut child = spawned(program, arguments)?;
     let stdin = child.stdin.take();
     thread::scope(|scope| {
         scope.spawn(move || stdin.map(|stdin| feed(stdin, input, pace)));
         child.wait_with_output()
     })
+}
+
+/// How long a program may take that needn't read anything.
+const PATIENCE: Duration = Duration::from_secs(20);
+
+/// Standard input stays open and empty: a program that waits for it would
+/// never end, and is ended here. It prints less than a pipe holds.
+pub fn ask_held(program: &str, arguments: &[&Path]) -> io::Result<Output> {
+    let mut child = spawned(program, arguments)?;
+    let stdin = child.stdin.take();
+    let start = Instant::now();
+    while child.try_wait()?.is_none() {
+        if start.elapsed() > PATIENCE {
+            child.kill()?;
+            child.wait()?;
+            return Err(io::Error::other("it waits for standard input"));
+        }
+        thread::sleep(Duration::from_millis(1));
+    }
+    drop(stdin);
+    child.wait_with_output()
 }
 
 /// A program may stop reading once it knows its answer, so a closed pipe is

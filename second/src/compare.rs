@@ -1,10 +1,14 @@
-//! Other programs against this one, byte for byte, on many made-up days.
+//! Other programs against this one, byte for byte, on many made-up days,
+//! calls and books.
+
+mod books;
+mod calls;
 
 use crate::book::Book;
 use crate::child::{ask, Pace};
 use crate::closeout::close_out_bytes;
 use crate::day::Closing;
-use crate::dayfile::Reader;
+use crate::dayfile::{Next, Reader};
 use crate::difference::settle;
 use crate::holds::Holds;
 use crate::looks::Looks;
@@ -15,15 +19,19 @@ use crate::moves::Moves;
 use crate::options::Options;
 use crate::print;
 use crate::refusal::Refusal;
+use crate::rng::Rng;
 use crate::tally::Tally;
 use std::fs;
-use std::path::PathBuf;
+use std::path::{Path, PathBuf};
 
-const VALUED: [&str; 7] = [
+const VALUED: [&str; 10] = [
     "--day",
     "--standings",
     "--closeouts",
     "--needs",
+    "--calls",
+    "--call-inputs",
+    "--books",
     "--days",
     "--seed",
     "--millions",
@@ -42,7 +50,15 @@ struct Programs<'a> {
     standings: Option<&'a str>,
     closeouts: Option<&'a str>,
     needs: Option<&'a str>,
+    calls: Option<&'a str>,
     folder: PathBuf,
+}
+
+impl Programs<'_> {
+    fn reads_days(&self) -> bool {
+        let shows = self.standings.or(self.closeouts).or(self.needs);
+        self.day.or(shows).is_some()
+    }
 }
 
 /// The closing line on success; a readable account of the first difference
@@ -54,27 +70,39 @@ pub fn compare(words: &[String]) -> Result<String, String> {
         standings: options.value("--standings"),
         closeouts: options.value("--closeouts"),
         needs: options.value("--needs"),
+        calls: options.value("--calls"),
         folder: std::env::temp_dir().join(format!("second-compare-{}", std::process::id())),
     };
-    if programs
-        .day
-        .or(programs.standings)
-        .or(programs.closeouts)
-        .or(programs.needs)
-        .is_none()
-    {
+    if !programs.reads_days() && programs.calls.is_none() {
         return Err(
-            "compare: name a program with --day, --standings, --closeouts or --needs".to_string(),
+            "compare: name a program with --day, --standings, --closeouts, --needs or --calls"
+                .to_string(),
         );
     }
     fs::create_dir_all(&programs.folder).map_err(|error| error.to_string())?;
-    let tally = all_days(&options, &programs);
+    let lines = all(&options, &programs);
     // A day file kept for a difference leaves the losses with it.
-    if tally.is_ok() {
+    if lines.is_ok() {
         let _ = fs::remove_file(programs.folder.join("losses"));
     }
     let _ = fs::remove_dir(&programs.folder);
-    Ok(tally?.summary())
+    Ok(lines?.join("\n"))
+}
+
+/// Days, then books, then calls, each where it is asked for.
+fn all(options: &Options, programs: &Programs) -> Result<Vec<String>, String> {
+    let mut lines = Vec::new();
+    if programs.reads_days() {
+        lines.push(all_days(options, programs)?.summary());
+        let many = options.number("--books", 0)?;
+        if many > 0 {
+            lines.push(books::all_books(options, programs, many)?.line());
+        }
+    }
+    if let Some(program) = programs.calls {
+        lines.extend(calls::all_inputs(options, programs, program)?.lines());
+    }
+    Ok(lines)
 }
 
 fn all_days(options: &Options, programs: &Programs) -> Result<Tally, String> {
@@ -115,7 +143,7 @@ fn all_days(options: &Options, programs: &Programs) -> Result<Tally, String> {
 fn one_day(programs: &Programs, made: &Made, tally: &mut Tally) -> Result<(), String> {
     let own = own_answer(made, tally)?;
     if let Some(program) = programs.day {
-        let got = ask(program, None, &made.bytes, made.pace);
+        let got = ask(program, &[], &made.bytes, made.pace);
         settle(&programs.folder, made, "day", &own.out, got)?;
     }
     if programs.standings.or(programs.needs).is_some() {
@@ -150,7 +178,7 @@ fn one_book(programs: &Programs, made: &Made) -> Result<(), String> {
     ];
     for (name, program, own) in shown {
         if let Some(program) = program {
-            let got = ask(program, None, &made.bytes, made.pace);
+            let got = ask(program, &[], &made.bytes, made.pace);
             settle(&programs.folder, made, name, &own(&made.bytes), got)?;
         }
     }
@@ -164,6 +192,16 @@ fn beginning(piece: &[u8], records: usize) -> &[u8] {
         reader.next();
     }
     &piece[..reader.place()]
+}
+
+/// A place between two records, at the start or at the end.
+fn between_records(piece: &[u8], rng: &mut Rng) -> usize {
+    let mut reader = Reader::new(piece);
+    let mut places = vec![0];
+    while let Next::Record(_) = reader.next() {
+        places.push(reader.place());
+    }
+    rng.pick(&places)
 }
 
 struct Own {
@@ -248,7 +286,8 @@ fn one_close_out(
         tally.refusals[refusal as usize] += 1;
     }
     let want = given.map_or(Vec::new(), |bytes| print::closeouts(&made.bytes, bytes));
-    let got = ask(program, argument.as_deref(), &made.bytes, made.pace);
+    let words: Vec<&Path> = argument.as_deref().into_iter().collect();
+    let got = ask(program, &words, &made.bytes, made.pace);
     let told = got
         .as_ref()
         .is_ok_and(|got| got.stderr.starts_with(print::CANNOT_READ.as_bytes()));

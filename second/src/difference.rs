@@ -37,26 +37,60 @@ fn keep(folder: &Path, made: &Made) -> String {
     }
 }
 
-fn difference(made: &Made, name: &str, want: &[u8], got: &Output) -> String {
-    let (wanted, given) = (lines(want), lines(&got.stdout));
+/// The number, from 0, of the first line that differs, and how it reads here
+/// and there. Long lines are shown from shortly before they part.
+pub fn first_difference(want: &[u8], got: &[u8]) -> (usize, String, String) {
+    let (wanted, given) = (lines(want), lines(got));
     let same = wanted
         .iter()
         .zip(&given)
         .take_while(|(want, got)| want == got)
         .count();
-    let shown = |list: &[&[u8]]| match list.get(same) {
-        Some(line) => String::from_utf8_lossy(line).escape_debug().to_string(),
-        None => "(nothing)".to_string(),
+    let (here, there) = (wanted.get(same), given.get(same));
+    let parting = match (here, there) {
+        (Some(here), Some(there)) => {
+            let each = here.iter().zip(there.iter());
+            each.take_while(|(here, there)| here == there).count()
+        }
+        _ => 0,
     };
+    let shown =
+        |line: Option<&&[u8]>| line.map_or("(nothing)".to_string(), |line| part(line, parting));
+    (same, shown(here), shown(there))
+}
+
+/// How much of a long line is shown before and after the place of interest.
+const BEFORE: usize = 80;
+const AFTER: usize = 160;
+
+fn part(line: &[u8], place: usize) -> String {
+    let start = if line.len() > BEFORE + AFTER {
+        place.saturating_sub(BEFORE)
+    } else {
+        0
+    };
+    let end = line.len().min(start + BEFORE + AFTER);
+    let shown = String::from_utf8_lossy(&line[start..end]);
+    let dots = |is_cut: bool| if is_cut { ".." } else { "" };
+    format!(
+        "{}{}{}",
+        dots(start > 0),
+        shown.escape_debug(),
+        dots(end < line.len())
+    )
+}
+
+fn difference(made: &Made, name: &str, want: &[u8], got: &Output) -> String {
+    let (same, second, other) = first_difference(want, &got.stdout);
     let mut report = format!(
         "difference: program {name}, kind {}, seed {}, line {}\n  second: {}\n  other:  {}",
         made.kind,
         made.seed,
         same + 1,
-        shown(&wanted),
-        shown(&given)
+        second,
+        other
     );
-    if name == "day" {
+    if name.starts_with("day") {
         report += &format!("\n  record: {}", record_hex(&made.bytes, same));
     }
     if matches!(made.pace, Pace::Trickle(_)) {

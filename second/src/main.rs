@@ -5,7 +5,6 @@
 mod book;
 mod bookfile;
 mod bundle;
-#[allow(dead_code)] // until calls are made up
 mod calls;
 mod carry;
 mod child;
@@ -26,9 +25,7 @@ mod print;
 mod programs;
 mod refusal;
 mod rng;
-#[allow(dead_code)] // until calls are made up
 mod story;
-#[allow(dead_code)] // until calls are made up
 mod table;
 mod tally;
 #[cfg(test)]
@@ -53,9 +50,11 @@ second make KIND SEED > DAYFILE          a made-up day: busy hostile bent bounds
                                          openings retire shared spent warned wavering
                                          moved moving held withheld mixed million
 second losses SEED < DAYFILE > LOSSFILE  made-up losses for the book at that day's end
-second compare --day P --standings P --closeouts P --needs P
-               [--days N] [--seed S] [--millions K] [--trickle]
-                                         other programs against this one on made-up days
+second make-calls SEED > CALLS           made-up calls
+second compare [--day P] [--standings P] [--closeouts P] [--needs P] [--calls P]
+               [--days N] [--seed S] [--millions K] [--books N] [--call-inputs N] [--trickle]
+                                         other programs against this one: on made-up days, on N days
+                                         in two pieces with book files, on N inputs of made-up calls
 second bundle --days N --seed S > BUNDLE many small days in one file
 second bundled < BUNDLE > ANSWERS        the answers to all of them
 second write < TEXT > DAYFILE            a day file from its readable form
@@ -99,6 +98,7 @@ fn main() -> ExitCode {
         "needs" => programs::needs(&arguments[1..], &day_file),
         "closeouts" => programs::closeouts(&arguments[1..], &day_file),
         "make" => make_command(&words),
+        "make-calls" => make_calls_command(&words),
         "losses" => losses_command(&words),
         "compare" => compare::compare(&words).map(|line| (line + "\n").into_bytes()),
         "calls" => all_input().map(|input| calls::answered(&input)),
@@ -159,6 +159,13 @@ fn make_command(words: &[String]) -> Output {
     };
     let kind = make::kind_named(kind).ok_or_else(|| format!("make: unknown kind `{kind}`"))?;
     Ok(make::make(kind, seed(number)?, make::NO_LIMIT))
+}
+
+fn make_calls_command(words: &[String]) -> Output {
+    let [number] = words else {
+        return Err("make-calls: a seed is expected".to_string());
+    };
+    Ok(make::asked::make(seed(number)?).bytes)
 }
 
 fn losses_command(words: &[String]) -> Output {

@@ -1,5 +1,6 @@
 //! Made-up days by kind and seed.
 
+pub mod asked;
 mod bend;
 mod deemed;
 mod held;
@@ -15,7 +16,7 @@ mod warned;
 
 use maker::Maker;
 
-type Kind = (&'static str, fn(&mut Maker));
+pub type Kind = (&'static str, fn(&mut Maker));
 
 /// The kinds that a comparison goes round. `million` stands apart for its size.
 /// An odd number, so that days fed in small pieces (one in four) are of every

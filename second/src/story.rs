@@ -39,9 +39,7 @@ use crate::carry::carry_values;
 use crate::dayfile::{Next, Reader, Values};
 use crate::table::{Table, MODE, NEED, WIDTHS, WORDS};
 use crate::text::{hex_bytes, line_bytes, moved_on, parsed};
-pub use read::read;
-#[allow(unused_imports)]
-pub use read::short;
+pub use read::{read, short};
 
 struct Story {
     /// The book's written form. It need not be a book.

@@ -4,7 +4,6 @@ mod faults;
 
 use crate::book::{Book, Row, Sort, KINDS, MOST_ACCOUNTS};
 use crate::mode::Mode;
-#[allow(unused_imports)]
 pub use faults::Fault;
 
 /// The words of a place, in the order of the written form.

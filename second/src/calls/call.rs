@@ -53,6 +53,10 @@ impl Call {
         Some(call)
     }
 
+    pub fn is_known(byte: u8) -> bool {
+        (1..=9).contains(&byte)
+    }
+
     /// The byte that stands for it.
     pub fn number(&self) -> u8 {
         match self {

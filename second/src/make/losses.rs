@@ -45,6 +45,12 @@ pub fn make(book: &Book, seed: u64) -> Vec<u8> {
     bytes
 }
 
+/// A list that no book refuses.
+pub fn good(book: &Book, seed: u64) -> Vec<u64> {
+    let mut sheet = Sheet::new(book, Rng::new(seed, 0x600D));
+    sheet.losses(WAYS[seed as usize % WAYS.len()])
+}
+
 /// Losses are drawn in rising account number, as free collateral goes, so
 /// that a loss can aim at what those before it leave.
 struct Sheet<'a> {

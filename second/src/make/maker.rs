@@ -40,6 +40,14 @@ impl Maker {
         }
     }
 
+    /// A day that goes on with this book.
+    pub fn over(book: Book, seed: u64) -> Maker {
+        let mut maker = Maker::new(seed, 0x0CE2, usize::MAX / 2);
+        maker.wanted = book.count + 2;
+        maker.book = book;
+        maker
+    }
+
     pub fn full(&self) -> bool {
         self.bytes.len() + LONGEST > self.room
     }

@@ -8,19 +8,23 @@ use super::steer::{begin, step, stranger};
 use super::uses::waver;
 use crate::book::MOST_ACCOUNTS;
 
+pub fn any_step(maker: &mut Maker) {
+    match maker.rng.below(16) {
+        0 => bent_record(maker),
+        1 => wrong_serial(maker),
+        2 => edge_record(maker),
+        3 | 4 => retire_step(maker),
+        5 => stranger(maker),
+        6 => waver(maker),
+        _ => step(maker),
+    }
+}
+
 pub fn mixed(maker: &mut Maker) {
     maker.wanted = maker.rng.between(2, MOST_ACCOUNTS as u64) as usize;
     begin(maker);
     for _ in 0..maker.usual_length() {
-        match maker.rng.below(16) {
-            0 => bent_record(maker),
-            1 => wrong_serial(maker),
-            2 => edge_record(maker),
-            3 | 4 => retire_step(maker),
-            5 => stranger(maker),
-            6 => waver(maker),
-            _ => step(maker),
-        }
+        any_step(maker);
     }
     match maker.rng.below(4) {
         0 => {

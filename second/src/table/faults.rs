@@ -80,6 +80,22 @@ impl Fault {
     }
 }
 
+impl Fault {
+    /// Those that are broken by themselves: a book has one kind of fault, or
+    /// a retired account several amounts. Allocated can't be alone, since
+    /// without as much received it breaks another sentence.
+    pub fn alone(faults: &[Fault]) -> Vec<Fault> {
+        let mut kinds = faults.to_vec();
+        kinds.sort();
+        kinds.dedup();
+        let is_of_retired = |fault: &Fault| matches!(fault, Fault::RetiredHas(..));
+        if kinds.len() > 1 && !kinds.iter().all(is_of_retired) {
+            kinds.clear();
+        }
+        kinds
+    }
+}
+
 impl Table {
     pub fn is_sound(&self) -> bool {
         self.faults().is_empty()

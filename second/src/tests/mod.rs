@@ -1,6 +1,7 @@
 //! The documents' own figures, each refusal with its neighbour just allowed,
 //! and made-up days and close-outs held against the rules by the letter.
 
+mod asked;
 mod bookfiles;
 mod bytes;
 mod calls;

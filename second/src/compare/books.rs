@@ -1,0 +1,296 @@
+//! Programs that start from a book file and leave one, against this one: days
+//! in two pieces with a night between them, and book files that are no book or
+//! not a sound one.
+
+use super::{between_records, Programs};
+use crate::book::Book;
+use crate::child::{ask, ask_held, Pace};
+use crate::difference::settle;
+use crate::made::Made;
+use crate::make::asked::{any_sound, unsound, with_steps};
+use crate::make::{losses, make, ROUND};
+use crate::options::Options;
+use crate::rng::Rng;
+use crate::table::{Fault, Table};
+use crate::{bookfile, print};
+use std::fs;
+use std::path::{Path, PathBuf};
+
+/// How much has been compared.
+#[derive(Default)]
+pub struct Met {
+    pub days: u64,
+    runs: u64,
+    odd: u64,
+    unsound: u64,
+    none: u64,
+}
+
+impl Met {
+    pub fn line(&self) -> String {
+        format!(
+            "same: {} days in two pieces, {} runs from a book; books with modes of their own: {}, not sound: {}, none: {}",
+            self.days, self.runs, self.odd, self.unsound, self.none
+        )
+    }
+}
+
+struct Night<'a> {
+    programs: &'a Programs<'a>,
+    made: Made,
+    rng: Rng,
+    met: &'a mut Met,
+}
+
+/// Days by kind and seed as elsewhere, but shorter.
+pub fn all_books(options: &Options, programs: &Programs, many: u64) -> Result<Met, String> {
+    let first = options.number("--seed", 1)?;
+    let mut met = Met::default();
+    for place in 0..many {
+        let kind = ROUND[place as usize % ROUND.len()];
+        let seed = first.wrapping_add(place);
+        let made = Made {
+            kind: kind.0,
+            seed,
+            bytes: make(kind, seed, 30_000),
+            pace: Pace::Whole,
+        };
+        let mut night = Night {
+            programs,
+            made,
+            rng: Rng::new(seed, 0xB00C),
+            met: &mut met,
+        };
+        night.two_pieces()?;
+        night.own_modes()?;
+        night.not_sound(place)?;
+        night.no_book(place)?;
+        met.days += 1;
+    }
+    for name in ["book", "to", "losses"] {
+        let _ = fs::remove_file(programs.folder.join(name));
+    }
+    Ok(met)
+}
+
+impl Night<'_> {
+    fn path(&self, name: &str) -> PathBuf {
+        self.programs.folder.join(name)
+    }
+
+    fn put(&self, name: &str, bytes: &[u8]) -> Result<PathBuf, String> {
+        let path = self.path(name);
+        fs::write(&path, bytes).map_err(|error| error.to_string())?;
+        Ok(path)
+    }
+
+    fn told(&self, what: &str) -> String {
+        let Made { kind, seed, .. } = self.made;
+        let folder = self.programs.folder.display();
+        format!("difference: {what}, kind {kind}, seed {seed}; the book is in {folder}")
+    }
+
+    /// Runs a program on a piece and compares what it prints.
+    fn settled(
+        &mut self,
+        name: &str,
+        program: &str,
+        words: &[&Path],
+        piece: &[u8],
+        want: &[u8],
+    ) -> Result<(), String> {
+        let made = Made {
+            bytes: piece.to_vec(),
+            ..self.made
+        };
+        self.met.runs += 1;
+        let got = ask(program, words, piece, Pace::Whole);
+        settle(&self.programs.folder, &made, name, want, got)
+    }
+
+    fn two_pieces(&mut self) -> Result<(), String> {
+        let bytes = self.made.bytes.clone();
+        let cut = between_records(&bytes, &mut self.rng);
+        let (first, second) = bytes.split_at(cut);
+        let book = self.path("book");
+        let _ = fs::remove_file(&book);
+        let after = self.day(Book::fresh(), Path::new("-"), &book, first)?;
+        self.shown(&after, &book, second)?;
+        let after = handed_over(&after);
+        let after = self.day(after, &book, &book, second)?;
+        self.shown(&after, &book, &[])
+    }
+
+    /// The lines, and the bytes of the book file. Gives the book after it.
+    fn day(&mut self, book: Book, from: &Path, to: &Path, piece: &[u8]) -> Result<Book, String> {
+        let (lines, closing, after) = print::day_parts(book, piece, |_, _| {});
+        let Some(program) = self.programs.day else {
+            let kept = fs::write(to, bookfile::bytes(&Table::of(&after)));
+            kept.map_err(|error| error.to_string())?;
+            return Ok(after);
+        };
+        let want = [lines, closing].concat();
+        self.settled("day from a book", program, &[from, to], piece, &want)?;
+        let kept = fs::read(to).unwrap_or_default();
+        if kept != bookfile::bytes(&Table::of(&after)) {
+            return Err(self.told(&book_difference(&kept, &Table::of(&after))));
+        }
+        Ok(after)
+    }
+
+    /// The programs that show a book, with this piece carried out first.
+    fn shown(&mut self, book: &Book, path: &Path, piece: &[u8]) -> Result<(), String> {
+        if let Some(program) = self.programs.standings {
+            let want = print::standings_over(handed_over(book), piece);
+            self.settled("standings from a book", program, &[path], piece, &want)?;
+        }
+        if let Some(program) = self.programs.needs {
+            let want = print::needs_over(handed_over(book), piece);
+            self.settled("needs from a book", program, &[path], piece, &want)?;
+        }
+        if let Some(program) = self.programs.closeouts {
+            let losses = losses::make(book, self.rng.next());
+            let file = self.put("losses", &losses)?;
+            let want = print::closeouts_over(handed_over(book), piece, &losses);
+            self.settled(
+                "closeouts from a book",
+                program,
+                &[&file, path],
+                piece,
+                &want,
+            )?;
+        }
+        Ok(())
+    }
+
+    /// A sound book whose modes need not fit its figures.
+    fn own_modes(&mut self) -> Result<(), String> {
+        let table = any_sound(&mut self.rng);
+        let piece = with_steps(&table, &mut self.rng);
+        let book = self.put("book", &bookfile::bytes(&table))?;
+        let Some(sound) = table.book() else {
+            return Err("a book was made that isn't sound".to_string());
+        };
+        let to = self.path("to");
+        let _ = fs::remove_file(&to);
+        self.shown(&sound, &book, &piece)?;
+        let after = self.day(sound, &book, &to, &piece)?;
+        self.met.odd += 1;
+        self.shown(&after, &to, &[])
+    }
+
+    /// "The closing line is `1 0 0`, standard input isn't read": it is held
+    /// open, so that a program that waits for it is found out.
+    fn not_sound(&mut self, place: u64) -> Result<(), String> {
+        let faults = Fault::all();
+        let table = unsound(faults[place as usize % faults.len()], &mut self.rng);
+        let book = self.put("book", &bookfile::bytes(&table))?;
+        let to = self.put("to", b"as it was")?;
+        let losses = self.put("losses", &vec![0; 8 * table.held()])?;
+        let closed = [print::UNSOUND, print::UNSOUND_CLOSE_OUT].concat();
+        let runs: [(&str, Option<&str>, Vec<&Path>, &[u8]); 4] = [
+            ("day", self.programs.day, vec![&book, &to], print::UNSOUND),
+            (
+                "standings",
+                self.programs.standings,
+                vec![&book],
+                print::UNSOUND,
+            ),
+            ("needs", self.programs.needs, vec![&book], print::UNSOUND),
+            (
+                "closeouts",
+                self.programs.closeouts,
+                vec![&losses, &book],
+                &closed,
+            ),
+        ];
+        for (name, program, words, want) in runs {
+            if let Some(program) = program {
+                let got = ask_held(program, &words);
+                let what = format!("{name} from a book that isn't sound");
+                settle(&self.programs.folder, &self.made, &what, want, got)?;
+            }
+        }
+        self.met.unsound += 1;
+        self.to_untouched(&to)
+    }
+
+    fn to_untouched(&self, to: &Path) -> Result<(), String> {
+        match fs::read(to) {
+            Ok(bytes) if bytes == b"as it was" => Ok(()),
+            _ => Err(self.told("day kept a book that it should not have")),
+        }
+    }
+
+    /// Nothing on standard output, something on standard error.
+    fn no_book(&mut self, place: u64) -> Result<(), String> {
+        let (bytes, path) = (bookfile::bytes(&Table::fresh()), self.path("book"));
+        let _ = fs::remove_file(&path);
+        let bad = no_book_bytes(place, bytes, &mut self.rng);
+        let book = match (&bad, place % 2) {
+            (Some(bytes), _) => self.put("book", bytes)?,
+            (None, 0) => path,
+            (None, _) => self.programs.folder.clone(),
+        };
+        let to = self.put("to", b"as it was")?;
+        let losses = self.put("losses", &[0; 8])?;
+        let runs: [(&str, Option<&str>, Vec<&Path>); 4] = [
+            ("day", self.programs.day, vec![&book, &to]),
+            ("standings", self.programs.standings, vec![&book]),
+            ("needs", self.programs.needs, vec![&book]),
+            ("closeouts", self.programs.closeouts, vec![&losses, &book]),
+        ];
+        for (name, program, words) in runs {
+            if let Some(program) = program {
+                let got = ask(program, &words, &self.made.bytes, Pace::Whole);
+                let silent = got.as_ref().is_ok_and(|got| got.stderr.is_empty());
+                let what = format!("{name} from what is no book");
+                settle(&self.programs.folder, &self.made, &what, b"", got)?;
+                if silent {
+                    return Err(self.told(&format!("{what} says nothing on standard error")));
+                }
+            }
+        }
+        self.met.none += 1;
+        self.to_untouched(&to)
+    }
+}
+
+/// As a program finds it in a file.
+fn handed_over(book: &Book) -> Book {
+    Table::of(book).book().unwrap_or_else(|| book.clone())
+}
+
+/// None where there is to be no such file.
+fn no_book_bytes(place: u64, mut bytes: Vec<u8>, rng: &mut Rng) -> Option<Vec<u8>> {
+    let drawn = rng.below(256) as usize;
+    match place % 9 {
+        0 => return None,
+        1 => bytes.clear(),
+        2 => bytes.truncate(bookfile::LENGTH - 1),
+        3 => bytes.push(0),
+        4 => bytes[rng.below(3) as usize] ^= 1,
+        5 => bytes[3] = rng.pick(&[0, 2, 255]),
+        6 => bytes[bookfile::PLACES + drawn * bookfile::PLACE + 1] = 2,
+        7 => bytes[bookfile::PLACES + drawn * bookfile::PLACE + 84] = 255,
+        _ => bytes.truncate(rng.below(bookfile::LENGTH as u64) as usize),
+    }
+    Some(bytes)
+}
+
+fn book_difference(kept: &[u8], want: &Table) -> String {
+    let Some(got) = bookfile::table(kept) else {
+        return "day kept what is no book".to_string();
+    };
+    let place = (0..want.places.len()).find(|&place| got.places[place] != want.places[place]);
+    match place {
+        Some(place) => format!(
+            "day kept another book at place {place}: second {:?}, other {:?}",
+            want.places[place], got.places[place]
+        ),
+        None => format!(
+            "day kept another book: second has {} accounts and serial {}, other {} and {}",
+            want.count, want.serial, got.count, got.serial
+        ),
+    }
+}

@@ -1,0 +1,98 @@
+//! A program that answers calls, against this one, on many made-up inputs.
+
+use super::Programs;
+use crate::calls::{answered_seen, Call, Calls, Met};
+use crate::child::{ask, Pace};
+use crate::difference::first_difference;
+use crate::make::asked;
+use crate::options::Options;
+use crate::story;
+use std::fs;
+use std::process::Output;
+
+/// Where a whole round was asked for, all of it must have been met.
+pub fn all_inputs(options: &Options, programs: &Programs, program: &str) -> Result<Met, String> {
+    let seed = options.number("--seed", 1)?;
+    let inputs = options.number("--call-inputs", 40)?;
+    let mut met = Met::default();
+    for place in 0..inputs {
+        let trickled = options.has("--trickle") && place % 4 == 1;
+        let seed = seed.wrapping_add(place);
+        let pace = if trickled {
+            Pace::Trickle(seed)
+        } else {
+            Pace::Whole
+        };
+        one_input(programs, program, seed, pace, &mut met)?;
+    }
+    let missed = met.missed();
+    if inputs >= asked::whole_round() as u64 && !missed.is_empty() {
+        return Err(format!("not met by calls: {}", missed.join(", ")));
+    }
+    Ok(met)
+}
+
+fn one_input(
+    programs: &Programs,
+    program: &str,
+    seed: u64,
+    pace: Pace,
+    met: &mut Met,
+) -> Result<(), String> {
+    let asked = asked::make(seed);
+    let want = answered_seen(&asked.bytes, |call, answered| met.count(call, answered));
+    let ending = want.split_inclusive(|&byte| byte == b'\n').next_back();
+    let is_bad = ending.is_some_and(|line| line.starts_with(b"bad "));
+    if is_bad == (asked.ending == 0) {
+        return Err(format!("calls, seed {seed}: made with another ending"));
+    }
+    met.count_ending(asked.ending);
+    let got = ask(program, &[], &asked.bytes, pace);
+    let got = got.map_err(|error| format!("calls: cannot run: {error}"))?;
+    if got.stdout == want && got.status.code().is_some() {
+        return Ok(());
+    }
+    let (line, second, other) = first_difference(&want, &got.stdout);
+    let call = Calls::of(&asked.bytes).nth(line);
+    let asked_for = match &call {
+        Some(call) => story::short(call),
+        None => "(none, or none that is whole)".to_string(),
+    };
+    let kept = keep(
+        programs,
+        &format!("{seed}-{}", line + 1),
+        &asked.bytes,
+        call,
+    );
+    Err(format!(
+        "difference: program calls, seed {seed}, call {}\n  second: {second}\n  other:  {other}\n  call: {asked_for}\n  {}\n  {kept}",
+        line + 1,
+        ended(&got)
+    ))
+}
+
+fn ended(got: &Output) -> String {
+    let said = String::from_utf8_lossy(&got.stderr);
+    format!(
+        "other ended with {}; it said: {}",
+        got.status,
+        said.trim_end()
+    )
+}
+
+/// The call alone and its story, or the whole input where it is no call.
+fn keep(programs: &Programs, name: &str, whole: &[u8], call: Option<Call>) -> String {
+    let path = programs.folder.join(name);
+    let mut bytes = Vec::new();
+    match call {
+        Some(call) => call.lay(&mut bytes),
+        None => bytes.extend_from_slice(whole),
+    }
+    let story = story::read(&bytes);
+    let kept = fs::write(path.with_extension("calls"), bytes)
+        .and_then(|()| fs::write(path.with_extension("story"), story));
+    match kept {
+        Ok(()) => format!("kept: {}.calls, and as a story: .story", path.display()),
+        Err(error) => format!("it could not be kept: {error}"),
+    }
+}

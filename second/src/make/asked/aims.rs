@@ -1,0 +1,147 @@
+//! What made-up calls aim at.
+
+use super::{books, breaches, lists, pieces, records};
+use crate::calls::Call;
+use crate::rng::Rng;
+use crate::table::{Fault, Table};
+
+#[derive(Clone, Copy)]
+pub enum Aim {
+    /// A book with this fault alone, asked whether it is sound.
+    Fault(Fault),
+    /// The same by any other call that takes a book.
+    FaultElsewhere(Fault),
+    Several,
+    /// Anything in every word.
+    Garbage,
+    /// A sound book with one word put anew; it may be sound still.
+    OneWord,
+    Sound,
+    Standing(lists::Who),
+    /// A record with this refusal, or carried out, as values.
+    Values(u8),
+    /// The same with this code, carried out.
+    Done(u8),
+    /// Six for an amount that isn't named.
+    Unnamed,
+    AnyValues,
+    /// A record with this refusal, out of a piece.
+    Next(u8),
+    NextAt(pieces::Spot),
+    Day(pieces::Day, pieces::Number),
+    /// What the reader is to give: a refusal, or 0.
+    Read(u8),
+    ReadAt(pieces::Spot),
+    Write(records::Fit, records::Room),
+    CloseOut(lists::Losses, lists::Length),
+    Needs(lists::Length),
+}
+
+/// The refusals of a record that is handed over as values, and 0.
+pub const REFUSALS: [u8; 14] = [0, 3, 4, 5, 6, 7, 8, 9, 10, 11, 12, 13, 14, 17];
+
+impl Aim {
+    pub fn round() -> Vec<Aim> {
+        let mut aims = Vec::new();
+        aims.extend(Fault::all().into_iter().map(Aim::Fault));
+        aims.extend(Fault::all().into_iter().map(Aim::FaultElsewhere));
+        aims.extend([Aim::Several; 8]);
+        aims.extend([Aim::Garbage; 8]);
+        aims.extend([Aim::OneWord; 48]);
+        aims.extend([Aim::Sound; 12]);
+        aims.extend(lists::WHO.map(Aim::Standing));
+        for _ in 0..2 {
+            aims.extend(REFUSALS.map(Aim::Values));
+            aims.extend(REFUSALS.map(Aim::Next));
+            aims.extend((1..=11).map(Aim::Done));
+        }
+        aims.extend([Aim::Unnamed; 3]);
+        aims.extend([Aim::AnyValues; 12]);
+        aims.extend(pieces::SPOTS.map(Aim::NextAt));
+        aims.extend(pieces::SPOTS.map(Aim::ReadAt));
+        aims.extend([0, 0, 0, 0, 2, 4, 5, 6].map(Aim::Read));
+        for day in pieces::DAYS {
+            aims.extend(pieces::NUMBERS.map(|number| Aim::Day(day, number)));
+        }
+        for room in records::ROOMS {
+            aims.extend(records::FITS.map(|fit| Aim::Write(fit, room)));
+        }
+        for length in lists::LENGTHS {
+            aims.extend(lists::LOSSES.map(|losses| Aim::CloseOut(losses, length)));
+            aims.extend([Aim::Needs(length); 2]);
+        }
+        aims
+    }
+
+    pub fn call(self, rng: &mut Rng) -> Call {
+        match self {
+            Aim::Fault(fault) => Call::IsSound(breaches::with(fault, rng)),
+            Aim::FaultElsewhere(fault) => asked_elsewhere(breaches::with(fault, rng), rng),
+            Aim::Several => asked_anyhow(breaches::with_several(rng), rng),
+            Aim::Garbage => asked_anyhow(books::garbage(rng), rng),
+            Aim::OneWord => asked_anyhow(books::one_word_anew(rng), rng),
+            Aim::Sound => Call::IsSound(books::sound(rng)),
+            Aim::Standing(who) => lists::standing(who, rng),
+            Aim::Values(refusal) => records::refused_with(refusal, rng),
+            Aim::Done(code) => records::done_with(code, rng),
+            Aim::Unnamed => records::unnamed(rng),
+            Aim::AnyValues => any_record(books::sound(rng), rng),
+            Aim::Next(refusal) => pieces::next_with(refusal, rng),
+            Aim::NextAt(spot) => pieces::next_at(spot, rng),
+            Aim::Day(day, number) => pieces::day(day, number, rng),
+            Aim::Read(refusal) => pieces::read(refusal, rng),
+            Aim::ReadAt(spot) => pieces::read_at(spot, rng),
+            Aim::Write(fit, room) => records::write(fit, room, rng),
+            Aim::CloseOut(losses, length) => lists::close_out(losses, length, rng),
+            Aim::Needs(length) => lists::needs(length, rng),
+        }
+    }
+}
+
+fn asked_anyhow(book: Table, rng: &mut Rng) -> Call {
+    if rng.one_in(2) {
+        Call::IsSound(book)
+    } else {
+        asked_elsewhere(book, rng)
+    }
+}
+
+/// Mostly with the serial that the book waits for.
+fn any_record(book: Table, rng: &mut Rng) -> Call {
+    let mut record = records::any_values(rng);
+    if !rng.one_in(6) {
+        record.serial = book.serial;
+    }
+    Call::CarryOut(book, record)
+}
+
+/// By one of the other calls that take a book, with arguments that would do
+/// for a sound one, or wouldn't.
+fn asked_elsewhere(book: Table, rng: &mut Rng) -> Call {
+    match rng.below(6) {
+        0 => {
+            let account = rng.near(u64::from(book.count)) as u16;
+            Call::Standing(book, account)
+        }
+        1 => any_record(book, rng),
+        2 => {
+            let piece = pieces::some_piece(rng);
+            let place = rng.pick(&[0, 0, 6, piece.len() as u64, u64::MAX]);
+            Call::CarryOutNext(book, piece, place)
+        }
+        3 => Call::Day(
+            book,
+            pieces::some_piece(rng),
+            rng.pick(&[0, 1, 9, u64::MAX]),
+        ),
+        4 => {
+            let losses = vec![0; book.held()];
+            let room = 4 * book.held();
+            Call::CloseOut(book, losses, room)
+        }
+        _ => {
+            let room = book.held();
+            Call::Needs(book, room)
+        }
+    }
+}

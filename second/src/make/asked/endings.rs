@@ -1,0 +1,132 @@
+//! How an input ends: with its last call, or with something that is no call
+//! and calls behind it that mustn't be answered.
+
+use super::{any_call, books};
+use crate::bookfile::{self, LENGTH, PLACE, PLACES};
+use crate::calls::{Call, LIST_MOST, PIECE_MOST};
+use crate::dayfile::Values;
+use crate::rng::Rng;
+
+type Ending = (&'static str, fn(&mut Vec<u8>, &mut Rng));
+
+/// The number of them is prime to the number of inputs fed in small pieces.
+pub const ENDINGS: [Ending; 19] = [
+    ("the end", |_, _| {}),
+    ("an unknown call", unknown),
+    ("call 1 cut", |out, rng| cut(1, out, rng)),
+    ("call 2 cut", |out, rng| cut(2, out, rng)),
+    ("call 3 cut", |out, rng| cut(3, out, rng)),
+    ("call 4 cut", |out, rng| cut(4, out, rng)),
+    ("call 5 cut", |out, rng| cut(5, out, rng)),
+    ("call 6 cut", |out, rng| cut(6, out, rng)),
+    ("call 7 cut", |out, rng| cut(7, out, rng)),
+    ("call 8 cut", |out, rng| cut(8, out, rng)),
+    ("call 9 cut", |out, rng| cut(9, out, rng)),
+    ("a piece too long", long_piece),
+    ("a room too long", long_room),
+    ("a list too long", long_list),
+    ("a wrong mark", |out, rng| {
+        let at = rng.below(3) as usize;
+        no_book(at, &[0, 0x4D, 0xFF], out, rng)
+    }),
+    ("a wrong version", |out, rng| {
+        no_book(3, &[0, 2, 255], out, rng)
+    }),
+    ("live is neither", |out, rng| {
+        let at = at_place(1, rng);
+        no_book(at, &[2, 3, 128, 255], out, rng)
+    }),
+    ("a mode is neither", |out, rng| {
+        let at = at_place(84, rng);
+        no_book(at, &[2, 3, 128, 255], out, rng)
+    }),
+    ("a length of four billion", longest),
+];
+
+pub fn put(ending: usize, out: &mut Vec<u8>, rng: &mut Rng) {
+    ENDINGS[ending].1(out, rng);
+}
+
+fn good_calls(out: &mut Vec<u8>, rng: &mut Rng) {
+    for _ in 0..rng.between(1, 3) {
+        any_call(rng).lay(out);
+    }
+}
+
+/// 0, and what no request has brought yet.
+fn unknown(out: &mut Vec<u8>, rng: &mut Rng) {
+    let unknown: Vec<u8> = (0..=255).filter(|&byte| !Call::is_known(byte)).collect();
+    let drawn = rng.pick(&unknown);
+    out.push(rng.pick(&[unknown[0], unknown[1], drawn, 255]));
+    good_calls(out, rng);
+}
+
+fn cut(number: u8, out: &mut Vec<u8>, rng: &mut Rng) {
+    let call = loop {
+        let call = any_call(rng);
+        if call.number() == number {
+            break call;
+        }
+    };
+    let mut bytes = Vec::new();
+    call.lay(&mut bytes);
+    let whole = bytes.len() as u64;
+    let kept = match rng.below(4) {
+        0 => 1,
+        1 => whole - 1,
+        2 => whole - rng.between(1, 60.min(whole - 1)),
+        _ => rng.between(1, whole - 1),
+    };
+    out.extend_from_slice(&bytes[..kept as usize]);
+}
+
+/// With all its bytes behind it.
+fn long_piece(out: &mut Vec<u8>, rng: &mut Rng) {
+    let piece = vec![1; PIECE_MOST + 1];
+    let call = match rng.below(3) {
+        0 => Call::ReadAt(piece, 0),
+        1 => Call::Day(books::sound(rng), piece, 5),
+        _ => Call::CarryOutNext(books::sound(rng), piece, 0),
+    };
+    call.lay(out);
+    good_calls(out, rng);
+}
+
+fn long_room(out: &mut Vec<u8>, rng: &mut Rng) {
+    let room = LIST_MOST + 1;
+    let call = match rng.below(3) {
+        0 => Call::Write(Values::default(), room),
+        1 => Call::Needs(books::sound(rng), room),
+        _ => Call::CloseOut(books::sound(rng), Vec::new(), room),
+    };
+    call.lay(out);
+    good_calls(out, rng);
+}
+
+fn long_list(out: &mut Vec<u8>, rng: &mut Rng) {
+    Call::CloseOut(books::sound(rng), vec![0; LIST_MOST + 1], 4).lay(out);
+    good_calls(out, rng);
+}
+
+fn longest(out: &mut Vec<u8>, rng: &mut Rng) {
+    out.push(6);
+    out.extend_from_slice(&[rng.pick(&[0x80, 0xFF]), 0, 0, 4]);
+    good_calls(out, rng);
+}
+
+/// A byte of a place's own, of any place.
+fn at_place(byte: usize, rng: &mut Rng) -> usize {
+    let drawn = rng.below(256) as usize;
+    PLACES + PLACE * rng.pick(&[0, 1, 255, drawn]) + byte
+}
+
+fn no_book(at: usize, values: &[u8], out: &mut Vec<u8>, rng: &mut Rng) {
+    let mut call = any_call(rng);
+    while call.book().is_none() {
+        call = any_call(rng);
+    }
+    let mut book = call.book().map(bookfile::bytes).unwrap_or(vec![0; LENGTH]);
+    book[at] = rng.pick(values);
+    call.lay_over(out, &book);
+    good_calls(out, rng);
+}

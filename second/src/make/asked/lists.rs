@@ -1,0 +1,169 @@
+//! Account numbers, lists of losses and rooms.
+
+use super::books::{self, append, cover, find, row};
+use crate::book::{CEILING, MOST_ACCOUNTS};
+use crate::calls::Call;
+use crate::make::losses;
+use crate::rng::Rng;
+use crate::table::*;
+
+/// Whose standing is asked for.
+#[derive(Clone, Copy)]
+pub enum Who {
+    Cm,
+    Live(u64),
+    Retired,
+    NeverGiven,
+    PastTable,
+}
+
+pub const WHO: [Who; 14] = [
+    Who::Cm,
+    Who::Cm,
+    Who::Live(TRADING),
+    Who::Live(TRADING),
+    Who::Live(TRADING),
+    Who::Live(CLIENT),
+    Who::Live(CLIENT),
+    Who::Live(CP),
+    Who::Live(CP),
+    Who::Retired,
+    Who::Retired,
+    Who::NeverGiven,
+    Who::NeverGiven,
+    Who::PastTable,
+];
+
+pub fn standing(who: Who, rng: &mut Rng) -> Call {
+    let mut book = books::sound(rng);
+    let held = book.held();
+    let account = match who {
+        Who::Cm => 0,
+        Who::Live(sort) => find(&book, sort, Some(1), rng).unwrap_or(0),
+        Who::Retired => retired(&mut book, rng),
+        Who::NeverGiven => rng.between(held as u64, MOST_ACCOUNTS as u64) as usize,
+        Who::PastTable => {
+            let given = rng.below(held as u64) as usize;
+            rng.pick(&[256, 256 + given, 65_280 + given, 65_535])
+        }
+    };
+    Call::Standing(book, account as u16)
+}
+
+/// One that is there, or a new one. A full table may have none.
+fn retired(book: &mut Table, rng: &mut Rng) -> usize {
+    let sort = rng.pick(&[TRADING, CLIENT, CP]);
+    let room = book.held() < MOST_ACCOUNTS;
+    let found = find(book, sort, Some(0), rng);
+    found
+        .or_else(|| room.then(|| append(book, row(CP, 0, 0))))
+        .unwrap_or(0)
+}
+
+/// What is wrong with a list of losses, if anything.
+#[derive(Clone, Copy)]
+pub enum Losses {
+    Good,
+    /// Exactly, of one account or of all.
+    AtCeiling,
+    PastCeiling,
+    OfRetired,
+    OneFewer,
+    OneMore,
+    None,
+    Most,
+    /// Both past the ceiling and one too many: 15 comes first.
+    PastAndMore,
+}
+
+pub const LOSSES: [Losses; 12] = [
+    Losses::Good,
+    Losses::Good,
+    Losses::Good,
+    Losses::Good,
+    Losses::AtCeiling,
+    Losses::PastCeiling,
+    Losses::OfRetired,
+    Losses::OneFewer,
+    Losses::OneMore,
+    Losses::None,
+    Losses::Most,
+    Losses::PastAndMore,
+];
+
+/// A room beside the length wanted.
+#[derive(Clone, Copy)]
+pub enum Length {
+    Right,
+    OneLess,
+    OneMore,
+    Nothing,
+    Most,
+}
+
+pub const LENGTHS: [Length; 7] = [
+    Length::Right,
+    Length::Right,
+    Length::Right,
+    Length::OneLess,
+    Length::OneMore,
+    Length::Nothing,
+    Length::Most,
+];
+
+fn room(length: Length, wanted: usize) -> usize {
+    match length {
+        Length::Right => wanted,
+        Length::OneLess => wanted - 1,
+        Length::OneMore => wanted + 1,
+        Length::Nothing => 0,
+        Length::Most => 4_096,
+    }
+}
+
+pub fn needs(length: Length, rng: &mut Rng) -> Call {
+    let book = books::sound(rng);
+    let room = room(length, book.held());
+    Call::Needs(book, room)
+}
+
+pub fn close_out(losses: Losses, length: Length, rng: &mut Rng) -> Call {
+    let mut book = books::sound(rng);
+    let of_retired = match losses {
+        Losses::OfRetired => retired(&mut book, rng),
+        _ => 0,
+    };
+    cover(&mut book, rng);
+    let mut list = match book.book() {
+        Some(sound) => losses::good(&sound, rng.next()),
+        None => vec![0; book.held()],
+    };
+    let one = rng.below(list.len() as u64) as usize;
+    let past = rng.pick(&[CEILING + 1, CEILING + 1, 1 << 63, u64::MAX]);
+    match losses {
+        Losses::Good => {}
+        Losses::AtCeiling => at_ceiling(&book, &mut list, rng),
+        Losses::PastCeiling => list[one] = past,
+        Losses::OfRetired => list[of_retired] = rng.pick(&[1, 1_000, CEILING]),
+        Losses::OneFewer => list.truncate(list.len() - 1),
+        Losses::OneMore => list.push(rng.below(2)),
+        Losses::None => list.clear(),
+        Losses::Most => list.resize(4_096, 0),
+        Losses::PastAndMore => {
+            list[one] = past;
+            list.push(0);
+        }
+    }
+    // 4,097 numbers would be no room any more.
+    let room = room(length, 4 * book.held()).min(4_096);
+    Call::CloseOut(book, list, room)
+}
+
+fn at_ceiling(book: &Table, list: &mut [u64], rng: &mut Rng) {
+    let all = rng.one_in(2);
+    for (loss, place) in list.iter_mut().zip(&book.places) {
+        if place[LIVE] == 1 && (all || rng.one_in(4)) {
+            *loss = CEILING;
+        }
+    }
+}

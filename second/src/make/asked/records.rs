@@ -1,0 +1,208 @@
+//! Records as values: with every refusal, and for the writer.
+
+use super::books;
+use crate::book::{Book, CEILING};
+use crate::calls::Call;
+use crate::carry::{carry, Answer};
+use crate::dayfile::*;
+use crate::make::maker::Maker;
+use crate::make::mixed::any_step;
+use crate::rng::Rng;
+use crate::table::Table;
+
+/// How many steps are tried on one book, and how many books.
+const STEPS: usize = 120;
+const BOOKS: usize = 60;
+
+/// A book and the bytes of a record that it answers in the way wanted.
+pub fn seek(rng: &mut Rng, wanted: impl Fn(&Answer) -> bool) -> Option<(Table, Vec<u8>)> {
+    (0..BOOKS).find_map(|_| {
+        let table = books::sound(rng);
+        seek_on(table.book()?, rng, &wanted)
+    })
+}
+
+/// The maker aims at the edges of the rules; its records are followed one by
+/// one until one is answered as wanted.
+fn seek_on(
+    book: Book,
+    rng: &mut Rng,
+    wanted: &impl Fn(&Answer) -> bool,
+) -> Option<(Table, Vec<u8>)> {
+    let mut model = book.clone();
+    let mut maker = Maker::over(book, rng.next());
+    let mut place = 0;
+    for _ in 0..STEPS {
+        any_step(&mut maker);
+        let mut reader = Reader::new(&maker.bytes[place..]);
+        loop {
+            let start = reader.place();
+            let Next::Record(record) = reader.next() else {
+                break;
+            };
+            let before = Table::of(&model);
+            if wanted(&carry(&mut model, &record)) {
+                let bytes = &maker.bytes[place + start..place + reader.place()];
+                return Some((before, bytes.to_vec()));
+            }
+        }
+        place += reader.place();
+    }
+    None
+}
+
+fn values_of(bytes: &[u8]) -> Values {
+    match Reader::new(bytes).next() {
+        Next::Record(record) => record.values(),
+        _ => Values::default(),
+    }
+}
+
+fn sought(found: Option<(Table, Vec<u8>)>) -> Call {
+    let (book, bytes) = found.unwrap_or_else(|| (Table::fresh(), Vec::new()));
+    Call::CarryOut(book, values_of(&bytes))
+}
+
+pub fn refused_with(refusal: u8, rng: &mut Rng) -> Call {
+    sought(seek(rng, |answer| answer.refusal() == refusal))
+}
+
+pub fn done_with(code: u8, rng: &mut Rng) -> Call {
+    sought(seek(rng, |answer| {
+        answer.refusal() == 0 && answer.code == code
+    }))
+}
+
+/// A good record but for an amount that it doesn't name.
+pub fn unnamed(rng: &mut Rng) -> Call {
+    let call = sought(seek(rng, |answer| answer.refusal() == 0));
+    let Call::CarryOut(book, mut record) = call else {
+        return call;
+    };
+    put_unnamed(&mut record, rng);
+    Call::CarryOut(book, record)
+}
+
+fn put_unnamed(record: &mut Values, rng: &mut Rng) {
+    let free: Vec<usize> = (0..6).filter(|bit| record.mark & (1 << bit) == 0).collect();
+    let bit = rng.pick(&free);
+    record.amounts[bit] = rng.pick(&[1, CEILING, CEILING + 1, u64::MAX]);
+}
+
+/// Any words, most of them near good ones.
+pub fn any_values(rng: &mut Rng) -> Values {
+    let mut record = good_values(rng);
+    match rng.below(6) {
+        0 => record.code = rng.byte(),
+        1 => record.mark = rng.byte(),
+        2 => record.mark ^= 1 << rng.below(8),
+        3 => record.amounts[rng.below(6) as usize] = rng.next(),
+        4 => record.serial = rng.next() as u16,
+        _ => record.account = rng.next() as u16,
+    }
+    record
+}
+
+/// In range for any code, of some account.
+fn good_values(rng: &mut Rng) -> Values {
+    let code = rng.between(1, 11) as u8;
+    let mark = match code {
+        RECEIVE..=RELEASE => rng.between(1, 15) as u8,
+        PLEDGE | UNPLEDGE => 1 << PLEDGED,
+        SET_MARGIN => 1 << MARGIN,
+        _ => 0,
+    };
+    let mut amounts = [0; 6];
+    for (bit, amount) in amounts.iter_mut().enumerate() {
+        if mark & (1 << bit) != 0 {
+            let drawn = rng.between(1, CEILING);
+            *amount = rng.pick(&[1, drawn, CEILING]);
+        }
+    }
+    if code == SET_MARGIN && rng.one_in(3) {
+        amounts[MARGIN] = 0;
+    }
+    Values {
+        serial: rng.next() as u16,
+        code,
+        mark,
+        account: rng.pick(&[0, 1, 255, 256, 65_535]),
+        amounts,
+    }
+}
+
+/// What the writer is handed.
+#[derive(Clone, Copy)]
+pub enum Fit {
+    Good,
+    UnknownCode,
+    UnsuitedMark,
+    TooLarge,
+    Nothing,
+    Unnamed,
+}
+
+pub const FITS: [Fit; 9] = [
+    Fit::Good,
+    Fit::Good,
+    Fit::Good,
+    Fit::Good,
+    Fit::UnknownCode,
+    Fit::UnsuitedMark,
+    Fit::TooLarge,
+    Fit::Nothing,
+    Fit::Unnamed,
+];
+
+/// The writer's room beside the record's length.
+#[derive(Clone, Copy)]
+pub enum Room {
+    Exact,
+    OneLess,
+    OneMore,
+    None,
+    Most,
+}
+
+pub const ROOMS: [Room; 5] = [
+    Room::Exact,
+    Room::OneLess,
+    Room::OneMore,
+    Room::None,
+    Room::Most,
+];
+
+pub fn write(fit: Fit, room: Room, rng: &mut Rng) -> Call {
+    let record = fitted(fit, rng);
+    let length = length(record.mark);
+    let room = match room {
+        Room::Exact => length,
+        Room::OneLess => length - 1,
+        Room::OneMore => length + 1,
+        Room::None => 0,
+        Room::Most => 4_096,
+    };
+    Call::Write(record, room)
+}
+
+fn fitted(fit: Fit, rng: &mut Rng) -> Values {
+    let mut record = good_values(rng);
+    let named = |record: &Values| (0..6).find(|bit| record.mark & (1 << bit) != 0);
+    match fit {
+        Fit::Good => {}
+        Fit::UnknownCode => record.code = rng.pick(&[0, 12, 13, 14, 128, 255]),
+        Fit::UnsuitedMark => record.mark ^= rng.pick(&[0x30, 0x40, 0x80, 0xC0]),
+        Fit::Unnamed => put_unnamed(&mut record, rng),
+        Fit::TooLarge | Fit::Nothing => {
+            while named(&record).is_none() || record.code == SET_MARGIN {
+                record = good_values(rng);
+            }
+            let bit = named(&record).unwrap_or(0);
+            record.amounts[bit] = match fit {
+                Fit::Nothing => 0,
+                _ => rng.pick(&[CEILING + 1, 1 << 63, u64::MAX]),
+            };
+        }
+    }
+    record
+}
