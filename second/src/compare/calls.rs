@@ -52,23 +52,27 @@ fn one_input(
     if got.stdout == want && got.status.code().is_some() {
         return Ok(());
     }
-    let (line, second, other) = first_difference(&want, &got.stdout);
-    let call = Calls::of(&asked.bytes).nth(line);
-    let asked_for = match &call {
+    Err(difference(programs, seed, &asked.bytes, &want, &got))
+}
+
+/// The first call whose line differs; it is kept.
+fn difference(programs: &Programs, seed: u64, bytes: &[u8], want: &[u8], got: &Output) -> String {
+    let (line, second, other) = first_difference(want, &got.stdout);
+    let call = Calls::of(bytes).nth(line);
+    let asked = match &call {
         Some(call) => story::short(call),
         None => "(none, or none that is whole)".to_string(),
     };
-    let kept = keep(
-        programs,
-        &format!("{seed}-{}", line + 1),
-        &asked.bytes,
-        call,
-    );
-    Err(format!(
-        "difference: program calls, seed {seed}, call {}\n  second: {second}\n  other:  {other}\n  call: {asked_for}\n  {}\n  {kept}",
-        line + 1,
-        ended(&got)
-    ))
+    let number = line + 1;
+    let report = [
+        format!("difference: program calls, seed {seed}, call {number}"),
+        format!("second: {second}"),
+        format!("other:  {other}"),
+        format!("call: {asked}"),
+        ended(got),
+        keep(programs, &format!("{seed}-{number}"), bytes, call),
+    ];
+    report.join("\n  ")
 }
 
 fn ended(got: &Output) -> String {

@@ -3,6 +3,7 @@
 use super::*;
 use crate::calls::{answer, answered, answered_seen, Call, Calls, Met};
 use crate::dayfile::{next_at, Next};
+use crate::difference::first_difference;
 use crate::holds::Holds;
 use crate::looks::Looks;
 use crate::make::asked::{any_sound, make, unsound, whole_round, with_steps, ENDINGS};
@@ -164,6 +165,22 @@ fn any_bytes_at_all() {
         let out = answered(&bytes);
         assert!(out.ends_with(b"\n"));
     }
+}
+
+/// The first line that differs, from shortly before the place where it does.
+#[test]
+fn the_first_difference() {
+    let text = |want: &str, got: &str| first_difference(want.as_bytes(), got.as_bytes());
+    let shown = |line, second: &str, other: &str| (line, second.to_string(), other.to_string());
+    assert_eq!(text("1\n0\n", "1\n1\n"), shown(1, "0\\n", "1\\n"));
+    assert_eq!(text("1\n", "1"), shown(0, "1\\n", "1"));
+    assert_eq!(text("1\n", "1\n2\n"), shown(1, "(nothing)", "2\\n"));
+    let zeros = "0 ".repeat(1_000);
+    let (line, second, other) = text(&format!("{zeros}1\n"), &format!("{zeros}2\n"));
+    let before = "0 ".repeat(40);
+    assert_eq!(line, 0);
+    assert_eq!(second, format!("..{before}1\\n"));
+    assert_eq!(other, format!("..{before}2\\n"));
 }
 
 #[test]

@@ -9,7 +9,8 @@ use crate::rng::Rng;
 
 type Ending = (&'static str, fn(&mut Vec<u8>, &mut Rng));
 
-/// The number of them is prime to the number of inputs fed in small pieces.
+/// An odd number, so that inputs fed in small pieces (one in four) have every
+/// ending.
 pub const ENDINGS: [Ending; 19] = [
     ("the end", |_, _| {}),
     ("an unknown call", unknown),

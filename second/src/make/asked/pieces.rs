@@ -21,12 +21,14 @@ pub enum Spot {
     PastEnd,
     Largest,
     NearLargest,
+    /// Far past the end, with a record's start in its lower half.
+    Wide,
     Empty,
     /// In a piece whose last record is cut.
     Cut,
 }
 
-pub const SPOTS: [Spot; 10] = [
+pub const SPOTS: [Spot; 11] = [
     Spot::Start,
     Spot::Record,
     Spot::Inside,
@@ -35,9 +37,13 @@ pub const SPOTS: [Spot; 10] = [
     Spot::PastEnd,
     Spot::Largest,
     Spot::NearLargest,
+    Spot::Wide,
     Spot::Empty,
     Spot::Cut,
 ];
+
+/// A word of 16, 31, 32 or 63 bits shows nothing of these.
+const WIDE: [u64; 5] = [1 << 16, 1 << 31, 1 << 32, 1 << 48, 1 << 63];
 
 /// What a day's piece is like.
 #[derive(Clone, Copy)]
@@ -70,9 +76,11 @@ pub enum Number {
     Exact,
     OneMore,
     Largest,
+    /// Far more, with a small number in its lower half.
+    Wide,
 }
 
-pub const NUMBERS: [Number; 7] = [
+pub const NUMBERS: [Number; 8] = [
     Number::Zero,
     Number::One,
     Number::Few,
@@ -80,6 +88,7 @@ pub const NUMBERS: [Number; 7] = [
     Number::Exact,
     Number::OneMore,
     Number::Largest,
+    Number::Wide,
 ];
 
 /// Any bytes, most of them a day.
@@ -144,6 +153,7 @@ fn spotted(book: &Table, spot: Spot, rng: &mut Rng) -> (Vec<u8>, u64) {
         Spot::PastEnd => length + rng.pick(&[1, 2, 70, 65_536, 1 << 32]),
         Spot::Largest => u64::MAX,
         Spot::NearLargest => u64::MAX - rng.below(80),
+        Spot::Wide => rng.pick(&WIDE) + rng.pick(&starts) as u64,
         Spot::Cut => {
             let lost = rng.between(1, length.max(last + 1) - last);
             piece.truncate((length.saturating_sub(lost)) as usize);
@@ -210,6 +220,7 @@ pub fn day(day: Day, number: Number, rng: &mut Rng) -> Call {
         Number::Exact => records,
         Number::OneMore => records + 1,
         Number::Largest => u64::MAX,
+        Number::Wide => rng.pick(&WIDE) + rng.below(records + 1),
     };
     Call::Day(book, piece, number)
 }
