@@ -35,6 +35,9 @@ impl Met {
     }
 }
 
+/// A program's name, the program, and its words.
+type Run<'n, 'p> = (&'static str, &'n str, Vec<&'p Path>);
+
 struct Night<'a> {
     programs: &'a Programs<'a>,
     made: Made,
@@ -188,31 +191,30 @@ impl Night<'_> {
         let to = self.put("to", b"as it was")?;
         let losses = self.put("losses", &vec![0; 8 * table.held()])?;
         let closed = [print::UNSOUND, print::UNSOUND_CLOSE_OUT].concat();
-        let runs: [(&str, Option<&str>, Vec<&Path>, &[u8]); 4] = [
-            ("day", self.programs.day, vec![&book, &to], print::UNSOUND),
-            (
-                "standings",
-                self.programs.standings,
-                vec![&book],
-                print::UNSOUND,
-            ),
-            ("needs", self.programs.needs, vec![&book], print::UNSOUND),
-            (
-                "closeouts",
-                self.programs.closeouts,
-                vec![&losses, &book],
-                &closed,
-            ),
-        ];
-        for (name, program, words, want) in runs {
-            if let Some(program) = program {
-                let got = ask_held(program, &words);
-                let what = format!("{name} from a book that isn't sound");
-                settle(&self.programs.folder, &self.made, &what, want, got)?;
-            }
+        for (name, program, words) in self.runs(&book, &to, &losses) {
+            let want = match name {
+                "closeouts" => &closed,
+                _ => print::UNSOUND,
+            };
+            let got = ask_held(program, &words);
+            let what = format!("{name} from a book that isn't sound");
+            settle(&self.programs.folder, &self.made, &what, want, got)?;
         }
         self.met.unsound += 1;
         self.to_untouched(&to)
+    }
+
+    /// The programs there are, each with its words.
+    fn runs<'p>(&self, book: &'p Path, to: &'p Path, losses: &'p Path) -> Vec<Run<'_, 'p>> {
+        let all = [
+            ("day", self.programs.day, vec![book, to]),
+            ("standings", self.programs.standings, vec![book]),
+            ("needs", self.programs.needs, vec![book]),
+            ("closeouts", self.programs.closeouts, vec![losses, book]),
+        ];
+        all.into_iter()
+            .filter_map(|(name, program, words)| Some((name, program?, words)))
+            .collect()
     }
 
     fn to_untouched(&self, to: &Path) -> Result<(), String> {
@@ -234,21 +236,13 @@ impl Night<'_> {
         };
         let to = self.put("to", b"as it was")?;
         let losses = self.put("losses", &[0; 8])?;
-        let runs: [(&str, Option<&str>, Vec<&Path>); 4] = [
-            ("day", self.programs.day, vec![&book, &to]),
-            ("standings", self.programs.standings, vec![&book]),
-            ("needs", self.programs.needs, vec![&book]),
-            ("closeouts", self.programs.closeouts, vec![&losses, &book]),
-        ];
-        for (name, program, words) in runs {
-            if let Some(program) = program {
-                let got = ask(program, &words, &self.made.bytes, Pace::Whole);
-                let silent = got.as_ref().is_ok_and(|got| got.stderr.is_empty());
-                let what = format!("{name} from what is no book");
-                settle(&self.programs.folder, &self.made, &what, b"", got)?;
-                if silent {
-                    return Err(self.told(&format!("{what} says nothing on standard error")));
-                }
+        for (name, program, words) in self.runs(&book, &to, &losses) {
+            let got = ask(program, &words, &self.made.bytes, Pace::Whole);
+            let silent = got.as_ref().is_ok_and(|got| got.stderr.is_empty());
+            let what = format!("{name} from what is no book");
+            settle(&self.programs.folder, &self.made, &what, b"", got)?;
+            if silent {
+                return Err(self.told(&format!("{what} says nothing on standard error")));
             }
         }
         self.met.none += 1;

@@ -41,7 +41,7 @@ fn only(table: &Table, fault: Fault) -> bool {
 /// None where the book has no room for it.
 fn breach(table: &mut Table, fault: Fault, rng: &mut Rng) -> Option<()> {
     match fault {
-        Fault::NoAccounts | Fault::TooManyAccounts => count(table, fault, rng)?,
+        Fault::NoAccounts | Fault::TooManyAccounts => count(table, fault, rng),
         Fault::TopIsNoCm | Fault::TopIsRetired | Fault::TopHasTm => top(table, fault, rng),
         Fault::Beyond(word) => beyond(table, word, rng)?,
         Fault::UnknownSort | Fault::SecondCm => sort(table, fault, rng)?,
@@ -84,19 +84,18 @@ fn an_account(table: &mut Table, sort: u64, live: Option<u64>, rng: &mut Rng) ->
     Some(append(table, row(sort, live, tm)))
 }
 
-fn count(table: &mut Table, fault: Fault, rng: &mut Rng) -> Option<()> {
+fn count(table: &mut Table, fault: Fault, rng: &mut Rng) {
     if fault == Fault::NoAccounts {
         // Every row but the first is beyond the number then.
         table.places[1..].fill([0; WORDS.len()]);
         cover(table, rng);
         table.count = 0;
-        return Some(());
+        return;
     }
     while table.held() < MOST_ACCOUNTS {
         append(table, row(CP, rng.below(2), 0));
     }
     table.count = rng.pick(&[257, 258, 511, 512, 513, 32_768, 65_535]);
-    Some(())
 }
 
 fn top(table: &mut Table, fault: Fault, rng: &mut Rng) {
