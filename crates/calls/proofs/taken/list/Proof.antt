@@ -1,0 +1,60 @@
+-- `calls::taken::list`: eight bytes for each number so far.
+use Prim.Native.Nat.{_≤_, _-_}
+use lib.ListN.{length}
+use mathlib.Core.Path.{_≡_}
+use borrow.Author.Needs.{needs}
+use Rattle.calls.proofs.taken.list.Statement.{statement}
+use Rattle.calls.proofs.taken.list.Tie as tie
+
+abbrev Inv-loop : tie.InvT-loop
+Inv-loop bytes at n list₀ i₀ list i = (i ≤ n) × (length list ≡ 4096)
+
+abbrev μ-loop : tie.MeasureT-loop
+μ-loop bytes at n list₀ i₀ list i = n - i
+
+loop-holds : tie.Need-loop-holds Inv-loop μ-loop
+loop-holds c = search needs
+
+mul-eight : tie.Need-mul-eight Inv-loop μ-loop
+mul-eight c = search needs
+
+add-eight : tie.Need-add-eight Inv-loop μ-loop
+add-eight c = search needs
+
+eight-requires : tie.Need-eight-requires Inv-loop μ-loop
+eight-requires c κs = search needs
+
+mul-list : tie.Need-mul-list Inv-loop μ-loop
+mul-list c = search needs
+
+array-write-list : tie.Need-array-write-list Inv-loop μ-loop
+array-write-list c = search needs
+
+add-i : tie.Need-add-i Inv-loop μ-loop
+add-i c = search needs
+
+loop-less : tie.Need-loop-less Inv-loop μ-loop
+loop-less c = search needs
+
+loop-again : tie.Need-loop-again Inv-loop μ-loop
+loop-again c = search needs
+
+returns : tie.Need-returns Inv-loop μ-loop
+returns c = search needs
+
+pub list-spec : {M : Type 1} → statement M
+list-spec =
+    tie.close
+    (tie.spec
+    Inv-loop
+    μ-loop
+    loop-holds
+    mul-eight
+    add-eight
+    eight-requires
+    mul-list
+    array-write-list
+    add-i
+    loop-less
+    loop-again
+    returns)
