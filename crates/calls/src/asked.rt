@@ -8,10 +8,10 @@ use crate::rooms::numbers;
 use crate::rooms::put_line;
 use crate::taken::AFTER_BOOK;
 use crate::taken::LIST;
-use crate::taken::four;
-use crate::taken::short;
+use crate::taken::number4;
 use book::Figures;
 use book::Table;
+use numbers::number2;
 use text::put_number;
 use text::put_spaced;
 
@@ -50,7 +50,7 @@ pub(crate) fn standing(bytes: &[u8], table: Table, room: &mut [u8]) -> Told
     if bytes.len() < AFTER_BOOK + 2 {
         return none();
     }
-    let figures = book::standing(table, short(bytes, AFTER_BOOK));
+    let figures = book::standing(table, number2(bytes, AFTER_BOOK));
     Told {
         is_call: true,
         size: AFTER_BOOK + 2,
@@ -77,7 +77,7 @@ pub(crate) fn needs(bytes: &[u8], table: Table, room: &mut [u8]) -> Told
     if bytes.len() < AFTER_BOOK + 4 {
         return none();
     }
-    let n = four(bytes, AFTER_BOOK);
+    let n = number4(bytes, AFTER_BOOK);
     if LIST < n {
         return none();
     }

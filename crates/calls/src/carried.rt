@@ -6,12 +6,12 @@ use crate::call::none;
 use crate::changed::put_book;
 use crate::taken::AFTER_BOOK;
 use crate::taken::PIECE;
-use crate::taken::eight;
-use crate::taken::four;
+use crate::taken::number4;
 use crate::taken::record;
 use desk::Answer;
 use desk::Outcome;
 use desk::Record;
+use numbers::number8;
 use run::Closing;
 use run::Table;
 use text::put_each;
@@ -135,7 +135,7 @@ pub(crate) fn of_piece(bytes: &[u8], table: Table, room: &mut [u8]) -> Told
     if bytes.len() < from {
         return none();
     }
-    let n = four(bytes, AFTER_BOOK);
+    let n = number4(bytes, AFTER_BOOK);
     if PIECE < n {
         return none();
     }
@@ -143,7 +143,7 @@ pub(crate) fn of_piece(bytes: &[u8], table: Table, room: &mut [u8]) -> Told
     if bytes.len() < to + 8 {
         return none();
     }
-    let number = eight(bytes, to);
+    let number = number8(bytes, to);
     Told {
         is_call: true,
         size: to + 8,

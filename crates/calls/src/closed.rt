@@ -7,8 +7,8 @@ use crate::rooms::numbers;
 use crate::rooms::put_line;
 use crate::taken::AFTER_BOOK;
 use crate::taken::LIST;
-use crate::taken::four;
 use crate::taken::list;
+use crate::taken::number4;
 use closeout::Table;
 
 // Closes out a book with losses and a room of n, and puts the line.
@@ -48,7 +48,7 @@ fn lengths(bytes: &[u8]) -> Asked
     if bytes.len() < from {
         return nothing;
     }
-    let losses = four(bytes, AFTER_BOOK);
+    let losses = number4(bytes, AFTER_BOOK);
     if LIST < losses {
         return nothing;
     }
@@ -56,7 +56,7 @@ fn lengths(bytes: &[u8]) -> Asked
     if bytes.len() < to + 4 {
         return nothing;
     }
-    let room = four(bytes, to);
+    let room = number4(bytes, to);
     if LIST < room {
         return nothing;
     }

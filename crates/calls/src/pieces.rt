@@ -6,12 +6,12 @@ use crate::call::none;
 use crate::rooms;
 use crate::taken::LIST;
 use crate::taken::PIECE;
-use crate::taken::eight;
-use crate::taken::four;
+use crate::taken::number4;
 use crate::taken::record;
 use dayfile::Read;
 use dayfile::Record;
 use dayfile::Wrote;
+use numbers::number8;
 use text::put_spaced;
 use text::put_text;
 
@@ -83,7 +83,7 @@ pub(crate) fn read_at(bytes: &[u8], room: &mut [u8]) -> Told
     if bytes.len() < 13 {
         return none();
     }
-    let n = four(bytes, 1);
+    let n = number4(bytes, 1);
     if PIECE < n {
         return none();
     }
@@ -91,7 +91,7 @@ pub(crate) fn read_at(bytes: &[u8], room: &mut [u8]) -> Told
     if bytes.len() < to + 8 {
         return none();
     }
-    let place = eight(bytes, to) as usize;
+    let place = number8(bytes, to) as usize;
     let read = dayfile::read_at(&bytes[5..to], place);
     Told {
         is_call: true,
@@ -134,7 +134,7 @@ pub(crate) fn write(bytes: &[u8], room: &mut [u8]) -> Told
     if bytes.len() < 59 {
         return none();
     }
-    let n = four(bytes, 55);
+    let n = number4(bytes, 55);
     if LIST < n {
         return none();
     }

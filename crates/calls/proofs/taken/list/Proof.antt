@@ -1,4 +1,4 @@
--- `calls::taken::list`: eight bytes for each number so far.
+-- `calls::taken::list`: number8 bytes for each number so far.
 use Prim.Native.Nat.{_≤_, _-_}
 use lib.ListN.{length}
 use mathlib.Core.Path.{_≡_}
@@ -15,14 +15,14 @@ abbrev μ-loop : tie.MeasureT-loop
 loop-holds : tie.Need-loop-holds Inv-loop μ-loop
 loop-holds c = search needs
 
-mul-eight : tie.Need-mul-eight Inv-loop μ-loop
-mul-eight c = search needs
+mul-number8 : tie.Need-mul-number8 Inv-loop μ-loop
+mul-number8 c = search needs
 
-add-eight : tie.Need-add-eight Inv-loop μ-loop
-add-eight c = search needs
+add-number8 : tie.Need-add-number8 Inv-loop μ-loop
+add-number8 c = search needs
 
-eight-requires : tie.Need-eight-requires Inv-loop μ-loop
-eight-requires c κs = search needs
+number8-requires : tie.Need-number8-requires Inv-loop μ-loop
+number8-requires c κs = search needs
 
 mul-list : tie.Need-mul-list Inv-loop μ-loop
 mul-list c = search needs
@@ -49,9 +49,9 @@ list-spec =
     Inv-loop
     μ-loop
     loop-holds
-    mul-eight
-    add-eight
-    eight-requires
+    mul-number8
+    add-number8
+    number8-requires
     mul-list
     array-write-list
     add-i
