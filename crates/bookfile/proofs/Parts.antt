@@ -2,7 +2,7 @@
 use mathlib.Core.Bool.{Bool, false}
 use mathlib.Core.List.{List, _∷_, _++_, append-nil}
 use mathlib.Core.Path.{_≡_, refl, sym, ap, _∙_}
-use Prim.Native.Nat.{ℕ, suc, _+_, _*_, _≤_, _<_}
+use Prim.Native.Nat.{ℕ, _+_}
 use native.Mathlib.Numerals.{add-one}
 use native.Mathlib.Omega.{arith}
 use lib.ListN.{length, set, getD, length-append, drop-of-length-le}
@@ -11,8 +11,7 @@ use Rattle.numbers.specs.Bytes.{bytesOf}
 use Rattle.numbers.proofs.Numbers.{length-bytesOf}
 use Rattle.numbers.proofs.Rooms.{sets-append}
 use Rattle.table.specs.declared.Table.{Table}
-use Rattle.table.specs.Words.{wordAt}
-use Rattle.bookfile.specs.Written.{size, headPart, joined, marksPart, amountsPart, keptPart, placeOf, writtenOf}
+use Rattle.bookfile.specs.Written.{size, headPart, joined, marksPart, amountPart, amountsPart, keptPart, placeOf, writtenOf}
 use Rattle.bookfile.proofs.Joining.{length-joined}
 
 -- one run, and another one where it ended
@@ -31,8 +30,11 @@ put-two l m rest at a {c = c} e h =
 
 -- ---- how long they are
 
+pub length-amount : (amounts : List ℕ) (i k : ℕ) → length (amountPart amounts i k) ≡ 8
+length-amount amounts i k = length-bytesOf 8 _
+
 pub length-amounts : (amounts : List ℕ) (i : ℕ) → length (amountsPart amounts i) ≡ 80
-length-amounts amounts i = length-joined (λ k. bytesOf 8 (wordAt amounts k i)) 8 (λ k. length-bytesOf 8 (wordAt amounts k i)) 10
+length-amounts amounts i = length-joined (amountPart amounts i) 8 (length-amount amounts i) 10
 
 pub length-marks : (sort : ℕ) (live : Bool) (tm : ℕ) → length (marksPart sort live tm) ≡ 4
 length-marks sort live tm = omega (arith, length-bytesOf 2 tm)

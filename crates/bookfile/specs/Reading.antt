@@ -1,4 +1,4 @@
--- Which bytes are a book, and which book they are.
+-- docs/API.md, 'The book file': which bytes are a book, and which book they are.
 use mathlib.Core.Bool.{Bool, true, false, _&&_}
 use mathlib.Core.List.{List}
 use Prim.Native.Nat.{ℕ, _+_, _*_, _/_, _%_}
@@ -14,7 +14,7 @@ use Rattle.table.specs.Words.{turned}
 use Rattle.bookfile.specs.declared.Held.{Held}
 use Rattle.bookfile.specs.Written.{size, mark}
 
--- where place i begins: behind the eight bytes of mark, count and serial, and i places of 93
+-- "place i begins at 8 + 93 i"
 abbrev pub placeAt : ℕ → ℕ
 placeAt i = 8 + 93 * i
 
@@ -26,7 +26,7 @@ marked file = all 4 (λ i. eqb (getD file i 0) (getD mark i 0))
 abbrev pub yesOrNo : List ℕ → ℕ → Bool
 yesOrNo file i = leb (getD file (placeAt i + 1) 0) 1 && leb (getD file (placeAt i + 84) 0) 1
 
--- the bytes are a book; whether it is a sound one is not asked
+-- the bytes are a book; "whether the book is sound isn't asked"
 unfoldable pub isBook : List ℕ → Bool
 isBook file = eqb (length file) size && (marked file && all 256 (yesOrNo file))
 

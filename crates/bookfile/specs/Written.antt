@@ -1,4 +1,4 @@
--- A book's written form, and what the writer does. Numbers are high byte first.
+-- docs/API.md, 'The book file': a book's written form, and what the writer does.
 use mathlib.Core.Bool.{Bool, true, false}
 use mathlib.Core.List.{List, [], _∷_, _++_}
 use Prim.Native.Nat.{ℕ, zero, suc}
@@ -9,7 +9,7 @@ use Rattle.numbers.specs.Bytes.{bytesOf}
 use Rattle.table.specs.declared.Table.{Table}
 use Rattle.table.specs.Words.{wordAt}
 
--- "A book's written form (23,816 bytes)"
+-- "A book's written form has 23,816 bytes"
 abbrev pub size : ℕ
 size = 23_816
 
@@ -35,9 +35,12 @@ joined f (suc n) = joined f n ++ f n
 abbrev pub marksPart : ℕ → Bool → ℕ → List ℕ
 marksPart sort live tm = sort ∷ yesNo live ∷ bytesOf 2 tm
 
--- "received 4 times 8, allocated 4 times 8, pledged 8, margin 8": the table's amounts 0 to 9 of place i
+-- "received 4 times 8, allocated 4 times 8, pledged 8, margin 8": the table's amount k of place i, k from 0 to 9
+abbrev pub amountPart : List ℕ → ℕ → ℕ → List ℕ
+amountPart amounts i k = bytesOf 8 (wordAt amounts k i)
+
 abbrev pub amountsPart : List ℕ → ℕ → List ℕ
-amountsPart amounts i = joined (λ k. bytesOf 8 (wordAt amounts k i)) 10
+amountsPart amounts i = joined (amountPart amounts i) 10
 
 -- "mode 1, kept need 8"
 abbrev pub keptPart : Bool → ℕ → List ℕ

@@ -5,16 +5,15 @@ use native.Mathlib.Omega.{arith}
 use lib.ListN.{length}
 use lib.Seq.{sets}
 use Rattle.numbers.specs.Bytes.{bytesOf}
-use Rattle.numbers.proofs.Numbers.{length-bytesOf}
-use Rattle.table.specs.Words.{wordAt}
-use Rattle.bookfile.specs.Written.{joined}
+use Rattle.bookfile.specs.Written.{joined, amountPart}
 use Rattle.bookfile.proofs.Joining.{joined-put}
+use Rattle.bookfile.proofs.Parts.{length-amount}
 use Rattle.bookfile.proofs.writing.put_amounts.Statement.{statement}
 use Rattle.bookfile.proofs.writing.put_amounts.Tie as tie
 
 abbrev Inv-loop : tie.InvT-loop
 Inv-loop room₀ place amounts i k₀ room k =
-    (k ≤ 10) × (length room ≡ length room₀) × (room ≡ sets room₀ place (joined (λ j. bytesOf 8 (wordAt amounts j i)) k))
+    (k ≤ 10) × (length room ≡ length room₀) × (room ≡ sets room₀ place (joined (amountPart amounts i) k))
 
 abbrev μ-loop : tie.MeasureT-loop
 μ-loop room₀ place amounts i k₀ room k = 10 - k
@@ -49,7 +48,7 @@ loop-again c =
     let a = c0 .before .before .args in (
       omega arith,
       c1 .put8 .kept .0 ∙ l .inv .1,
-      joined-put (λ j. bytesOf 8 (wordAt (a .amounts .now) j (a .i))) 8 (λ j. length-bytesOf 8 (wordAt (a .amounts .now) j (a .i))) _ _ _ (a .place) (l .k) (l .inv .2)
+      joined-put (amountPart (a .amounts .now) (a .i)) 8 (length-amount (a .amounts .now) (a .i)) _ _ _ (a .place) (l .k) (l .inv .2)
           (c1 .put8 .ensures ∙ ap (λ x. sets (l .room) (a .place + 8 * l .k) (bytesOf 8 x)) (c1 .before .word-at .ensures)),
     )
 
@@ -61,7 +60,7 @@ returns c =
     let l = c .before .loop in
     let a = c .before .before .before .args in
     let e : l .k ≡ 10 = omega arith in
-    l .inv .2 ∙ ap (λ n. sets (a .room .now) (a .place) (joined (λ j. bytesOf 8 (wordAt (a .amounts .now) j (a .i))) n)) e
+    l .inv .2 ∙ ap (λ n. sets (a .room .now) (a .place) (joined (amountPart (a .amounts .now) (a .i)) n)) e
 
 pub put-amounts-spec : {M : Type 1} → statement M
 put-amounts-spec =
