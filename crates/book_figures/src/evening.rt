@@ -1,4 +1,4 @@
-// Evening sums: of Annexure 4's book, of one with another number in each amount, and of one that is not sound.
+// Evening sums: of Annexure 4's book, of one with another number in each amount, and of books that are not sound.
 use crate::books;
 use crate::print;
 use book::Amount;
@@ -59,14 +59,49 @@ fn ten(t: Table) {
     print::end();
 }
 
+fn margins(t: Table) {
+    let s = book::amount_sum(t, Amount::Margin);
+    print::word(b": refusal ", s.refusal as u64);
+    print::word(b" total ", s.total);
+    print::end();
+}
+
+// The book with the need at place i kept as this.
+fn kept(t: Table, i: u8, need: u64) {
+    print::word(b"margins, need ", need);
+    print::word(b" kept at place ", i as u64);
+    margins(books::keeping(t, i, need));
+}
+
+// "A sound book now includes that each kept need equals the need worked out afresh, and a wrong one is refusal 1."
+fn wrong(t: Table) {
+    print::text(b"-- P4\n");
+    kept(t, 1, 90_000);
+    kept(t, 1, 90_001);
+    kept(t, 1, 89_999);
+    kept(t, 0, 40_001);
+    kept(t, 0, 39_999);
+    kept(t, 0, u64::MAX);
+    kept(t, 2, 60_000);
+    kept(t, 4, 1);
+    kept(t, 255, 1);
+}
+
+// A CP's need isn't kept, at place 3, nor a retired TM's, at place 4.
+fn kept_mixed(t: Table) {
+    print::text(b"-- with a CP at place 3 and a retired TM at 4\n");
+    kept(t, 3, 0);
+    kept(t, 3, 30);
+    kept(t, 4, 1);
+}
+
 pub fn all() {
     ten(books::p4());
     ten(two());
-    let s = book::amount_sum(books::uncovered(), Amount::Margin);
-    print::word(
-        b"margins of a book that is not sound: refusal ",
-        s.refusal as u64,
-    );
-    print::word(b" total ", s.total);
-    print::end();
+    print::text(b"margins of a book that is not sound");
+    margins(books::uncovered());
+    wrong(books::p4());
+    print::text(b"-- not covered, and the CM's need within its collateral\n");
+    kept(books::uncovered(), 0, 100_000);
+    kept_mixed(books::mixed());
 }

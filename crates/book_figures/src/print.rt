@@ -17,15 +17,3 @@ pub fn end() {
 pub fn item(n: u64) {
     word(b" ", n);
 }
-
-pub fn list(amounts: &[u64]) {
-    let mut i: usize = 0;
-    while i < amounts.len() {
-        item(amounts[i]);
-        i += 1;
-    }
-}
-
-pub fn bit(t: bool) -> u64 {
-    if t { 1 } else { 0 }
-}

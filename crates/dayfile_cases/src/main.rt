@@ -1,16 +1,10 @@
-// What no day file can show of reading and writing: amounts that a record doesn't name, places past the end, the writer's rooms, and a
-// record's words written and read back.
-mod amounts;
-mod example;
-mod made;
+// What no call from outside asks of the day file: a record's own fault, the length that a second mark byte says, and what is found at a place,
+// good or not.
+mod judged;
 mod places;
-mod rooms;
 mod shown;
 
 fn main() {
-    amounts::unnamed_line();
+    judged::lines();
     places::lines();
-    rooms::lines();
-    rooms::order_line();
-    example::lines();
 }

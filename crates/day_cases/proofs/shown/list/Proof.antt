@@ -1,10 +1,10 @@
--- `closeout_cases::show::cells` is safe and ends.
+-- `day_cases::shown::list` is safe and ends.
 use Prim.Native.Nat.{_-_, _≤_}
 use native.Mathlib.Omega.{arith}
 use lib.ListN.{length}
 use borrow.Author.Needs.{needs}
-use Rattle.closeout_cases.proofs.show.cells.Statement.{statement}
-use Rattle.closeout_cases.proofs.show.cells.Tie as tie
+use Rattle.day_cases.proofs.shown.list.Statement.{statement}
+use Rattle.day_cases.proofs.shown.list.Tie as tie
 
 abbrev Inv-loop : tie.InvT-loop
 Inv-loop room i₀ i = i ≤ length room
@@ -15,14 +15,14 @@ abbrev μ-loop : tie.MeasureT-loop
 loop-holds : tie.Need-loop-holds Inv-loop μ-loop
 loop-holds c = omega arith
 
-mul-cell : tie.Need-mul-cell Inv-loop μ-loop
-mul-cell c = omega arith
+mul-item : tie.Need-mul-item Inv-loop μ-loop
+mul-item c = omega arith
 
-shared-slice-read-cell : tie.Need-shared-slice-read-cell Inv-loop μ-loop
-shared-slice-read-cell c = omega arith
+shared-slice-read-item : tie.Need-shared-slice-read-item Inv-loop μ-loop
+shared-slice-read-item c = omega arith
 
-cell-requires : tie.Need-cell-requires Inv-loop μ-loop
-cell-requires c κs = search needs
+item-requires : tie.Need-item-requires Inv-loop μ-loop
+item-requires c κs = search needs
 
 add-i : tie.Need-add-i Inv-loop μ-loop
 add-i c = omega arith
@@ -36,16 +36,16 @@ loop-again c = omega arith
 returns : tie.Need-returns Inv-loop μ-loop
 returns c = search needs
 
-pub cells-spec : {M : Type 1} → statement M
-cells-spec =
+pub list-spec : {M : Type 1} → statement M
+list-spec =
     tie.close
     (tie.spec
     Inv-loop
     μ-loop
     loop-holds
-    mul-cell
-    shared-slice-read-cell
-    cell-requires
+    mul-item
+    shared-slice-read-item
+    item-requires
     add-i
     loop-less
     loop-again

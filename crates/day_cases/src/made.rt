@@ -1,6 +1,5 @@
 // Records handed over as values, and the tables that they make. Account 1 is a TM, 2 its client, 3 a CP; all amounts are cash.
 use dayfile::Record;
-use desk::Carried;
 use desk::Kinds;
 use desk::Table;
 
@@ -28,12 +27,8 @@ fn record(t: Table, code: u8, named: u8, account: u16, x: u64) -> Record {
     }
 }
 
-pub fn asked(t: Table, code: u8, named: u8, account: u16, x: u64) -> Carried {
-    desk::carry_out(t, record(t, code, named, account, x))
-}
-
 fn carried(t: Table, code: u8, named: u8, account: u16, x: u64) -> Table {
-    let done = asked(t, code, named, account, x);
+    let done = desk::carry_out(t, record(t, code, named, account, x));
     let after = done.table;
     after
 }
