@@ -53,14 +53,12 @@ fn held(program: &[u8], name: &[u8], file: &[u8]) -> From
     ensures { λ f. ⌜ f ≡ fromHeld (readOf (now (file .entry))) ⌝ }
 {
     let held = bookfile::read(file);
-    if !held.is_book {
+    let failed = !held.is_book;
+    if failed {
         tell_none(program, name);
     }
     let table = held.table;
-    From {
-        failed: !held.is_book,
-        table,
-    }
+    From { failed, table }
 }
 
 fn named(program: &[u8], name: &[u8], word: usize) -> From

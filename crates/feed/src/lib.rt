@@ -9,6 +9,7 @@ pub use records::Closing;
 use space::SPACE;
 use steps::At;
 use steps::modes_of;
+pub use streams::Moved;
 use streams::standard::write_output;
 pub use table::Table;
 use table::modes::look_all;

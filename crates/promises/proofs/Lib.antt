@@ -13,3 +13,4 @@ pub mod Quick
 pub mod Claim
 pub mod PieceByPiece
 pub mod TwoDays
+pub mod BookFile

@@ -4,6 +4,7 @@
 -- no `Learnt` of the reader's three calls: their clauses are written out below, and held to the source's.
 use mathlib.Core.Bool.{false}
 use mathlib.Core.List.{List}
+use mathlib.Core.Logic.{_⊎_, inl, inr}
 use mathlib.Core.Path.{_≡_, refl, sym, ap, _∙_}
 use Prim.Native.Nat.{ℕ}
 use base.Logic.{sep}
@@ -21,7 +22,9 @@ use Rattle.dayfile.specs.Reader.{startOf, readBy, movedTo}
 use Rattle.sums.specs.Choice.{pick}
 use Rattle.numbers.specs.Bytes.{Bytes}
 use Rattle.streams.specs.declared.Moved.{Moved}
+use Rattle.bookfile.specs.Reading.{readOf}
 use Rattle.feed.specs.Fed.{noDay, wholeDay}
+use Rattle.feed.specs.Books.{freshFrom, fromHeld}
 use Rattle.table.proofs as table
 use Rattle.book.proofs as book
 use Rattle.dayfile.proofs as dayfile
@@ -30,6 +33,7 @@ use Rattle.run.proofs as run
 use Rattle.lines.proofs as lines
 use Rattle.closeout.proofs as closeout
 use Rattle.feed.proofs as feed
+use Rattle.bookfile.proofs as bookfile
 use Rattle.report.proofs as report
 use Rattle.promises.specs.OneResult.{Promise, OneResultOnly}
 
@@ -83,6 +87,16 @@ of-book-needs κs a x y u v p q = (one-result (p .0) (q .0), ap (λ room. (tt, (
 -- an evening sum
 pub of-book-amount-sum : OneResultOnly book.amount_sum.ended book.amount_sum.Reads.Learnt
 of-book-amount-sum κs a x y u v p q = (one-result p q, refl)
+
+-- ---- bookfile
+
+-- the book that bytes are, or that they are none
+pub of-bookfile-read : OneResultOnly bookfile.read.ended bookfile.read.Reads.Learnt
+of-bookfile-read κs a x y u v p q = (one-result p q, refl)
+
+-- 0 or the refusal, and the room
+pub of-bookfile-write : OneResultOnly bookfile.write.ended bookfile.write.Reads.Learnt
+of-bookfile-write κs a x y u v p q = (one-result (p .0) (q .0), ap (λ room. (tt, (room, tt))) (one-result (p .1) (q .1)))
 
 -- ---- dayfile
 
@@ -247,3 +261,15 @@ pub whatever-bytes-came :
     Bytes s → feed.whole_day.Reads.Learnt κs a (wholeDay (turnedBack (a .1 .1 .0)) s) e × feed.whole_day.Reads.Learnt κs a noDay e
 unfolding pick wholeDay noDay
 whatever-bytes-came κs a e s bytes = (record { input = s; bytes = bytes; is = refl }, record { input = s; bytes = bytes; is = refl })
+
+-- The book that a day starts from: the fresh one, or what the bytes of a file are. Where neither is the fresh one and the bytes are the same, so are the results.
+pub of-feed-books-from-word :
+    (κs : Lfts 1) (a : Args feed.books.from_word.signature κs) (x y : Res feed.books.from_word.signature κs) (e : AtExit feed.books.from_word.ended κs)
+    (p : feed.books.from_word.Reads.Learnt κs a x e) (q : feed.books.from_word.Reads.Learnt κs a y e) →
+    (x ≡ freshFrom → ⊥) → (y ≡ freshFrom → ⊥) → p .file ≡ q .file → x ≡ y
+of-feed-books-from-word κs a x y e p q f g same = by (p .is) (q .is)
+  where
+    by : (x ≡ freshFrom) ⊎ (x ≡ fromHeld (readOf (p .file))) → (y ≡ freshFrom) ⊎ (y ≡ fromHeld (readOf (q .file))) → x ≡ y
+    by (inl h) k = absurd (f h)
+    by (inr h) (inl k) = absurd (g k)
+    by (inr h) (inr k) = h ∙ ap (λ s. fromHeld (readOf s)) same ∙ sym k

@@ -1,0 +1,40 @@
+-- The book file: a book's written form and the book are one to one. A value of the type has arrays of their lengths and words that fit (`bookfile.Facts.Fits`); whether it is sound doesn't matter.
+use mathlib.Core.Bool.{true}
+use mathlib.Core.List.{List}
+use mathlib.Core.Path.{_≡_, ap}
+use Prim.Native.Nat.{ℕ}
+use lib.ListN.{length}
+use Rattle.numbers.specs.Bytes.{Bytes}
+use Rattle.table.specs.declared.Table.{Table}
+use Rattle.table.specs.Words.{turnedBack}
+use Rattle.bookfile.specs.declared.Held.{Held}
+use Rattle.bookfile.specs.Written.{size, writtenOf, wroteOf, roomAfter}
+use Rattle.bookfile.specs.Reading.{isBook, bookIn, readOf}
+use Rattle.bookfile.specs.Facts.{Fits}
+use Rattle.bookfile.proofs.RoundTrip.{read-written, written-read, written-once, written-long, room-reads}
+use Rattle.feed.specs.declared.Day.{Day}
+use Rattle.feed.specs.Fed.{wholeDay}
+
+-- Reading what was written gives the book back.
+pub the-written-book-reads-back : (t : Table) → Fits t → readOf (writtenOf t) ≡ record { «is_book» = true; table = t }
+the-written-book-reads-back = read-written
+
+-- Bytes that read as a book are that book's written form.
+pub what-reads-was-written : (file : List ℕ) → Bytes file → isBook file ≡ true → writtenOf (bookIn file) ≡ file
+what-reads-was-written = written-read
+
+-- Two books with one written form are the same.
+pub one-book-for-one-file : (t u : Table) → Fits t → Fits u → writtenOf t ≡ writtenOf u → t ≡ u
+one-book-for-one-file = written-once
+
+-- The written form has 23,816 bytes, each of them a byte.
+pub a-file-is-as-long-as-it-says : (t : Table) → Fits t → (length (writtenOf t) ≡ size) × Bytes (writtenOf t)
+a-file-is-as-long-as-it-says = written-long
+
+-- A room that the writer answered with 0 reads back as the book.
+pub the-lent-room-reads-back : (t : Table) (room : List ℕ) → Fits t → wroteOf room ≡ 0 → readOf (roomAfter t room) ≡ record { «is_book» = true; table = t }
+the-lent-room-reads-back = room-reads
+
+-- Over the night: a day over the book in the file that was written is the day over the book.
+pub a-day-over-the-file : (t : Table) → Fits t → (x : List ℕ) → wholeDay (turnedBack (readOf (writtenOf t) .table)) x ≡ wholeDay (turnedBack t) x
+a-day-over-the-file t f x = ap (λ (h : Held). wholeDay (turnedBack (h .table)) x) (read-written t f)
