@@ -1,4 +1,5 @@
 -- `bookfile::writing::write` meets its contract.
+use native.Mathlib.Omega.{arith}
 use borrow.Author.Needs.{needs}
 use Rattle.bookfile.proofs.Parts.{put-written}
 use Rattle.bookfile.proofs.Wrote.{other-room, fitting-room}
@@ -6,7 +7,9 @@ use Rattle.bookfile.proofs.writing.write.Statement.{statement}
 use Rattle.bookfile.proofs.writing.write.Tie as tie
 
 returns : tie.Need-returns
-returns c = other-room (c .before .before .args .t) _ (c .if1 .taken)
+returns c =
+    let a = c .before .before .args in
+    other-room (a .t) (a .room .now) (λ e. omega arith)
 
 put-head-requires : tie.Need-put-head-requires
 put-head-requires c κs = search needs
@@ -23,7 +26,7 @@ returns-2 c =
     let ch = cp .before .before .before .before in
     let e = ch .before .before in
     let a = e .before .before .args in
-    fitting-room (a .t) (a .room .now) _ (e .if1 .left) (put-written (a .t) (a .room .now) _ _ (e .if1 .left) (ch .put-head .ensures) (cp .put-places .ensures))
+    fitting-room (a .t) (a .room .now) _ (omega arith) (put-written (a .t) (a .room .now) _ _ (omega arith) (ch .put-head .ensures) (cp .put-places .ensures))
 
 pub write-spec : {M : Type 1} → statement M
 write-spec =
