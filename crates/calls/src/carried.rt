@@ -24,7 +24,7 @@ fn put_outcome(room: &mut [u8], at: usize, o: Outcome) -> usize
     ensures { λ after. ⌜ after ≤ at + 42 ⌝ }
 {
     match o {
-        Outcome::CarriedOut => put_text(room, at, b"0 0 "),
+        Outcome::CarriedOut => put_two(room, at, 0, 0),
         Outcome::Opened(n) => put_two(room, at, 0, n as u64),
         Outcome::Refused(reason) => put_two(room, at, reason as u64, 0),
         Outcome::End => put_text(room, at, b"end 0 "),
@@ -90,14 +90,14 @@ fn put_next(room: &mut [u8], before: Table, piece: &[u8], place: usize) -> usize
 }
 
 fn put_word(room: &mut [u8], word: Closing) -> usize
-    requires { ⌜ 5 ≤ length (now room) ⌝ }
-    ensures { λ after. ⌜ after ≤ 5 ⌝ }
+    requires { ⌜ 21 ≤ length (now room) ⌝ }
+    ensures { λ after. ⌜ after ≤ 21 ⌝ }
 {
     match word {
         Closing::End => put_text(room, 0, b"end "),
         Closing::Cut => put_text(room, 0, b"cut "),
         Closing::Long => put_text(room, 0, b"long "),
-        Closing::Unsound => put_text(room, 0, b"1 "),
+        Closing::Unsound => put_number(room, 0, 1, b' '),
     }
 }
 

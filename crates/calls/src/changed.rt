@@ -11,75 +11,61 @@ pub(crate) fn one_if(yes: bool) -> u64 {
     if yes { 1 } else { 0 }
 }
 
-// An account's fifteen words in the file's order: its marks, its ten amounts, its mode and its kept need.
-fn words(
+fn differ(a: bool, b: bool) -> bool {
+    if a { !b } else { b }
+}
+
+// Whether any of the ten amounts of account i differs.
+fn amounts_differ(a: &[u64; 2560], b: &[u64; 2560], i: usize) -> bool
+    requires { ⌜ i < 256 ⌝ }
+{
+    let mut k: usize = i;
+    while k < 2560 {
+        if a[k] != b[k] {
+            return true;
+        }
+        k += 256;
+    }
+    false
+}
+
+// Puts the ten amounts of account i.
+fn put_amounts(list: &mut [u64; 4098], n: usize, i: usize, w: &[u64; 2560])
+    requires { ⌜ (i < 256) × (n + 10 ≤ 4098) ⌝ }
+{
+    let mut k: usize = 0;
+    while k < 10 {
+        list[n + k] = w[256 * k + i];
+        k += 1;
+    }
+}
+
+// Puts place i and its fifteen words in the file's order, unless it is as it was, and gives the place after them.
+fn put_place(
+    list: &mut [u64; 4098],
+    n: usize,
+    i: usize,
+    changed: bool,
     sort: u8,
     live: bool,
     tm: u16,
     mode: bool,
     need: u64,
-    i: usize,
     w: &[u64; 2560],
-) -> [u64; 15]
-    requires { ⌜ i < 256 ⌝ }
-{
-    let mut list = [
-        sort as u64,
-        one_if(live),
-        tm as u64,
-        0,
-        0,
-        0,
-        0,
-        0,
-        0,
-        0,
-        0,
-        0,
-        0,
-        one_if(mode),
-        need,
-    ];
-    let mut k: usize = 0;
-    while k < 10 {
-        list[3 + k] = w[256 * k + i];
-        k += 1;
-    }
-    list
-}
-
-fn same(a: [u64; 15], b: [u64; 15]) -> bool {
-    let mut k: usize = 0;
-    while k < 15 {
-        if a[k] != b[k] {
-            return false;
-        }
-        k += 1;
-    }
-    true
-}
-
-// Puts place i and its words.
-fn put_words(list: &mut [u64; 4098], n: usize, i: usize, is: [u64; 15])
-    requires { ⌜ n + 16 ≤ 4098 ⌝ }
-{
-    list[n] = i as u64;
-    let mut k: usize = 0;
-    while k < 15 {
-        list[n + 1 + k] = is[k];
-        k += 1;
-    }
-}
-
-// Puts place i where any of its words differs, and gives the place after it.
-fn put_place(list: &mut [u64; 4098], n: usize, i: usize, was: [u64; 15], is: [u64; 15]) -> usize
-    requires { ⌜ n + 16 ≤ 4098 ⌝ }
+) -> usize
+    requires { ⌜ (i < 256) × (n + 16 ≤ 4098) ⌝ }
     ensures { λ after. ⌜ (n ≤ after) × (after ≤ n + 16) ⌝ }
 {
-    if same(was, is) {
+    if !changed {
         return n;
     }
-    put_words(list, n, i, is);
+    list[n] = i as u64;
+    list[n + 1] = sort as u64;
+    list[n + 2] = one_if(live);
+    list[n + 3] = tm as u64;
+    put_amounts(list, n + 4, i, w);
+    list[n + 14] = one_if(mode);
+    list[n + 15] = need;
     n + 16
 }
 
@@ -93,25 +79,15 @@ fn put_changes(list: &mut [u64; 4098], a: Table, b: Table) -> usize
     let mut n: usize = 2;
     let mut i: usize = 0;
     while i < 256 {
-        let was = words(
-            a.sort[i],
-            a.live[i],
-            a.tm[i],
-            a.modes[i],
-            a.needs[i],
-            i,
-            &a.amounts,
-        );
-        let is = words(
-            b.sort[i],
-            b.live[i],
-            b.tm[i],
-            b.modes[i],
-            b.needs[i],
-            i,
-            &b.amounts,
-        );
-        n = put_place(list, n, i, was, is);
+        let sort = b.sort[i];
+        let live = b.live[i];
+        let tm = b.tm[i];
+        let mode = b.modes[i];
+        let need = b.needs[i];
+        let marks = (a.sort[i] != sort) | differ(a.live[i], live) | (a.tm[i] != tm);
+        let kept = differ(a.modes[i], mode) | (a.needs[i] != need);
+        let changed = marks | kept | amounts_differ(&a.amounts, &b.amounts, i);
+        n = put_place(list, n, i, changed, sort, live, tm, mode, need, &b.amounts);
         i += 1;
     }
     n

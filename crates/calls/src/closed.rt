@@ -17,7 +17,7 @@ fn put_closed(room: &mut [u8], t: Table, losses: &[u64], n: usize) -> usize
     ensures { λ after. ⌜ after ≤ length (now (room .exit)) ⌝ }
 {
     let end = n + 2;
-    let mut line = numbers();
+    let mut line = numbers(n);
     let closed = closeout::close_out(t, losses, &mut line[2..end]);
     line[0] = closed.refusal as u64;
     line[1] = closed.total;

@@ -4,7 +4,7 @@ ghost use Prim.Native.Nat.{_-_, _≤_};
 ghost use lib.ListN.{length};
 use streams::standard::read_input;
 
-pub(crate) const SPACE: usize = 262_144;
+const SPACE: usize = 262_144;
 
 // The longest call: its byte, a book, a piece's length, the longest piece, a place.
 const LONGEST: usize = 89_365;

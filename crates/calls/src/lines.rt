@@ -8,9 +8,9 @@ use text::put_number;
 use text::put_text;
 
 // Twice as much as the longest line takes, and more.
-pub(crate) const ROOM: usize = 196_608;
+const ROOM: usize = 196_608;
 
-pub(crate) const HALF: usize = 98_304;
+const HALF: usize = 98_304;
 
 // How many bytes are left to write, and whether a write failed.
 pub(crate) struct Wrote {

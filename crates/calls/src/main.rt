@@ -30,8 +30,9 @@ fn run() {
         let stands = more(&mut space, at, end, ended);
         let from = stands.at;
         let to = stands.end;
+        // The lines of what came before a failed read are written too.
         if stands.failed {
-            return;
+            break;
         }
         if from == to {
             break;

@@ -12,6 +12,7 @@ use dayfile::Read;
 use dayfile::Record;
 use dayfile::Wrote;
 use numbers::number8;
+use text::put_number;
 use text::put_spaced;
 use text::put_text;
 
@@ -64,7 +65,7 @@ fn put_read(room: &mut [u8], read: Read) -> usize
 {
     match read {
         Read::End => put_text(room, 0, b"end\n"),
-        Read::Cut => put_text(room, 0, b"2\n"),
+        Read::Cut => put_number(room, 0, 2, b'\n'),
         Read::Good(r, next) => put_record(room, r, next),
         Read::Bad {
             reason,
@@ -118,7 +119,7 @@ fn put_written(room: &mut [u8], r: Record, n: usize) -> usize
     requires { ⌜ (n ≤ 4096) × (87000 ≤ length (now room)) ⌝ }
     ensures { λ after. ⌜ after ≤ length (now (room .exit)) ⌝ }
 {
-    let mut bytes = rooms::bytes();
+    let mut bytes = rooms::bytes(n);
     let wrote = dayfile::write(r, &mut bytes[0..n]);
     let mut line = rooms::widened(bytes, n);
     line[0] = refusal_of(wrote);

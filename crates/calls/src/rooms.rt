@@ -8,24 +8,26 @@ use text::put_spaced;
 
 pub(crate) const LINE: usize = 4_098;
 
-pub(crate) fn numbers() -> [u64; LINE]
+pub(crate) fn numbers(n: usize) -> [u64; LINE]
+    requires { ⌜ n ≤ 4096 ⌝ }
     ensures { λ r. ⌜ length r ≡ 4098 ⌝ }
 {
     let mut line = [0u64; LINE];
     let mut i: usize = 2;
-    while i < LINE {
+    while i < n + 2 {
         line[i] = (i - 1) as u64;
         i += 1;
     }
     line
 }
 
-pub(crate) fn bytes() -> [u8; LIST]
+pub(crate) fn bytes(n: usize) -> [u8; LIST]
+    requires { ⌜ n ≤ 4096 ⌝ }
     ensures { λ r. ⌜ length r ≡ 4096 ⌝ }
 {
     let mut room = [0u8; LIST];
     let mut i: usize = 0;
-    while i < LIST {
+    while i < n {
         room[i] = ((i + 1) % 256) as u8;
         i += 1;
     }

@@ -1,4 +1,5 @@
--- `calls::run`: the next call begins within what is held, and the lines that wait leave half of their room. It counts the calls that may be left.
+-- `calls::run`: the next call begins within what is held, and the lines that wait leave half of their room. It counts the calls that
+-- may be left.
 use Prim.Native.Nat.{_≤_, _-_}
 use lib.ListN.{length}
 use mathlib.Core.Path.{_≡_}
@@ -27,9 +28,6 @@ slice-aggregate-more c = search needs
 more-requires : tie.Need-more-requires Inv-loop μ-loop
 more-requires c κs = search needs
 
-returns : tie.Need-returns Inv-loop μ-loop
-returns c = search needs
-
 sub-answer : tie.Need-sub-answer Inv-loop μ-loop
 sub-answer c = search needs
 
@@ -51,8 +49,8 @@ slice-aggregate-write-bad c = search needs
 write-bad-requires : tie.Need-write-bad-requires Inv-loop μ-loop
 write-bad-requires c κs = search needs
 
-returns-2 : tie.Need-returns-2 Inv-loop μ-loop
-returns-2 c = search needs
+returns : tie.Need-returns Inv-loop μ-loop
+returns c = search needs
 
 slice-aggregate-written : tie.Need-slice-aggregate-written Inv-loop μ-loop
 slice-aggregate-written c = search needs
@@ -63,8 +61,8 @@ add-written c = search needs
 written-requires : tie.Need-written-requires Inv-loop μ-loop
 written-requires c κs = search needs
 
-returns-3 : tie.Need-returns-3 Inv-loop μ-loop
-returns-3 c = search needs
+returns-2 : tie.Need-returns-2 Inv-loop μ-loop
+returns-2 c = search needs
 
 add-at : tie.Need-add-at Inv-loop μ-loop
 add-at c = search needs
@@ -84,8 +82,8 @@ slice-aggregate-write c = search needs
 write-requires : tie.Need-write-requires Inv-loop μ-loop
 write-requires c κs = search needs
 
-returns-4 : tie.Need-returns-4 Inv-loop μ-loop
-returns-4 c = search needs
+returns-3 : tie.Need-returns-3 Inv-loop μ-loop
+returns-3 c = search needs
 
 pub run-spec : {M : Type 1} → statement M
 run-spec =
@@ -98,7 +96,6 @@ run-spec =
     loop-holds
     slice-aggregate-more
     more-requires
-    returns
     sub-answer
     part-answer-start
     part-answer-end
@@ -106,15 +103,15 @@ run-spec =
     answer-requires
     slice-aggregate-write-bad
     write-bad-requires
-    returns-2
+    returns
     slice-aggregate-written
     add-written
     written-requires
-    returns-3
+    returns-2
     add-at
     add-answered
     loop-less
     loop-again
     slice-aggregate-write
     write-requires
-    returns-4)
+    returns-3)

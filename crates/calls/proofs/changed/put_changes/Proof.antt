@@ -25,53 +25,56 @@ element-write-list-2 c = search needs
 loop-holds : tie.Need-loop-holds Inv-loop μ-loop
 loop-holds c = search needs
 
-element-copy-out-words : tie.Need-element-copy-out-words Inv-loop μ-loop
-element-copy-out-words c = search needs
+element-copy-out-sort : tie.Need-element-copy-out-sort Inv-loop μ-loop
+element-copy-out-sort c = search needs
 
-element-copy-out-words-2 : tie.Need-element-copy-out-words-2 Inv-loop μ-loop
-element-copy-out-words-2 c = search needs
+element-copy-out-live : tie.Need-element-copy-out-live Inv-loop μ-loop
+element-copy-out-live c = search needs
 
-mul-words : tie.Need-mul-words Inv-loop μ-loop
-mul-words c = search needs
+mul-tm : tie.Need-mul-tm Inv-loop μ-loop
+mul-tm c = search needs
 
-element-copy-out-words-3 : tie.Need-element-copy-out-words-3 Inv-loop μ-loop
-element-copy-out-words-3 c = search needs
+element-copy-out-tm : tie.Need-element-copy-out-tm Inv-loop μ-loop
+element-copy-out-tm c = search needs
 
-element-copy-out-words-4 : tie.Need-element-copy-out-words-4 Inv-loop μ-loop
-element-copy-out-words-4 c = search needs
+element-copy-out-mode : tie.Need-element-copy-out-mode Inv-loop μ-loop
+element-copy-out-mode c = search needs
 
-mul-words-2 : tie.Need-mul-words-2 Inv-loop μ-loop
-mul-words-2 c = search needs
+mul-need : tie.Need-mul-need Inv-loop μ-loop
+mul-need c = search needs
 
-element-copy-out-words-5 : tie.Need-element-copy-out-words-5 Inv-loop μ-loop
-element-copy-out-words-5 c = search needs
+element-copy-out-need : tie.Need-element-copy-out-need Inv-loop μ-loop
+element-copy-out-need c = search needs
 
-words-requires : tie.Need-words-requires Inv-loop μ-loop
-words-requires c κs = search needs
+element-copy-out-marks : tie.Need-element-copy-out-marks Inv-loop μ-loop
+element-copy-out-marks c = search needs
 
-element-copy-out-words-6 : tie.Need-element-copy-out-words-6 Inv-loop μ-loop
-element-copy-out-words-6 c = search needs
+element-copy-out-differ : tie.Need-element-copy-out-differ Inv-loop μ-loop
+element-copy-out-differ c = search needs
 
-element-copy-out-words-7 : tie.Need-element-copy-out-words-7 Inv-loop μ-loop
-element-copy-out-words-7 c = search needs
+differ-requires : tie.Need-differ-requires Inv-loop μ-loop
+differ-requires c κs = search needs
 
-mul-words-3 : tie.Need-mul-words-3 Inv-loop μ-loop
-mul-words-3 c = search needs
+mul-marks : tie.Need-mul-marks Inv-loop μ-loop
+mul-marks c = search needs
 
-element-copy-out-words-8 : tie.Need-element-copy-out-words-8 Inv-loop μ-loop
-element-copy-out-words-8 c = search needs
+element-copy-out-marks-2 : tie.Need-element-copy-out-marks-2 Inv-loop μ-loop
+element-copy-out-marks-2 c = search needs
 
-element-copy-out-words-9 : tie.Need-element-copy-out-words-9 Inv-loop μ-loop
-element-copy-out-words-9 c = search needs
+element-copy-out-differ-2 : tie.Need-element-copy-out-differ-2 Inv-loop μ-loop
+element-copy-out-differ-2 c = search needs
 
-mul-words-4 : tie.Need-mul-words-4 Inv-loop μ-loop
-mul-words-4 c = search needs
+differ-requires-2 : tie.Need-differ-requires-2 Inv-loop μ-loop
+differ-requires-2 c κs = search needs
 
-element-copy-out-words-10 : tie.Need-element-copy-out-words-10 Inv-loop μ-loop
-element-copy-out-words-10 c = search needs
+mul-kept : tie.Need-mul-kept Inv-loop μ-loop
+mul-kept c = search needs
 
-words-requires-2 : tie.Need-words-requires-2 Inv-loop μ-loop
-words-requires-2 c κs = search needs
+element-copy-out-kept : tie.Need-element-copy-out-kept Inv-loop μ-loop
+element-copy-out-kept c = search needs
+
+amounts-differ-requires : tie.Need-amounts-differ-requires Inv-loop μ-loop
+amounts-differ-requires c κs = search needs
 
 put-place-requires : tie.Need-put-place-requires Inv-loop μ-loop
 put-place-requires c κs = search needs
@@ -99,22 +102,23 @@ put-changes-spec =
     cast-list-2
     element-write-list-2
     loop-holds
-    element-copy-out-words
-    element-copy-out-words-2
-    mul-words
-    element-copy-out-words-3
-    element-copy-out-words-4
-    mul-words-2
-    element-copy-out-words-5
-    words-requires
-    element-copy-out-words-6
-    element-copy-out-words-7
-    mul-words-3
-    element-copy-out-words-8
-    element-copy-out-words-9
-    mul-words-4
-    element-copy-out-words-10
-    words-requires-2
+    element-copy-out-sort
+    element-copy-out-live
+    mul-tm
+    element-copy-out-tm
+    element-copy-out-mode
+    mul-need
+    element-copy-out-need
+    element-copy-out-marks
+    element-copy-out-differ
+    differ-requires
+    mul-marks
+    element-copy-out-marks-2
+    element-copy-out-differ-2
+    differ-requires-2
+    mul-kept
+    element-copy-out-kept
+    amounts-differ-requires
     put-place-requires
     add-i
     loop-less

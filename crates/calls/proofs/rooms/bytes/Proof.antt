@@ -7,10 +7,10 @@ use Rattle.calls.proofs.rooms.bytes.Statement.{statement}
 use Rattle.calls.proofs.rooms.bytes.Tie as tie
 
 abbrev Inv-loop : tie.InvT-loop
-Inv-loop room₀ i₀ room i = (i ≤ 4096) × (length room ≡ 4096)
+Inv-loop n room₀ i₀ room i = (i ≤ n) × (length room ≡ 4096)
 
 abbrev μ-loop : tie.MeasureT-loop
-μ-loop room₀ i₀ room i = 4096 - i
+μ-loop n room₀ i₀ room i = n - i
 
 loop-holds : tie.Need-loop-holds Inv-loop μ-loop
 loop-holds c = search needs

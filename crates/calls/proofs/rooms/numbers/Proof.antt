@@ -1,5 +1,5 @@
 -- `calls::rooms::numbers`: the room begins at place 2.
-use Prim.Native.Nat.{_≤_, _-_}
+use Prim.Native.Nat.{_+_, _≤_, _-_}
 use lib.ListN.{length}
 use mathlib.Core.Path.{_≡_}
 use borrow.Author.Needs.{needs}
@@ -7,13 +7,16 @@ use Rattle.calls.proofs.rooms.numbers.Statement.{statement}
 use Rattle.calls.proofs.rooms.numbers.Tie as tie
 
 abbrev Inv-loop : tie.InvT-loop
-Inv-loop line₀ i₀ line i = (2 ≤ i) × (i ≤ 4098) × (length line ≡ 4098)
+Inv-loop n line₀ i₀ line i = (2 ≤ i) × (i ≤ n + 2) × (length line ≡ 4098)
 
 abbrev μ-loop : tie.MeasureT-loop
-μ-loop line₀ i₀ line i = 4098 - i
+μ-loop n line₀ i₀ line i = n + 2 - i
 
 loop-holds : tie.Need-loop-holds Inv-loop μ-loop
 loop-holds c = search needs
+
+add-loop : tie.Need-add-loop Inv-loop μ-loop
+add-loop c = search needs
 
 sub-line : tie.Need-sub-line Inv-loop μ-loop
 sub-line c = search needs
@@ -43,6 +46,7 @@ numbers-spec =
     Inv-loop
     μ-loop
     loop-holds
+    add-loop
     sub-line
     mul-line
     array-write-line

@@ -1,22 +1,16 @@
--- `calls::changed::words`: ten amounts behind the three marks.
+-- `calls::changed::put_amounts`: a place for each amount so far.
 use Prim.Native.Nat.{_≤_, _-_}
 use lib.ListN.{length}
 use mathlib.Core.Path.{_≡_}
 use borrow.Author.Needs.{needs}
-use Rattle.calls.proofs.changed.words.Statement.{statement}
-use Rattle.calls.proofs.changed.words.Tie as tie
+use Rattle.calls.proofs.changed.put_amounts.Statement.{statement}
+use Rattle.calls.proofs.changed.put_amounts.Tie as tie
 
 abbrev Inv-loop : tie.InvT-loop
-Inv-loop sort live tm mode need i w list₀ k₀ list k = (k ≤ 10) × (length list ≡ 15)
+Inv-loop list₀ n i w k₀ list k = (k ≤ 10) × (length list ≡ length list₀)
 
 abbrev μ-loop : tie.MeasureT-loop
-μ-loop sort live tm mode need i w list₀ k₀ list k = 10 - k
-
-one-if-requires : tie.Need-one-if-requires Inv-loop μ-loop
-one-if-requires c κs = search needs
-
-one-if-requires-2 : tie.Need-one-if-requires-2 Inv-loop μ-loop
-one-if-requires-2 c κs = search needs
+μ-loop list₀ n i w k₀ list k = 10 - k
 
 loop-holds : tie.Need-loop-holds Inv-loop μ-loop
 loop-holds c = search needs
@@ -39,8 +33,8 @@ add-list-2 c = search needs
 mul-list-3 : tie.Need-mul-list-3 Inv-loop μ-loop
 mul-list-3 c = search needs
 
-array-write-list : tie.Need-array-write-list Inv-loop μ-loop
-array-write-list c = search needs
+element-write-list : tie.Need-element-write-list Inv-loop μ-loop
+element-write-list c = search needs
 
 add-k : tie.Need-add-k Inv-loop μ-loop
 add-k c = search needs
@@ -54,14 +48,12 @@ loop-again c = search needs
 returns : tie.Need-returns Inv-loop μ-loop
 returns c = search needs
 
-pub words-spec : {M : Type 1} → statement M
-words-spec =
+pub put-amounts-spec : {M : Type 1} → statement M
+put-amounts-spec =
     tie.close
     (tie.spec
     Inv-loop
     μ-loop
-    one-if-requires
-    one-if-requires-2
     loop-holds
     mul-list
     add-list
@@ -69,7 +61,7 @@ words-spec =
     element-copy-out-list
     add-list-2
     mul-list-3
-    array-write-list
+    element-write-list
     add-k
     loop-less
     loop-again
