@@ -5,6 +5,7 @@ mod needs;
 mod uses;
 
 use crate::mode::Mode;
+use crate::rule::Rule;
 
 /// "The ceiling is 10,000,000,000,000 paise."
 pub const CEILING: u64 = 10_000_000_000_000;
@@ -12,6 +13,8 @@ pub const CEILING: u64 = 10_000_000_000_000;
 pub const MOST_ACCOUNTS: usize = 256;
 /// Cash, fixed deposits, bank guarantees, government securities.
 pub const KINDS: usize = 4;
+/// Where government securities stand among them.
+pub const SECURITIES: usize = 3;
 
 #[derive(Clone, Copy, PartialEq, Eq, PartialOrd, Ord, Default, Debug)]
 pub enum Sort {
@@ -46,10 +49,11 @@ impl Row {
         }
     }
 
-    /// "Collateral is the sum of the four allocated amounts and pledged."
-    pub fn collateral(&self) -> u64 {
+    /// "Cash, fixed deposits, guarantees and pledged, plus allocated
+    /// government securities" as the rule counts them.
+    pub fn collateral(&self, rule: Rule) -> u64 {
         let [cash, deposits, guarantees, securities] = self.allocated;
-        cash + deposits + guarantees + securities + self.pledged
+        cash + deposits + guarantees + self.pledged + rule.counted(securities)
     }
 
     pub fn is_empty(&self) -> bool {
@@ -97,6 +101,8 @@ impl Standing {
 
 #[derive(Clone)]
 pub struct Book {
+    /// By which rule it is worked on; no book carries a mark of it.
+    pub rule: Rule,
     pub rows: [Row; MOST_ACCOUNTS],
     pub count: usize,
     pub serial: u16,
@@ -122,9 +128,14 @@ struct Left {
 impl Book {
     /// "In a fresh book it is the only account and all amounts are 0."
     pub fn fresh() -> Book {
+        Book::fresh_by(Rule::New)
+    }
+
+    pub fn fresh_by(rule: Rule) -> Book {
         let mut rows = [Row::default(); MOST_ACCOUNTS];
         rows[0] = Row::opened(Sort::Cm, 0);
         Book {
+            rule,
             rows,
             count: 1,
             serial: 0,
@@ -138,6 +149,7 @@ impl Book {
     /// A sound book that comes from outside: what is kept for the look is
     /// worked out from its rows.
     pub fn handed_over(
+        rule: Rule,
         rows: [Row; MOST_ACCOUNTS],
         count: usize,
         serial: u16,
@@ -145,6 +157,7 @@ impl Book {
         needs: [u64; MOST_ACCOUNTS],
     ) -> Book {
         let mut book = Book {
+            rule,
             rows,
             count,
             serial,
@@ -159,6 +172,10 @@ impl Book {
             }
         }
         book
+    }
+
+    pub fn collateral(&self, account: usize) -> u64 {
+        self.rows[account].collateral(self.rule)
     }
 
     /// "The account is not live, or its number was never given" is the opposite.
@@ -233,7 +250,7 @@ impl Book {
         for account in (0..self.count).rev() {
             let row = &self.rows[account];
             let need = row.margin + called[account];
-            all[account] = Standing::of(row.collateral(), need, self.modes[account]);
+            all[account] = Standing::of(self.collateral(account), need, self.modes[account]);
             if account != 0 {
                 called[self.answers_for(account)] += all[account].deemed;
             }

@@ -137,29 +137,28 @@ fn allocate(book: &mut Book, account: usize, kinds: [u64; KINDS]) -> Carried {
     Ok(Outcome::Done)
 }
 
-/// 17 and 12 of an amount that is there. Taking out is release and unpledge
-/// alone: hand back takes from what isn't allocated.
-fn may_take_out(book: &Book, account: usize, amount: u64) -> Result<(), Refusal> {
+/// Takes out what is there, leaving the account this row: 17, then 12, "given
+/// exactly when the collateral left .. would be below what was blocked". Taking
+/// out is release and unpledge alone: hand back takes from what isn't allocated.
+fn take_out(book: &mut Book, account: usize, left: Row) -> Carried {
     if book.keeps_in(account) {
         return Err(Refusal::KeptIn);
     }
-    if amount > book.free(account) {
+    if left.collateral(book.rule) < book.blocked(account) {
         return Err(Refusal::MoreThanFree);
     }
-    Ok(())
+    book.change(account, |row| *row = left);
+    Ok(Outcome::Done)
 }
 
-/// 11 looks at each kind, 12 at "its kinds added up".
+/// 11 looks at each kind.
 fn release(book: &mut Book, account: usize, kinds: [u64; KINDS]) -> Carried {
-    let row = &book.rows[account];
-    if (0..KINDS).any(|kind| kinds[kind] > row.allocated[kind]) {
+    let mut left = book.rows[account];
+    if (0..KINDS).any(|kind| kinds[kind] > left.allocated[kind]) {
         return Err(Refusal::MoreThanThere);
     }
-    may_take_out(book, account, kinds.iter().sum())?;
-    book.change(account, |row| {
-        (0..KINDS).for_each(|kind| row.allocated[kind] -= kinds[kind])
-    });
-    Ok(Outcome::Done)
+    (0..KINDS).for_each(|kind| left.allocated[kind] -= kinds[kind]);
+    take_out(book, account, left)
 }
 
 fn pledge(book: &mut Book, account: usize, amount: u64) -> Carried {
@@ -171,19 +170,19 @@ fn pledge(book: &mut Book, account: usize, amount: u64) -> Carried {
 }
 
 fn unpledge(book: &mut Book, account: usize, amount: u64) -> Carried {
-    if amount > book.rows[account].pledged {
+    let mut left = book.rows[account];
+    if amount > left.pledged {
         return Err(Refusal::MoreThanThere);
     }
-    may_take_out(book, account, amount)?;
-    book.change(account, |row| row.pledged -= amount);
-    Ok(Outcome::Done)
+    left.pledged -= amount;
+    take_out(book, account, left)
 }
 
 /// 13 is for "a rising margin" (K6): any other leaves a sound book covered.
 /// `Margins` holds this against the line without the word.
 fn set_margin(book: &mut Book, account: usize, margin: u64) -> Carried {
     let rises = margin > book.rows[account].margin;
-    if rises && book.cm_need_with(account, margin) > book.rows[0].collateral() {
+    if rises && book.cm_need_with(account, margin) > book.collateral(0) {
         return Err(Refusal::MarginUncovered);
     }
     book.change(account, |row| row.margin = margin);

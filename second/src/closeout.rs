@@ -66,11 +66,13 @@ fn pay(book: &Book, losses: &[u64]) -> Vec<Payment> {
     let mut payments = vec![Payment::default(); book.count];
     for account in 0..book.count {
         if is_client_or_cp(&rows[account]) {
-            payments[account].own = losses[account].min(rows[account].collateral());
+            payments[account].own = losses[account].min(book.collateral(account));
         }
     }
     let within = parts_within_margin(rows, losses, &payments);
-    let collateral = rows.iter().map(|row| row.collateral()).collect();
+    let collateral = (0..book.count)
+        .map(|account| book.collateral(account))
+        .collect();
     round(rows, within, collateral, &mut payments);
 
     let left = parts_unpaid(losses, &payments);

@@ -21,14 +21,16 @@ use crate::print;
 use crate::refusal::Refusal;
 use crate::rng::Rng;
 use crate::tally::Tally;
+use crate::tenths::Tenths;
 use std::fs;
 use std::path::{Path, PathBuf};
 
-const VALUED: [&str; 10] = [
+const VALUED: [&str; 11] = [
     "--day",
     "--standings",
     "--closeouts",
     "--needs",
+    "--take-over",
     "--calls",
     "--call-inputs",
     "--books",
@@ -50,6 +52,7 @@ struct Programs<'a> {
     standings: Option<&'a str>,
     closeouts: Option<&'a str>,
     needs: Option<&'a str>,
+    take_over: Option<&'a str>,
     calls: Option<&'a str>,
     folder: PathBuf,
 }
@@ -57,7 +60,7 @@ struct Programs<'a> {
 impl Programs<'_> {
     fn reads_days(&self) -> bool {
         let shows = self.standings.or(self.closeouts).or(self.needs);
-        self.day.or(shows).is_some()
+        self.day.or(shows).or(self.take_over).is_some()
     }
 }
 
@@ -70,12 +73,13 @@ pub fn compare(words: &[String]) -> Result<String, String> {
         standings: options.value("--standings"),
         closeouts: options.value("--closeouts"),
         needs: options.value("--needs"),
+        take_over: options.value("--take-over"),
         calls: options.value("--calls"),
         folder: std::env::temp_dir().join(format!("second-compare-{}", std::process::id())),
     };
     if !programs.reads_days() && programs.calls.is_none() {
         return Err(
-            "compare: name a program with --day, --standings, --closeouts, --needs or --calls"
+            "compare: name a program with --day, --standings, --closeouts, --needs, --take-over or --calls"
                 .to_string(),
         );
     }
@@ -225,13 +229,15 @@ fn kinds_met(made: &Made, looks: &Looks, moves: &Moves) -> usize {
 
 /// This program's own answer, with the book's soundness asserted besides, its
 /// modes held against a look at all, its needs against those afresh, what may
-/// be taken out against the rules by the letter, and 13 against its old line.
+/// be taken out against the rules by the letter, 13 against its old line, and
+/// collateral against nine tenths of securities.
 fn own_answer(made: &Made, tally: &mut Tally) -> Result<Own, String> {
     let (mut faults, mut read) = (0, 0);
     let fresh = Book::fresh();
     let (mut looks, mut moves) = (Looks::from(&fresh), Moves::from(&fresh));
     let mut holds = Holds::from(&fresh, &made.bytes);
     let mut margins = Margins::from(&fresh, &made.bytes);
+    let mut tenths = Tenths::from(&fresh, &made.bytes);
     let mut stops = Vec::new();
     let checked = made.kind != MILLION_KIND.0;
     let (out, book, day) = print::day_seen(&made.bytes, |answer, book| {
@@ -242,6 +248,7 @@ fn own_answer(made: &Made, tally: &mut Tally) -> Result<Own, String> {
         faults += usize::from(!moves.after(answer, book));
         faults += usize::from(!holds.after(answer, book));
         faults += usize::from(!margins.after(answer, book));
+        faults += usize::from(!tenths.after(answer, book));
         if kinds_met(made, &looks, &moves) > kinds {
             stops.push(read);
         }
@@ -260,6 +267,7 @@ fn own_answer(made: &Made, tally: &mut Tally) -> Result<Own, String> {
     tally.moves.add(&moves.met);
     tally.holds.add(&holds.met);
     tally.margins.add(&margins.met);
+    tally.tenths.add(&tenths.met);
     tally.refusals[Refusal::Cut as usize] += u64::from(day.closing == Closing::Cut);
     Ok(Own { out, book, stops })
 }

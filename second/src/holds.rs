@@ -1,14 +1,15 @@
-//! K5 by the letter: the answer to every release and unpledge of one day,
+//! K5 and K7's 12 by the letter: the answer to every release and unpledge of one day,
 //! worked out from the book before it, is held against the one given. Counts
 //! what the takings out met.
 
 mod kinds;
 
-use crate::book::{Book, Sort};
+use crate::book::{Book, Sort, Standing, SECURITIES};
 use crate::carry::Answer;
 use crate::dayfile::*;
 use crate::mode::Mode;
 use crate::refusal::Refusal;
+use crate::rule::Rule;
 use std::collections::BTreeMap;
 
 pub use kinds::{Amount, Kind, Place, Turner, Way};
@@ -81,11 +82,19 @@ impl Taking {
         each.all(|(amount, there)| amount <= there)
     }
 
-    /// What is there of the one that is named, if it is one.
+    /// What is there of the one that is named, if it is one and counts in full.
     fn only_there(&self) -> Option<u64> {
         let mut named = (0..5).filter(|&place| self.amounts[place] != 0);
-        let first = named.next()?;
+        let first = named.next().filter(|&place| place != SECURITIES)?;
         named.next().is_none().then_some(self.there[first])
+    }
+
+    /// The collateral that would be left of what is there.
+    fn left(&self, rule: Rule) -> u64 {
+        let each = self.there.iter().zip(&self.amounts);
+        let face: u64 = each.map(|(there, amount)| there - amount).sum();
+        let securities = self.there[SECURITIES] - self.amounts[SECURITIES];
+        face - securities + rule.counted(securities)
     }
 }
 
@@ -134,7 +143,7 @@ impl<'a> Holds<'a> {
             11
         } else if is_members && self.before.modes[taking.account] == Mode::On {
             17
-        } else if taking.sum() > self.free(taking.account) {
+        } else if taking.left(self.before.rule) < self.standing(taking.account).blocked {
             12
         } else {
             0
@@ -145,8 +154,8 @@ impl<'a> Holds<'a> {
         self.before.rows[account].sort
     }
 
-    fn free(&self, account: usize) -> u64 {
-        self.before.standings()[account].free
+    fn standing(&self, account: usize) -> Standing {
+        self.before.standings()[account]
     }
 
     /// The TM or the CM whose mode is told beside the account.
@@ -160,18 +169,19 @@ impl<'a> Holds<'a> {
     fn count(&mut self, taking: &Taking) {
         let (sort, way) = (self.sort(taking.account), taking.way);
         let member = self.member(taking.account);
-        let (mode, free) = (self.before.modes[member], self.free(taking.account));
+        let mode = self.before.modes[member];
+        let Standing { blocked, free, .. } = self.standing(taking.account);
         let amount = taking
             .only_there()
             .and_then(|there| Amount::of(taking.sum(), free, there));
         let mut kinds = Vec::new();
         kinds.extend(amount.map(|amount| Kind::Asked(sort, way, mode, amount)));
-        if taking.is_there() && taking.sum() <= free {
+        if taking.is_there() && taking.left(self.before.rule) >= blocked {
             if self.others_mode(member) != mode {
                 kinds.push(Kind::Beside(sort, way, mode));
             }
             if member == taking.account {
-                let collateral = self.before.rows[member].collateral();
+                let collateral = self.before.collateral(member);
                 let place = Place::of(self.before.uses()[member], collateral);
                 kinds.extend(place.map(|place| Kind::At(sort, way, mode, place)));
                 let turner = self.turned.iter().find(|turned| turned.0 == member);

@@ -103,7 +103,7 @@ impl Looks {
         if answer.refusal() == 0 {
             for (account, used) in book.uses().into_iter().enumerate() {
                 if book.is_member(account) {
-                    self.look(answer.code, account, used, book.rows[account].collateral());
+                    self.look(answer.code, account, used, book.collateral(account));
                 }
             }
             let named = usize::from(answer.account);

@@ -25,9 +25,11 @@ mod print;
 mod programs;
 mod refusal;
 mod rng;
+mod rule;
 mod story;
 mod table;
 mod tally;
+mod tenths;
 #[cfg(test)]
 mod tests;
 mod text;
@@ -45,13 +47,16 @@ second closeouts LOSSFILE [FROM] < DAYFILE
                                          the closing line, then what each loss is paid from
                                          FROM: a book file to start from, - for a fresh book
                                          TO: where to keep the book after the day
+second take_over FROM TO                 the book of FROM taken over to the new rule, kept as TO:
+                                         0, or 1 and TO stays as it was
 second calls < CALLS                     a line per library call, `bad N` at what is none
 second make KIND SEED > DAYFILE          a made-up day: busy hostile bent bounds cuts serials
                                          openings retire shared spent warned wavering
-                                         moved moving held withheld mixed million
+                                         moved moving held withheld mixed haircut
+                                         tens million
 second losses SEED < DAYFILE > LOSSFILE  made-up losses for the book at that day's end
 second make-calls SEED > CALLS           made-up calls
-second compare [--day P] [--standings P] [--closeouts P] [--needs P] [--calls P]
+second compare [--day P] [--standings P] [--closeouts P] [--needs P] [--take-over P] [--calls P]
                [--days N] [--seed S] [--millions K] [--books N] [--call-inputs N] [--trickle]
                                          other programs against this one: on made-up days, on N days
                                          in two pieces with book files, on N inputs of made-up calls
@@ -67,7 +72,8 @@ A story has one book, fresh at first. Lines that change it:
 Calls, each handed the book as it is then:
   is_sound   standing ACCOUNT   carry_out RECORD   carry_out_next PLACE PIECE
   day NUMBER PIECE   read_at PLACE PIECE   write RECORD room N
-  close_out room N losses LOSS ..   needs room N
+  close_out room N losses LOSS ..   needs room N   take_over
+  old CALL, for those that take a book: under the old rule; so are `old do RECORD`, `old settle`
 Other bytes:
   bytes HEX   cut N   # a comment
 WORD: sort live tm received.KIND allocated.KIND pledged margin mode need, KIND one of cash deposits
@@ -97,6 +103,7 @@ fn main() -> ExitCode {
         "standings" => programs::standings(&arguments[1..], &day_file),
         "needs" => programs::needs(&arguments[1..], &day_file),
         "closeouts" => programs::closeouts(&arguments[1..], &day_file),
+        "take_over" => programs::take_over(&arguments[1..]),
         "make" => make_command(&words),
         "make-calls" => make_calls_command(&words),
         "losses" => losses_command(&words),

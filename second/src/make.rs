@@ -3,6 +3,7 @@
 pub mod asked;
 mod bend;
 mod deemed;
+mod haircut;
 mod held;
 mod lengths;
 mod lives;
@@ -14,6 +15,7 @@ mod steer;
 mod uses;
 mod warned;
 
+use crate::dayfile::{ALLOCATE, RECEIVE};
 use maker::Maker;
 
 pub type Kind = (&'static str, fn(&mut Maker));
@@ -21,7 +23,7 @@ pub type Kind = (&'static str, fn(&mut Maker));
 /// The kinds that a comparison goes round. `million` stands apart for its size.
 /// An odd number, so that days fed in small pieces (one in four) are of every
 /// kind.
-pub const ROUND: [Kind; 17] = [
+pub const ROUND: [Kind; 19] = [
     ("busy", steer::busy),
     ("hostile", bend::hostile),
     ("bent", bend::bent),
@@ -39,6 +41,8 @@ pub const ROUND: [Kind; 17] = [
     ("held", held::held),
     ("withheld", held::withheld),
     ("mixed", mixed::mixed),
+    ("haircut", haircut::haircut),
+    ("tens", haircut::tens),
 ];
 
 pub const MILLION_KIND: Kind = ("million", lengths::million);
@@ -48,8 +52,18 @@ pub const NO_LIMIT: usize = usize::MAX / 2;
 pub fn make((name, fill): Kind, seed: u64, room: usize) -> Vec<u8> {
     let stream = name.bytes().fold(0, |sum, byte| sum * 31 + u64::from(byte));
     let mut maker = Maker::new(seed, stream, room);
+    if name != "hostile" {
+        endow(&mut maker);
+    }
     fill(&mut maker);
     maker.bytes
+}
+
+/// Securities in every file: a paisa, which counts as nothing.
+fn endow(maker: &mut Maker) {
+    for code in [RECEIVE, ALLOCATE] {
+        maker.say_kinds(code, 0, [0, 0, 0, 1]);
+    }
 }
 
 pub fn kind_named(name: &str) -> Option<Kind> {

@@ -1,7 +1,7 @@
 //! The programs `day`, `standings`, `needs` and `closeouts`: over a fresh
 //! book, or over the one that FROM holds. A FROM that can't be read, or is no
 //! book, is told and nothing is printed; over one that isn't sound the day
-//! stays unread.
+//! stays unread. And `take_over`, from one book file to another.
 
 use crate::book::{Book, MOST_ACCOUNTS};
 use crate::holds::Holds;
@@ -9,6 +9,7 @@ use crate::looks::Looks;
 use crate::margins::Margins;
 use crate::moves::Moves;
 use crate::table::Table;
+use crate::tenths::Tenths;
 use crate::{bookfile, print, put_out, usage, Output};
 use std::ffi::OsString;
 use std::fs::File;
@@ -21,14 +22,31 @@ type Reading<'a> = &'a dyn Fn() -> Output;
 /// The book to start from, or None where it isn't sound.
 fn start(program: &str, from: Option<&OsString>) -> Result<Option<Book>, String> {
     match from {
-        Some(path) if path != "-" => match bookfile::read_file(path) {
-            Ok(table) => Ok(table.book()),
-            Err(error) => Err(format!(
-                "{program}: cannot read the book: {}: {error}",
-                path.to_string_lossy()
-            )),
-        },
+        Some(path) if path != "-" => Ok(table_of(program, path)?.book()),
         _ => Ok(Some(Book::fresh())),
+    }
+}
+
+fn table_of(program: &str, path: &OsString) -> Result<Table, String> {
+    bookfile::read_file(path).map_err(|error| {
+        format!(
+            "{program}: cannot read the book: {}: {error}",
+            path.to_string_lossy()
+        )
+    })
+}
+
+/// "1 and the same book": then TO stays as it was.
+pub fn take_over(words: &[OsString]) -> Output {
+    let [from, to] = words else {
+        return Err("take_over: a book to take over and where to keep it are expected".to_string());
+    };
+    match table_of("take_over", from)?.taken_over() {
+        None => Ok(b"1\n".to_vec()),
+        Some(after) => {
+            keep("take_over", to, &after)?;
+            Ok(b"0\n".to_vec())
+        }
     }
 }
 
@@ -51,7 +69,7 @@ pub fn day(words: &[OsString], day_file: Reading) -> Output {
         print::day_parts(book, &piece, |_, _| {})
     };
     if let Some(to) = to {
-        keep(to, &after).inspect_err(|_| {
+        keep("day", to, &Table::of(&after)).inspect_err(|_| {
             let _ = put_out(&lines);
         })?;
     }
@@ -60,11 +78,11 @@ pub fn day(words: &[OsString], day_file: Reading) -> Output {
 
 /// The book has its place before the closing line is printed. Where it can't
 /// be kept that line is missing.
-fn keep(to: &OsString, book: &Book) -> Result<(), String> {
-    let kept = bookfile::write_file(Path::new(to), &Table::of(book));
+fn keep(program: &str, to: &OsString, table: &Table) -> Result<(), String> {
+    let kept = bookfile::write_file(Path::new(to), table);
     kept.map_err(|error| {
         format!(
-            "day: cannot keep the book: {}: {error}",
+            "{program}: cannot keep the book: {}: {error}",
             to.to_string_lossy()
         )
     })
@@ -72,16 +90,19 @@ fn keep(to: &OsString, book: &Book) -> Result<(), String> {
 
 /// As `day`, but looks after every record whether the book is sound, its
 /// modes are as a look at all would have them, its needs moved as they can, what
-/// was to be taken out got the answer of the rules, and 13's old line agrees.
+/// was to be taken out got the answer of the rules, 13's old line agrees, and
+/// collateral has nine tenths of securities.
 fn checked_day(book: Book, piece: &[u8]) -> Result<(Vec<u8>, Vec<u8>, Book), String> {
     let (mut seen, mut first_fault) = (0, None);
     let (mut looks, mut moves) = (Looks::from(&book), Moves::from(&book));
     let mut holds = Holds::from(&book, piece);
     let mut margins = Margins::from(&book, piece);
+    let mut tenths = Tenths::from(&book, piece);
     let parts = print::day_parts(book, piece, |answer, book| {
         seen += 1;
         let agrees = looks.after(answer, book) & moves.after(answer, book);
         let agrees = agrees & holds.after(answer, book) & margins.after(answer, book);
+        let agrees = agrees & tenths.after(answer, book);
         let is_sound = book.is_sound() && book.uses_agree() && Table::of(book).is_sound();
         if first_fault.is_none() && !(agrees && is_sound) {
             first_fault = Some(seen);

@@ -21,6 +21,9 @@
 //!     write RECORD room N
 //!     close_out room N losses LOSS ..
 //!     needs room N
+//!     take_over
+//!     old CALL                      a call that takes a book, under the old rule; so are
+//!                                   `old do RECORD` and `old settle`
 //!
 //!     bytes HEX                     bytes as they stand, for what is no call
 //!     cut N                         takes the last N bytes off again
@@ -37,6 +40,7 @@ use crate::bookfile::{self, PLACE, PLACES};
 use crate::calls::Call;
 use crate::carry::carry_values;
 use crate::dayfile::{Next, Reader, Values};
+use crate::rule::Rule;
 use crate::table::{Table, MODE, NEED, WIDTHS, WORDS};
 use crate::text::{hex_bytes, line_bytes, moved_on, parsed};
 pub use read::{read, short};
@@ -76,11 +80,22 @@ impl Story {
                 Ok(())
             }
             ("cut", [many]) => self.cut(parsed(many, "number of bytes")?),
-            ("fresh" | "do" | "set" | "count" | "serial" | "settle" | "byte", words) => {
-                self.change(word, rest, words)
-            }
+            ("fresh" | "set" | "count" | "serial" | "byte", words) => self.change(word, words),
+            ("old", _) => self.work(rest.trim_start(), Rule::Old),
+            _ => self.work(said, Rule::New),
+        }
+    }
+
+    /// What goes by a rule: a record done, needs settled, a call.
+    fn work(&mut self, said: &str, rule: Rule) -> Done {
+        let (word, rest) = said.split_once(char::is_whitespace).unwrap_or((said, ""));
+        let words: Vec<&str> = rest.split_whitespace().collect();
+        match (word, words.as_slice()) {
+            ("do", _) => self.carry_out(rest, rule),
+            ("settle", []) => self.settle(rule),
             (_, words) => {
-                let call = self.call(word, rest, words)?;
+                let call = self.call(word, rest, words)?.under(rule);
+                let call = call.ok_or_else(|| format!("`{word}` has no old rule"))?;
                 let book = call.book().map_or(&[][..], |_| &self.book);
                 call.lay_over(&mut self.out, book);
                 Ok(())
@@ -95,14 +110,12 @@ impl Story {
         Ok(())
     }
 
-    fn change(&mut self, word: &str, rest: &str, words: &[&str]) -> Done {
+    fn change(&mut self, word: &str, words: &[&str]) -> Done {
         match (word, words) {
             ("fresh", []) => self.book = bookfile::bytes(&Table::fresh()),
-            ("do", _) => self.carry_out(rest)?,
             ("set", [place, word, value]) => self.set(place, word, value)?,
             ("count", [count]) => self.put(4, 2, parsed(count, "number of accounts")?)?,
             ("serial", [serial]) => self.put(6, 2, parsed(serial, "serial")?)?,
-            ("settle", []) => self.settle()?,
             ("byte", [at, value]) => self.put(parsed(at, "place")?, 1, parsed(value, "byte")?)?,
             _ => return Err(format!("`{word}` is said otherwise")),
         }
@@ -137,9 +150,9 @@ impl Story {
     }
 
     /// "The book isn't sound" is no part of a story that goes on.
-    fn carry_out(&mut self, said: &str) -> Done {
+    fn carry_out(&mut self, said: &str, rule: Rule) -> Done {
         let record = self.record(said)?;
-        let book = self.table()?.book();
+        let book = self.table()?.book_by(rule);
         let mut book = book.ok_or("the book isn't sound")?;
         match carry_values(&mut book, &record).refusal() {
             0 => {
@@ -150,9 +163,9 @@ impl Story {
         }
     }
 
-    fn settle(&mut self) -> Done {
+    fn settle(&mut self, rule: Rule) -> Done {
         let mut table = self.table()?;
-        for (place, need) in table.needs_afresh().into_iter().enumerate() {
+        for (place, need) in table.needs_afresh(rule).into_iter().enumerate() {
             let need = u64::try_from(need);
             table.places[place][NEED] = need.map_err(|_| "a need is past its word")?;
         }
@@ -219,6 +232,7 @@ impl Story {
                 Call::CloseOut(book, numbers(losses)?, parsed(room, "room")?)
             }
             ("needs", ["room", room]) => Call::Needs(book, parsed(room, "room")?),
+            ("take_over", []) => Call::TakeOver(book),
             _ => return Err(format!("unknown word `{word}`, or it is said otherwise")),
         };
         Ok(call)

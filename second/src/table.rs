@@ -1,9 +1,11 @@
 //! A book word by word, as it may be handed over from outside: sound or not.
 
 mod faults;
+mod takeover;
 
 use crate::book::{Book, Row, Sort, KINDS, MOST_ACCOUNTS};
 use crate::mode::Mode;
+use crate::rule::Rule;
 pub use faults::Fault;
 
 /// The words of a place, in the order of the written form.
@@ -31,6 +33,8 @@ pub const LIVE: usize = 1;
 pub const TM: usize = 2;
 pub const RECEIVED: usize = 3;
 pub const ALLOCATED: usize = 7;
+/// Those allocated.
+pub const SECURITIES: usize = 10;
 pub const PLEDGED: usize = 11;
 pub const MARGIN: usize = 12;
 pub const MODE: usize = 13;
@@ -79,7 +83,11 @@ impl Table {
 
     /// The book to work with, or None where it isn't sound.
     pub fn book(&self) -> Option<Book> {
-        if !self.is_sound() {
+        self.book_by(Rule::New)
+    }
+
+    pub fn book_by(&self, rule: Rule) -> Option<Book> {
+        if !self.is_sound_by(rule) {
             return None;
         }
         let count = usize::from(self.count);
@@ -93,7 +101,14 @@ impl Table {
         };
         let modes = std::array::from_fn(|account| mode(&self.places[account]));
         let needs = std::array::from_fn(|account| self.places[account][NEED]);
-        Some(Book::handed_over(rows, count, self.serial, modes, needs))
+        Some(Book::handed_over(
+            rule,
+            rows,
+            count,
+            self.serial,
+            modes,
+            needs,
+        ))
     }
 }
 

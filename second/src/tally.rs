@@ -4,7 +4,7 @@ use crate::book::Sort;
 use crate::carry::Answer;
 use crate::holds;
 use crate::looks::{self, KINDS};
-use crate::{margins, moves};
+use crate::{margins, moves, tenths};
 
 /// Slots 0 to 17 count answers by refusal.
 #[derive(Default)]
@@ -16,6 +16,7 @@ pub struct Tally {
     pub moves: moves::Met,
     pub holds: holds::Met,
     pub margins: margins::Met,
+    pub tenths: tenths::Met,
     /// How often a day was stopped on the way to ask for standings and needs.
     pub stops: u64,
 }
@@ -51,11 +52,13 @@ impl Tally {
             holds("clients", &self.holds, Sort::Client),
             holds("CPs", &self.holds, Sort::Cp),
             margins(&self.margins),
+            tenths(&self.tenths),
         ];
         lines.join("\n")
     }
 
-    /// The kinds of looks, moves, takings out and margins that weren't met.
+    /// The kinds of looks, moves, takings out, margins and turns on the tenth
+    /// that weren't met.
     pub fn missed(&self) -> Vec<String> {
         let looks = [("TMs", &self.looks.tms[..]), ("the CM", &self.looks.cm)];
         let looks = looks.into_iter().flat_map(|(whose, met)| {
@@ -66,12 +69,15 @@ impl Tally {
         moves.retain(|kind| self.moves.times(kind) == 0);
         let mut holds = holds::Kind::all();
         holds.retain(|kind| self.holds.times(kind) == 0);
+        let mut tenths = tenths::Kind::all();
+        tenths.retain(|kind| self.tenths.times(kind) == 0);
         let margins = margins::KINDS.iter().zip(self.margins.0);
         let margins = margins.filter(|(_, many)| *many == 0);
         looks
             .chain(margins.map(|(&kind, _)| format!("at full use: {}", margins::words(kind))))
             .chain(moves.iter().map(|kind| format!("{kind:?}")))
             .chain(holds.iter().map(|kind| format!("{kind:?}")))
+            .chain(tenths.iter().map(|kind| format!("{kind:?}")))
             .collect()
     }
 }
@@ -101,6 +107,14 @@ fn margins(met: &margins::Met) -> String {
     let kinds = margins::KINDS.iter().zip(met.0);
     let kinds = kinds.map(|(&kind, many)| (margins::words(kind), many));
     format!("margins at full use, {}", counted(kinds.collect()))
+}
+
+fn tenths(met: &tenths::Met) -> String {
+    let kinds = tenths::Kind::all();
+    let kinds = kinds
+        .iter()
+        .map(|kind| (format!("{kind:?}"), met.times(kind)));
+    format!("tenths of securities, {}", counted(kinds.collect()))
 }
 
 fn counted(kinds: Vec<(String, u64)>) -> String {

@@ -5,7 +5,7 @@ use crate::carry::Carried;
 use crate::kinds::Amounts;
 use crate::record::Record;
 use crate::refusal::Refusal;
-use crate::row::Row;
+use crate::row::{counted, Row};
 
 fn more_than_unallocated(row: &Row, kinds: &impl Amounts) -> bool {
     kinds.any(|kind, amount| amount > row.received[kind] - row.allocated[kind])
@@ -39,22 +39,25 @@ impl Book {
         }
         self.change(number, |row| {
             kinds.each(|kind, amount| row.allocated[kind] += amount);
-            row.collateral += kinds.sum();
+            row.collateral = counted(&row.allocated, row.pledged);
         });
         Ok(0)
     }
 
-    /// 11 looks at each kind, 12 at "its kinds added up".
+    /// 11 looks at each kind.
     pub fn release(&mut self, record: &Record, kinds: impl Amounts) -> Carried {
         let number = self.live(record)?;
         let row = self.row(number);
         if kinds.any(|kind, amount| amount > row.allocated[kind]) {
             return Err(Refusal::MoreThanThere);
         }
-        may_take_out(row, kinds.sum())?;
+        let mut left = row.allocated;
+        kinds.each(|kind, amount| left[kind] -= amount);
+        let collateral = counted(&left, row.pledged);
+        may_leave(row, collateral)?;
         self.change(number, |row| {
-            kinds.each(|kind, amount| row.allocated[kind] -= amount);
-            row.collateral -= kinds.sum();
+            row.allocated = left;
+            row.collateral = collateral;
         });
         Ok(0)
     }
@@ -77,7 +80,7 @@ impl Book {
         if amount > row.pledged {
             return Err(Refusal::MoreThanThere);
         }
-        may_take_out(row, amount)?;
+        may_leave(row, row.collateral - amount)?;
         self.change(number, |row| {
             row.pledged -= amount;
             row.collateral -= amount;
@@ -103,12 +106,13 @@ impl Book {
     }
 }
 
-/// 17, then 12, of an amount that is there.
-fn may_take_out(row: &Row, amount: u64) -> Result<(), Refusal> {
+/// 17, then 12: "the collateral left after a release or unpledge would be below
+/// what was blocked".
+fn may_leave(row: &Row, collateral: u64) -> Result<(), Refusal> {
     if row.mode {
         return Err(Refusal::KeptIn);
     }
-    if amount > row.free() {
+    if collateral < row.blocked() {
         return Err(Refusal::MoreThanFree);
     }
     Ok(())

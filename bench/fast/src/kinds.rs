@@ -6,7 +6,6 @@ use crate::row::KINDS;
 pub trait Amounts {
     fn any(&self, test: impl Fn(usize, u64) -> bool) -> bool;
     fn each(&self, put: impl FnMut(usize, u64));
-    fn sum(&self) -> u64;
 }
 
 pub struct OneKind {
@@ -26,10 +25,6 @@ impl Amounts for OneKind {
     fn each(&self, mut put: impl FnMut(usize, u64)) {
         put(self.kind, self.amount);
     }
-
-    fn sum(&self) -> u64 {
-        self.amount
-    }
 }
 
 impl Amounts for Kinds {
@@ -41,9 +36,5 @@ impl Amounts for Kinds {
     fn each(&self, mut put: impl FnMut(usize, u64)) {
         let kinds = self.amounts.iter().enumerate();
         kinds.for_each(|(kind, &amount)| put(kind, amount));
-    }
-
-    fn sum(&self) -> u64 {
-        self.amounts.iter().sum()
     }
 }

@@ -22,7 +22,7 @@ pub struct Row {
     pub allocated: [u64; KINDS],
     pub pledged: u64,
     pub margin: u64,
-    /// The four allocated amounts and pledged.
+    /// What `counted` gives for the allocated amounts and pledged.
     pub collateral: u64,
     /// The margin and what those directly under it are deemed.
     pub need: u64,
@@ -35,6 +35,13 @@ pub struct Row {
     pub sort: Sort,
     /// Risk reduction mode.
     pub mode: bool,
+}
+
+/// K7: "cash, fixed deposits, guarantees and pledged, plus allocated government
+/// securities less a tenth, the tenth rounded up to a paisa".
+pub fn counted(allocated: &[u64; KINDS], pledged: u64) -> u64 {
+    let [cash, deposits, guarantees, securities] = *allocated;
+    cash + deposits + guarantees + pledged + securities - securities.div_ceil(10)
 }
 
 /// What an account leaves to the one that answers for it.
@@ -76,8 +83,8 @@ impl Row {
         self.received == [0; KINDS] && self.collateral == 0 && self.margin == 0
     }
 
-    pub fn free(&self) -> u64 {
-        self.collateral.saturating_sub(self.need)
+    pub fn blocked(&self) -> u64 {
+        self.need.min(self.collateral)
     }
 
     pub fn left(&self) -> Left {

@@ -19,3 +19,4 @@ pub mod SoundInPlace
 pub mod SoundTest
 pub mod StandingRefusals
 pub mod NeedsAnswers
+pub mod TakeOver

@@ -42,7 +42,7 @@ sound-rows b s = record {
 
 -- what the list says of rows looks neither at the serial nor at modes and kept needs
 pub rows-alone : (b : Book) (n : ℕ) (modes : List Bool) (needs : List ℕ) → SoundRows b
-    → SoundRows (record { count = b .count; serial = n; rows = b .rows; modes = modes; needs = needs })
+    → SoundRows (record { rule = b .rule; count = b .count; serial = n; rows = b .rows; modes = modes; needs = needs })
 rows-alone b n modes needs s = record {
   table = s .table;
   most = s .most;

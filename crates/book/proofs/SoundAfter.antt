@@ -10,12 +10,13 @@ use Rattle.sums.proofs.Choices.{test-clash}
 use Rattle.rows.specs.declared.Kinds.{Kinds}
 use Rattle.rows.specs.declared.Row.{Row}
 use Rattle.rows.specs.declared.Book.{Book}
-use Rattle.rows.specs.View.{blocked, free}
+use Rattle.rows.specs.View.{blocked}
 use Rattle.rows.specs.Facts.{Covered, KindsWithin, InRange}
 use Rattle.rows.specs.Ranges.{ceilings, noAmounts}
-use Rattle.rows.specs.Rows.{ceiling, rowAt, addedUp, collateral, view, openedRow, plusKinds, lessKinds, withReceived, withAllocated, withPledged, withMargin, withLive, places, withSerial, withRow, withNew}
+use Rattle.rows.specs.Rows.{ceiling, rowAt, collateral, view, openedRow, plusKinds, lessKinds, withReceived, withAllocated, withPledged, withMargin, withLive, places, withSerial, withRow, withNew}
 use Rattle.book.specs.Facts.{SoundRows, Sound}
 use Rattle.book.proofs.Settled.{sound-rows, rows-alone, with-rest}
+use Rattle.rows.proofs.Counted.{counted-rises}
 use Rattle.rows.proofs.RowPut.{row-other, row-places, new-places, opened-new, opened-below, opened-above}
 use Rattle.book.proofs.NoWorse.{no-worse-covered}
 use Rattle.book.proofs.Opens.{Opened, opened-covered, opened-shaped}
@@ -73,7 +74,7 @@ module _ (b : Book) (s : Sound b) (i : ℕ) (m : i < b .count) (live : rowAt b i
 
   -- the margin doesn't rise, and collateral stays no lower than blocked
   pub no-worse-sound : (r : Row) → r .sort ≡ rowAt b i .sort → r .tm ≡ rowAt b i .tm → r .live ≡ true → InRange r
-      → r .margin ≤ rowAt b i .margin → blocked (view b) i ≤ collateral r → SoundRows (withRow b i r)
+      → r .margin ≤ rowAt b i .margin → blocked (view b) i ≤ collateral (b .rule) r → SoundRows (withRow b i r)
   no-worse-sound r ec et el f hm hb =
       amounts-sound r ec et el f
       (no-worse-covered (view b) (view (withRow b i r)) (row-no-worse b i r (in-table b s i m) ec et hm hb) (s .shaped .top) (s .covered))
@@ -90,20 +91,24 @@ module _ (b : Book) (s : Sound b) (i : ℕ) (m : i < b .count) (live : rowAt b i
 
   pub allocate-sound : (k : Kinds) → KindsWithin k (lessKinds (rowAt b i .received) (rowAt b i .allocated))
       → SoundRows (withRow b i (withAllocated (rowAt b i) (plusKinds (rowAt b i .allocated) k)))
-  allocate-sound k h = no-worse-sound _ refl refl live (omega (arith, s .ranges i m)) (omega arith) (omega arith)
+  allocate-sound k h =
+      no-worse-sound _ refl refl live (omega (arith, s .ranges i m)) (omega arith)
+      (omega (arith, counted-rises (b .rule) (rowAt b i .allocated .securities) (rowAt b i .allocated .securities + k .securities) (omega arith)))
 
   -- 11 and 12 do not apply
-  pub release-sound : (k : Kinds) → KindsWithin k (rowAt b i .allocated) → addedUp k ≤ free (view b) i
+  pub release-sound : (k : Kinds) → KindsWithin k (rowAt b i .allocated)
+      → blocked (view b) i ≤ collateral (b .rule) (withAllocated (rowAt b i) (lessKinds (rowAt b i .allocated) k))
       → SoundRows (withRow b i (withAllocated (rowAt b i) (lessKinds (rowAt b i .allocated) k)))
-  release-sound k h f = no-worse-sound _ refl refl live (omega (arith, s .ranges i m)) (omega arith) (omega arith)
+  release-sound k h f = no-worse-sound _ refl refl live (omega (arith, s .ranges i m)) (omega arith) f
 
   -- 10 does not apply
   pub pledge-sound : (y : ℕ) → rowAt b i .pledged + y ≤ ceiling → SoundRows (withRow b i (withPledged (rowAt b i) (rowAt b i .pledged + y)))
   pledge-sound y h = no-worse-sound _ refl refl live (omega (arith, s .ranges i m)) (omega arith) (omega arith)
 
   -- 11 and 12 do not apply
-  pub unpledge-sound : (y : ℕ) → y ≤ rowAt b i .pledged → y ≤ free (view b) i → SoundRows (withRow b i (withPledged (rowAt b i) (rowAt b i .pledged - y)))
-  unpledge-sound y h f = no-worse-sound _ refl refl live (omega (arith, s .ranges i m)) (omega arith) (omega arith)
+  pub unpledge-sound : (y : ℕ) → y ≤ rowAt b i .pledged → blocked (view b) i ≤ collateral (b .rule) (withPledged (rowAt b i) (rowAt b i .pledged - y))
+      → SoundRows (withRow b i (withPledged (rowAt b i) (rowAt b i .pledged - y)))
+  unpledge-sound y h f = no-worse-sound _ refl refl live (omega (arith, s .ranges i m)) (omega arith) f
 
   -- 13 does not apply
   pub margin-sound : (y : ℕ) → y ≤ ceiling → Covered (view (withRow b i (withMargin (rowAt b i) y))) → SoundRows (withRow b i (withMargin (rowAt b i) y))

@@ -2,5 +2,6 @@ pub mod Sound
 pub mod Asked
 pub mod NeedsListed
 pub mod Evening
+pub mod TakeOver
 pub mod Facts
 pub mod Inner

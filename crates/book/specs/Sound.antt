@@ -54,7 +54,7 @@ formedB b = leb 1 (b .count) && leb (b .count) 256 && all 256 (rowSound b) && eq
 
 -- "The CM's need, defined below, is at most the CM's collateral."
 unfoldable pub coveredB : Book → Bool
-coveredB b = leb (needCM (view b)) (collateral (rowAt b 0))
+coveredB b = leb (needCM (view b)) (collateral (b .rule) (rowAt b 0))
 
 -- document 02, K3: "A sound book now includes that each kept need equals the need worked out afresh"
 abbrev pub keptB : Book → Bool

@@ -11,6 +11,7 @@ ghost use Rattle.rows.specs.Inner.{Ranged};
 ghost use Rattle.table.specs.Facts.{seenBook};
 ghost use Rattle.book.specs.Asked.{figuresOf, noFigures};
 use super::Figures;
+use rows::Rule;
 use rows::deemed::need_by;
 use rows::needs::blocked_of;
 use table::needs::account_at;
@@ -23,11 +24,12 @@ pub(crate) fn figures<'a>(
     i: usize,
     kept: u64,
     mode: bool,
+    rule: Rule,
 ) -> Figures
-    requires { ⌜ Ranged (seenBook count (now sort) (now tm) (now w)) × Shaped (view (seenBook count (now sort) (now tm) (now w))) × (i < count) × (kept ≡ keptNeed (view (seenBook count (now sort) (now tm) (now w))) i) ⌝ }
-    ensures { λ x. ⌜ x ≡ figuresOf (view (seenBook count (now (sort .entry)) (now (tm .entry)) (now (w .entry)))) mode i ⌝ }
+    requires { ⌜ Ranged (seenBook rule count (now sort) (now tm) (now w)) × Shaped (view (seenBook rule count (now sort) (now tm) (now w))) × (i < count) × (kept ≡ keptNeed (view (seenBook rule count (now sort) (now tm) (now w))) i) ⌝ }
+    ensures { λ x. ⌜ x ≡ figuresOf (view (seenBook rule count (now (sort .entry)) (now (tm .entry)) (now (w .entry)))) mode i ⌝ }
 {
-    let a = account_at(sort, tm, w, i);
+    let a = account_at(sort, tm, w, i, rule);
     let n = need_by(a, kept);
     let c = a.collateral;
     let k = blocked_of(n, c);
@@ -63,15 +65,16 @@ pub(crate) fn put_needs<'a>(
     needs: &'a [u64; 256],
     count: u16,
     room: &mut [u64],
+    rule: Rule,
 )
-    requires { ⌜ Ranged (seenBook count (now sort) (now tm) (now w)) × Shaped (view (seenBook count (now sort) (now tm) (now w))) ⌝ }
-    requires { ⌜ NeedsKept (view (seenBook count (now sort) (now tm) (now w))) (now needs) × (length (now room) ≡ count) ⌝ }
-    ensures { λ _. ⌜ now (room .exit) ≡ listTo (need (view (seenBook count (now (sort .entry)) (now (tm .entry)) (now (w .entry))))) count ⌝ }
+    requires { ⌜ Ranged (seenBook rule count (now sort) (now tm) (now w)) × Shaped (view (seenBook rule count (now sort) (now tm) (now w))) ⌝ }
+    requires { ⌜ NeedsKept (view (seenBook rule count (now sort) (now tm) (now w))) (now needs) × (length (now room) ≡ count) ⌝ }
+    ensures { λ _. ⌜ now (room .exit) ≡ listTo (need (view (seenBook rule count (now (sort .entry)) (now (tm .entry)) (now (w .entry))))) count ⌝ }
 {
     let n = count as usize;
     let mut i: usize = 0;
     while i < n {
-        let a = account_at(sort, tm, w, i);
+        let a = account_at(sort, tm, w, i, rule);
         room[i] = need_by(a, needs[i]);
         i += 1;
     }

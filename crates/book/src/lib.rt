@@ -6,14 +6,19 @@ ghost use Rattle.book.specs.Sound.{soundB};
 ghost use Rattle.book.specs.Asked.{standingOf};
 ghost use Rattle.book.specs.NeedsListed.{needsRefusal, needsRoom};
 ghost use Rattle.book.specs.Evening.{eveningOf};
+ghost use Rattle.book.specs.TakeOver.{takeOverRefusal, takenOver};
 
 mod blocking;
+pub mod by_rule;
 mod evening;
 pub mod sound;
 
 pub use rows::CEILING;
+use rows::Rule;
 use sound::table_sound;
 pub use table::Table;
+use table::needs::account_at;
+use table::needs::needs_afresh;
 
 // A standing's five figures and the account's mode, behind the refusal number or 0.
 pub struct Figures {
@@ -46,6 +51,12 @@ pub struct Summed {
     pub total: u64,
 }
 
+// The refusal number or 0, and the table after it.
+pub struct Taken {
+    pub refusal: u8,
+    pub table: Table,
+}
+
 pub fn fresh() -> Table
     ensures { λ r. ⌜ r ≡ turned freshBook ⌝ }
 {
@@ -66,43 +77,13 @@ pub fn fresh() -> Table
 pub fn is_sound(t: Table) -> bool
     ensures { λ r. ⌜ r ≡ soundB (turnedBack t) ⌝ }
 {
-    let count = t.count;
-    table_sound(
-        &t.sort,
-        &t.live,
-        &t.tm,
-        &t.amounts,
-        &t.modes,
-        &t.needs,
-        count,
-    )
+    by_rule::is_sound(t, Rule::New)
 }
 
 pub fn standing(t: Table, account: u16) -> Figures
     ensures { λ r. ⌜ r ≡ standingOf (turnedBack t) account ⌝ }
 {
-    let count = t.count;
-    if !table_sound(
-        &t.sort,
-        &t.live,
-        &t.tm,
-        &t.amounts,
-        &t.modes,
-        &t.needs,
-        count,
-    ) {
-        return blocking::refused(1);
-    }
-    if account >= count {
-        return blocking::refused(7);
-    }
-    let i = account as usize;
-    if !t.live[i] {
-        return blocking::refused(7);
-    }
-    let mode = t.modes[i];
-    let kept = t.needs[i];
-    blocking::figures(&t.sort, &t.tm, &t.amounts, count, i, kept, mode)
+    by_rule::standing(t, account, Rule::New)
 }
 
 // The needs of all accounts, one for each place of the room: the refusal, or 0 (K3).
@@ -110,23 +91,7 @@ pub fn needs(t: Table, room: &mut [u64]) -> u8
     ensures { λ r. ⌜ r ≡ needsRefusal (turnedBack t) (now (room .entry)) ⌝ }
     ensures { λ _. ⌜ now (room .exit) ≡ needsRoom (turnedBack t) (now (room .entry)) ⌝ }
 {
-    let count = t.count;
-    if !table_sound(
-        &t.sort,
-        &t.live,
-        &t.tm,
-        &t.amounts,
-        &t.modes,
-        &t.needs,
-        count,
-    ) {
-        return 1;
-    }
-    if room.len() != count as usize {
-        return 15;
-    }
-    blocking::put_needs(&t.sort, &t.tm, &t.amounts, &t.needs, count, room);
-    0
+    by_rule::needs(t, room, Rule::New)
 }
 
 // The evening sums: an amount of all accounts, out of its own run of words.
@@ -142,6 +107,7 @@ pub fn amount_sum(t: Table, amount: Amount) -> Summed
         &t.modes,
         &t.needs,
         count,
+        Rule::New,
     ) {
         return Summed {
             refusal: 1,
@@ -152,4 +118,46 @@ pub fn amount_sum(t: Table, amount: Amount) -> Summed
     let k = evening::amount_number(amount);
     let total = table::evening::amount_sum(&t.amounts, k, n);
     Summed { refusal: 0, total }
+}
+
+// Takes a book over to the new rule (K7): 1 and the same book, or 0 and the book with its kept needs worked out afresh.
+pub fn take_over(t: Table) -> Taken
+    ensures { λ r. ⌜ r ≡ record { refusal = takeOverRefusal (turnedBack t); table = turned (takenOver (turnedBack t)) } ⌝ }
+{
+    let sort = t.sort;
+    let live = t.live;
+    let tm = t.tm;
+    let amounts = t.amounts;
+    table::sizes(sort, live, tm, amounts);
+    let count = t.count;
+    if !table_sound(
+        &sort,
+        &live,
+        &tm,
+        &amounts,
+        &t.modes,
+        &t.needs,
+        count,
+        Rule::Old,
+    ) {
+        return Taken {
+            refusal: 1,
+            table: t,
+        };
+    }
+    let mut needs = [0u64; 256];
+    needs_afresh(&sort, &tm, &amounts, count, &mut needs, Rule::New);
+    let cm = account_at(&sort, &tm, &amounts, 0, Rule::New);
+    if cm.collateral < needs[0] {
+        return Taken {
+            refusal: 1,
+            table: t,
+        };
+    }
+    let mut after = t;
+    after.needs = needs;
+    Taken {
+        refusal: 0,
+        table: after,
+    }
 }

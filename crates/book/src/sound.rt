@@ -7,11 +7,13 @@ ghost use lib.Dec.{eqb};
 ghost use lib.ListN.{getD};
 ghost use Rattle.sums.specs.Sum.{all};
 ghost use Rattle.sums.specs.Choice.{pick};
+ghost use Rattle.rows.specs.declared.Rule.the-variants.{New};
 ghost use Rattle.rows.specs.Ranges.{noAmounts, inRange};
 ghost use Rattle.table.specs.Words.{marksFrom, bookFrom};
 ghost use Rattle.book.specs.Sound.{isTop, goodSort, rowSound, soundB};
 ghost use Rattle.book.specs.Inner.{marked, amountsAt, modesAt};
 use rows::CEILING;
+use rows::Rule;
 use rows::needs::slot;
 use rows::ranges::kinds_capped;
 use rows::ranges::kinds_within;
@@ -96,7 +98,7 @@ fn good_row<'a>(
     i: usize,
 ) -> bool
     requires { ⌜ i < 256 ⌝ }
-    ensures { λ x. ⌜ x ≡ rowSound (bookFrom n 0 (marksFrom (now (sort .entry)) (now (live .entry)) (now (tm .entry))) (now (w .entry)) [] []) i ⌝ }
+    ensures { λ x. ⌜ x ≡ rowSound (bookFrom New n 0 (marksFrom (now (sort .entry)) (now (live .entry)) (now (tm .entry))) (now (w .entry)) [] []) i ⌝ }
 {
     let own = mark_at(sort, live, tm, i);
     let its = mark_at(sort, live, tm, slot(own.tm));
@@ -114,7 +116,7 @@ fn rows_sound<'a>(
     w: &'a [u64; 2560],
     count: u16,
 ) -> bool
-    ensures { λ x. ⌜ x ≡ all 256 (rowSound (bookFrom count 0 (marksFrom (now (sort .entry)) (now (live .entry)) (now (tm .entry))) (now (w .entry)) [] [])) ⌝ }
+    ensures { λ x. ⌜ x ≡ all 256 (rowSound (bookFrom New count 0 (marksFrom (now (sort .entry)) (now (live .entry)) (now (tm .entry))) (now (w .entry)) [] [])) ⌝ }
 {
     let n = count as usize;
     let mut ok = true;
@@ -149,8 +151,9 @@ pub fn table_sound<'a>(
     modes: &'a [bool; 256],
     needs: &'a [u64; 256],
     count: u16,
+    rule: Rule,
 ) -> bool
-    ensures { λ x. ⌜ x ≡ soundB (bookFrom count 0 (marksFrom (now (sort .entry)) (now (live .entry)) (now (tm .entry))) (now (w .entry)) (now (modes .entry)) (now (needs .entry))) ⌝ }
+    ensures { λ x. ⌜ x ≡ soundB (bookFrom rule count 0 (marksFrom (now (sort .entry)) (now (live .entry)) (now (tm .entry))) (now (w .entry)) (now (modes .entry)) (now (needs .entry))) ⌝ }
 {
     if count < 1 {
         return false;
@@ -164,9 +167,9 @@ pub fn table_sound<'a>(
     if !modes_sound(sort, live, modes) {
         return false;
     }
-    if !needs_kept(sort, tm, w, count, needs) {
+    if !needs_kept(sort, tm, w, count, needs, rule) {
         return false;
     }
-    let cm = account_at(sort, tm, w, 0);
+    let cm = account_at(sort, tm, w, 0, rule);
     needs[0] <= cm.collateral
 }

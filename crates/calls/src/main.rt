@@ -12,6 +12,7 @@ mod held;
 mod lines;
 mod pieces;
 mod rooms;
+mod ruled;
 mod taken;
 
 // More calls than any input holds: the loop must have an end.

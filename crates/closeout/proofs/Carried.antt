@@ -44,7 +44,7 @@ module _ (b : Book) (losses room : List ℕ) (ok : closeOutRefusal b losses room
   carried-room = rw ok
 
   -- "A client or CP pays the lesser of loss and collateral from its own."
-  pub carried-own : (i : ℕ) → i < b .count → isClientOrCP (view b) i ≡ true → cellOf b losses room i 0 ≡ min (lossAt losses i) (collateral (rowAt b i))
+  pub carried-own : (i : ℕ) → i < b .count → isClientOrCP (view b) i ≡ true → cellOf b losses room i 0 ≡ min (lossAt losses i) (collateral (b .rule) (rowAt b i))
   carried-own i m e =
       rw (add-zero (4 * i), carried-room) (own-cell (view b) (lossAt losses) (b .count) i m ∙ pays-own (view b) (lossAt losses) i e)
 
@@ -71,10 +71,10 @@ module _ (b : Book) (losses room : List ℕ) (ok : closeOutRefusal b losses room
 -- no other account has a say in what a client or CP pays from its own: two calls that were carried out and agree on account i's
 -- loss and collateral put the same amount into its first cell
 pub own-paid-alone : (b c : Book) (losses others room space : List ℕ) → closeOutRefusal b losses room ≡ 0 → closeOutRefusal c others space ≡ 0 → (i : ℕ)
-    → i < b .count → i < c .count → isClientOrCP (view b) i ≡ true → isClientOrCP (view c) i ≡ true → lossAt losses i ≡ lossAt others i → collateral (rowAt b i) ≡ collateral (rowAt c i)
+    → i < b .count → i < c .count → isClientOrCP (view b) i ≡ true → isClientOrCP (view c) i ≡ true → lossAt losses i ≡ lossAt others i → collateral (b .rule) (rowAt b i) ≡ collateral (c .rule) (rowAt c i)
     → cellOf b losses room i 0 ≡ cellOf c others space i 0
 own-paid-alone b c losses others room space p q i m n x y e f =
-    carried-own b losses room p i m x ∙ ap (λ (x : ℕ). min x (collateral (rowAt b i))) e ∙ ap (min (lossAt others i)) f
+    carried-own b losses room p i m x ∙ ap (λ (x : ℕ). min x (collateral (b .rule) (rowAt b i))) e ∙ ap (min (lossAt others i)) f
     ∙ sym (carried-own c others space q i n y)
 
 -- the total given is at most the losses beyond the margins, whatever was asked

@@ -49,7 +49,7 @@ module _ (row : Row) (count : ℕ) (beside : Beside) (r : Record) where
   left-own (inl e) = own 5 e ∙ simp or-false
   left-own (inr e) = own 6 e ∙ simp or-false
 
-  pub release-own : r .code ≡ 7 → first (from8 row count beside r) ≡ first (releaseLines row (beside .mode) (beside .free) (r .kinds))
+  pub release-own : r .code ≡ 7 → first (from8 row count beside r) ≡ first (releaseLines row (beside .mode) (beside .below) (r .kinds))
   unfolding first pick
   release-own e = own 7 e ∙ simp or-false
 
@@ -57,7 +57,7 @@ module _ (row : Row) (count : ℕ) (beside : Beside) (r : Record) where
   unfolding first pick
   pledge-own e = own 8 e
 
-  pub unpledge-own : r .code ≡ 9 → first (from8 row count beside r) ≡ first (unpledgeLines row (beside .mode) (beside .free) (r .pledged))
+  pub unpledge-own : r .code ≡ 9 → first (from8 row count beside r) ≡ first (unpledgeLines row (beside .mode) (beside .below) (r .pledged))
   unfolding first pick
   unpledge-own e = own 9 e
 

@@ -12,6 +12,7 @@ use own::release;
 use own::retire;
 use own::set_margin;
 use own::unpledge;
+use rows::Rule;
 
 pub mod own;
 pub mod settling;
@@ -52,9 +53,10 @@ pub fn amend(
     on: bool,
     count: u16,
     r: Record,
+    rule: Rule,
 ) -> u8
     requires { ⌜ Amending count (marksFrom (now sort) (now live) (now tm)) (now w) (deemedUnderIn (now w) (now needs)) r ⌝ }
-    ensures { λ x. ⌜ Answered count (marksFrom (now (sort .entry)) (now (live .entry)) (now (tm .entry))) (now (w .entry)) (deemedUnderIn (now (w .entry)) (now (needs .entry))) on r x (marksFrom (now (sort .entry)) (now (live .exit)) (now (tm .entry))) (now (w .exit)) ⌝ }
+    ensures { λ x. ⌜ Answered rule count (marksFrom (now (sort .entry)) (now (live .entry)) (now (tm .entry))) (now (w .entry)) (deemedUnderIn (now (w .entry)) (now (needs .entry))) on r x (marksFrom (now (sort .entry)) (now (live .exit)) (now (tm .entry))) (now (w .exit)) ⌝ }
 {
     let i = r.account as usize;
     let code = r.code;
@@ -62,10 +64,10 @@ pub fn amend(
         4 => receive(sort, live, tm, w, i, r.kinds),
         5 => hand_back(sort, live, tm, w, i, r.kinds),
         6 => allocate(sort, live, tm, w, i, r.kinds),
-        7 => release(sort, live, tm, w, needs, on, i, r.kinds),
+        7 => release(sort, live, tm, w, needs, on, i, r.kinds, rule),
         8 => pledge(sort, live, tm, w, i, r.pledged),
-        9 => unpledge(sort, live, tm, w, needs, on, i, r.pledged),
-        10 => set_margin(sort, live, tm, w, needs, i, r.margin),
+        9 => unpledge(sort, live, tm, w, needs, on, i, r.pledged, rule),
+        10 => set_margin(sort, live, tm, w, needs, i, r.margin, rule),
         _ => retire(sort, live, tm, w, count, r.account),
     }
 }

@@ -6,18 +6,21 @@ ghost use Rattle.rows.specs.Facts.{InRange, KindsWithin};
 ghost use Rattle.rows.specs.Ranges.{ceilings};
 ghost use Rattle.sums.specs.Choice.{pick};
 ghost use lib.Dec.{eqb};
+ghost use lib.ListN.{getD};
 ghost use Rattle.sums.specs.Table.{first};
 ghost use Rattle.table.specs.Words.{marksFrom, rowIn};
 ghost use Rattle.table.specs.Facts.{Sized};
-ghost use Rattle.codes.specs.Own.{takingLines, hasLiveClientIn, deemedUnderIn, needPassesIn, Held, Opens, Receives, HandsBack, Allocates, Releases, Pledges, Unpledges, SetsMargin, Retires};
+ghost use Rattle.codes.specs.Own.{leavesBelow, takingLines, hasLiveClientIn, deemedUnderIn, needPassesIn, Held, Opens, Receives, HandsBack, Allocates, Releases, Pledges, Unpledges, SetsMargin, Retires};
 use crate::settling::deemed_under_after_at;
 use crate::settling::deemed_under_at;
 use crate::settling::need_passes_with;
 use rows::CEILING;
 use rows::Kinds;
 use rows::Row;
-use rows::deemed::free_with;
+use rows::Rule;
+use rows::deemed::blocked_with;
 use rows::needs::account_of;
+use rows::needs::collateral_of;
 use rows::ranges::kinds_capped;
 use rows::ranges::kinds_within;
 use rows::ranges::no_amounts;
@@ -27,7 +30,6 @@ use rows::words::with_live;
 use rows::words::with_margin;
 use rows::words::with_pledged;
 use rows::words::with_received;
-use rules::kinds::added_up;
 use rules::kinds::less_kinds;
 use rules::kinds::plus_kinds;
 use table::places::put_kinds;
@@ -130,14 +132,28 @@ pub(crate) fn allocate(
     0
 }
 
-// What release and unpledge ask where so much is taken out: K5's 17 before 12.
-fn taking(on: bool, free: u64, x: u64) -> u8
-    ensures { λ y. ⌜ y ≡ first (takingLines on free x) ⌝ }
+// What release and unpledge ask where the row is put anew: K5's 17 before K7's 12, by the collateral that is left and what was blocked.
+fn taking<'a>(
+    w: &'a [u64; 2560],
+    needs: &'a [u64; 256],
+    on: bool,
+    i: usize,
+    row: Row,
+    new: Row,
+    rule: Rule,
+) -> u8
+    requires { ⌜ (i < 256) × InRange row × InRange new × (getD (deemedUnderIn (now w) (now needs)) i 0 ≤ 2_560_000_000_000_000) ⌝ }
+    ensures { λ y. ⌜ y ≡ first (takingLines on (leavesBelow rule row new (getD (deemedUnderIn (now (w .entry)) (now (needs .entry))) i 0))) ⌝ }
 {
     if on {
         return 17;
     }
-    if free < x { 12 } else { 0 }
+    let held = blocked_with(account_of(row, rule), deemed_under_at(w, needs, i));
+    if collateral_of(new, rule) < held {
+        12
+    } else {
+        0
+    }
 }
 
 // 7
@@ -150,21 +166,20 @@ pub(crate) fn release(
     on: bool,
     i: usize,
     k: Kinds,
+    rule: Rule,
 ) -> u8
     requires { ⌜ Held (marksFrom (now sort) (now live) (now tm)) (now w) (deemedUnderIn (now w) (now needs)) i × KindsWithin k ceilings ⌝ }
-    ensures { λ x. ⌜ Releases (marksFrom (now (sort .entry)) (now (live .entry)) (now (tm .entry))) (now (w .entry)) (deemedUnderIn (now (w .entry)) (now (needs .entry))) on i k x (now (w .exit)) ⌝ }
+    ensures { λ x. ⌜ Releases rule (marksFrom (now (sort .entry)) (now (live .entry)) (now (tm .entry))) (now (w .entry)) (deemedUnderIn (now (w .entry)) (now (needs .entry))) on i k x (now (w .exit)) ⌝ }
 {
     let row = row_at(sort, live, tm, w, i);
     if !kinds_within(k, row.allocated) {
         return 11;
     }
-    let old = account_of(row);
-    let free = free_with(old, deemed_under_at(w, needs, i));
-    let n = taking(on, free, added_up(k));
+    let new = with_allocated(row, less_kinds(row.allocated, k));
+    let n = taking(w, needs, on, i, row, new, rule);
     if n != 0 {
         return n;
     }
-    let new = with_allocated(row, less_kinds(row.allocated, k));
     put_kinds(w, 4, i, new.allocated);
     0
 }
@@ -201,21 +216,20 @@ pub(crate) fn unpledge(
     on: bool,
     i: usize,
     y: u64,
+    rule: Rule,
 ) -> u8
     requires { ⌜ Held (marksFrom (now sort) (now live) (now tm)) (now w) (deemedUnderIn (now w) (now needs)) i ⌝ }
-    ensures { λ x. ⌜ Unpledges (marksFrom (now (sort .entry)) (now (live .entry)) (now (tm .entry))) (now (w .entry)) (deemedUnderIn (now (w .entry)) (now (needs .entry))) on i y x (now (w .exit)) ⌝ }
+    ensures { λ x. ⌜ Unpledges rule (marksFrom (now (sort .entry)) (now (live .entry)) (now (tm .entry))) (now (w .entry)) (deemedUnderIn (now (w .entry)) (now (needs .entry))) on i y x (now (w .exit)) ⌝ }
 {
     let row = row_at(sort, live, tm, w, i);
     if row.pledged < y {
         return 11;
     }
-    let old = account_of(row);
-    let free = free_with(old, deemed_under_at(w, needs, i));
-    let n = taking(on, free, y);
+    let new = with_pledged(row, row.pledged - y);
+    let n = taking(w, needs, on, i, row, new, rule);
     if n != 0 {
         return n;
     }
-    let new = with_pledged(row, row.pledged - y);
     w[256 * 8 + i] = new.pledged;
     0
 }
@@ -230,14 +244,25 @@ fn need_passes_after(
     i: usize,
     row: Row,
     y: u64,
+    rule: Rule,
 ) -> bool
     requires { ⌜ Held (marksFrom (now sort) (now live) (now tm)) (now w) (deemedUnderIn (now w) (now needs)) i × (y ≤ ceiling) × (row ≡ rowIn (marksFrom (now sort) (now live) (now tm)) (now w) i) ⌝ }
-    ensures { λ x. ⌜ x ≡ needPassesIn (marksFrom (now (sort .entry)) (now (live .entry)) (now (tm .entry))) (now (w .entry)) (deemedUnderIn (now (w .entry)) (now (needs .entry))) i y ⌝ }
+    ensures { λ x. ⌜ x ≡ needPassesIn rule (marksFrom (now (sort .entry)) (now (live .entry)) (now (tm .entry))) (now (w .entry)) (deemedUnderIn (now (w .entry)) (now (needs .entry))) i y ⌝ }
 {
-    let top = account_of(row_at(sort, live, tm, w, 0));
+    let top = account_of(row_at(sort, live, tm, w, 0), rule);
     let new = with_margin(row, y);
-    let old = account_of(row);
-    let after = deemed_under_after_at(sort, live, tm, w, needs, i, old, account_of(new));
+    let old = account_of(row, rule);
+    let after = deemed_under_after_at(
+        sort,
+        live,
+        tm,
+        w,
+        needs,
+        i,
+        old,
+        account_of(new, rule),
+        rule,
+    );
     need_passes_with(old, top, y, after.cm)
 }
 
@@ -250,13 +275,14 @@ pub(crate) fn set_margin(
     needs: &[u64; 256],
     i: usize,
     y: u64,
+    rule: Rule,
 ) -> u8
     requires { ⌜ Held (marksFrom (now sort) (now live) (now tm)) (now w) (deemedUnderIn (now w) (now needs)) i × (y ≤ ceiling) ⌝ }
-    ensures { λ x. ⌜ SetsMargin (marksFrom (now (sort .entry)) (now (live .entry)) (now (tm .entry))) (now (w .entry)) (deemedUnderIn (now (w .entry)) (now (needs .entry))) i y x (now (w .exit)) ⌝ }
+    ensures { λ x. ⌜ SetsMargin rule (marksFrom (now (sort .entry)) (now (live .entry)) (now (tm .entry))) (now (w .entry)) (deemedUnderIn (now (w .entry)) (now (needs .entry))) i y x (now (w .exit)) ⌝ }
 {
     let row = row_at(sort, live, tm, w, i);
     if row.margin < y {
-        if need_passes_after(sort, live, tm, w, needs, i, row, y) {
+        if need_passes_after(sort, live, tm, w, needs, i, row, y, rule) {
             return 13;
         }
     }

@@ -58,7 +58,7 @@ module _ (b : Book) (losses room : List ℕ) (carried : closeOutRefusal b losses
   -- A client (sort 2) and a CP (sort 3) pay for their own loss exactly the lesser of that loss and their own collateral (the first of their
   -- four amounts).
   pub pays-the-lesser : (i : ℕ) → i < b .count → (rowAt b i .sort ≡ 2) ⊎ (rowAt b i .sort ≡ 3)
-      → cellOf b losses room i 0 ≡ min (lossAt losses i) (collateral (rowAt b i))
+      → cellOf b losses room i 0 ≡ min (lossAt losses i) (collateral (b .rule) (rowAt b i))
   pays-the-lesser i m s = carried-own b losses room carried i m (client-or-CP b i s)
 
   -- Each account's uncovered part (the fourth amount) is at most its own loss beyond its own margin.
@@ -94,19 +94,19 @@ module _ (b : Book) (losses room : List ℕ) (carried : closeOutRefusal b losses
 -- first amount).
 pub however-others-stand : (b b′ : Book) (losses losses′ room room′ : List ℕ) → closeOutRefusal b losses room ≡ 0 → closeOutRefusal b′ losses′ room′ ≡ 0
     → (i : ℕ) → i < b .count → i < b′ .count → (rowAt b i .sort ≡ 2) ⊎ (rowAt b i .sort ≡ 3) → (rowAt b′ i .sort ≡ 2) ⊎ (rowAt b′ i .sort ≡ 3)
-    → lossAt losses i ≡ lossAt losses′ i → collateral (rowAt b i) ≡ collateral (rowAt b′ i)
+    → lossAt losses i ≡ lossAt losses′ i → collateral (b .rule) (rowAt b i) ≡ collateral (b′ .rule) (rowAt b′ i)
     → cellOf b losses room i 0 ≡ cellOf b′ losses′ room′ i 0
 however-others-stand b b′ losses losses′ room room′ p q i m n s s′ =
     own-paid-alone b b′ losses losses′ room room′ p q i m n (client-or-CP b i s) (client-or-CP b′ i s′)
 
 -- Nobody's collateral pays more than there is, whatever the losses: a TM's pays its own loss and its clients' in both rounds, ..
 pub TM-pays-what-it-has : (b : Book) (losses : List ℕ) → Sound b → (t : ℕ) → rowAt b t .sort ≡ 1
-    → ownColumn (view b) (lossAt losses) t + ofClients (view b) t (tmColumn (view b) (lossAt losses)) ≤ collateral (rowAt b t)
+    → ownColumn (view b) (lossAt losses) t + ofClients (view b) t (tmColumn (view b) (lossAt losses)) ≤ collateral (b .rule) (rowAt b t)
 TM-pays-what-it-has b losses s t e = TM-has (view b) (s .shaped) (lossAt losses) t e
 
 -- .. and the CM's pays its own loss and all others'.
 pub CM-pays-what-it-has : (b : Book) (losses : List ℕ) → Sound b
-    → ownColumn (view b) (lossAt losses) 0 + sum (b .count) (cmColumn (view b) (lossAt losses)) ≤ collateral (rowAt b 0)
+    → ownColumn (view b) (lossAt losses) 0 + sum (b .count) (cmColumn (view b) (lossAt losses)) ≤ collateral (b .rule) (rowAt b 0)
 CM-pays-what-it-has b losses s = CM-has (view b) (s .shaped) (lossAt losses)
 
 -- Round one takes no more than is blocked of a TM's collateral, so that what is free stays for round two, ..

@@ -7,6 +7,7 @@ pub mod TurnedOver
 pub mod Modes
 pub mod NoTakingOut
 pub mod FallingMargins
+pub mod Haircut
 pub mod Needs
 pub mod OneResult
 pub mod Quick

@@ -10,6 +10,7 @@ use borrow.Author.Tests.{eqb-true}
 use Rattle.sums.proofs.Choices.{and-split, or-split}
 use Rattle.rows.specs.declared.Book.{Book}
 use Rattle.rows.specs.Rows.{rowAt, modeAt, collateral}
+use Rattle.rows.proofs.Counted.{counted-rises}
 use Rattle.book.proofs.SoundTest.{sound→}
 use Rattle.dayfile.specs.declared.Record.{Record}
 use Rattle.rules.specs.Refusals.{namedRow, refusalOf}
@@ -59,5 +60,7 @@ no-sequence-takes-anything-out b (r ∷ rs) i l on =
     ((omega (arith, one, more), omega (arith, one, more), omega (arith, one, more), omega (arith, one, more)), omega (arith, one, more))
 
 -- .. so that its collateral never falls.
-pub its-collateral-never-falls : (b : Book) (rs : List Record) (i : ℕ) → i < b .count → OnBeforeEach b i rs → collateral (rowAt b i) ≤ collateral (rowAt (afterAll b rs) i)
-its-collateral-never-falls b rs i l on = let out = no-sequence-takes-anything-out b rs i l on in omega (arith, out)
+pub its-collateral-never-falls : (b : Book) (rs : List Record) (i : ℕ) → i < b .count → OnBeforeEach b i rs → collateral (b .rule) (rowAt b i) ≤ collateral (b .rule) (rowAt (afterAll b rs) i)
+its-collateral-never-falls b rs i l on =
+    let out = no-sequence-takes-anything-out b rs i l on in
+    omega (arith, out, counted-rises (b .rule) (rowAt b i .allocated .securities) (rowAt (afterAll b rs) i .allocated .securities) (omega (arith, out)))

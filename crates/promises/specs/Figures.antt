@@ -1,4 +1,4 @@
--- Document 01, 'Figures to hold against it': P1 to P11, P8 as K1 of document 02 has it; K2's case, the table of 004 Annexure 5; and K3's list of needs at P4. In paise.
+-- Document 01, 'Figures to hold against it': P1 to P11, P8 as K1 of document 02 has it; K2's case, the table of 004 Annexure 5; K3's list of needs at P4; and K7's tenth. In paise.
 -- First the records of each case; then `cases`, the list of what is asked and the figures that the documents give; then what the rules say to it.
 use mathlib.Core.List.{List, [], _∷_, _++_, map}
 use Prim.Native.Nat.{ℕ, _+_, _*_}
@@ -107,6 +107,22 @@ atA5Less = atA5 ++ (margin 31 1 35000 ∷ [])
 abbrev atA5Never : List Record
 atA5Never = annexure5 35000
 
+-- government securities of this face value received (4), allocated (6) or released (7)
+abbrev securities : ℕ → ℕ → ℕ → ℕ → Record
+securities serial code account amount = record {
+  serial = serial;
+  code = code;
+  named = 8;
+  account = account;
+  kinds = record { cash = 0; deposits = 0; guarantees = 0; securities = amount };
+  pledged = 0;
+  margin = 0;
+}
+
+-- K7: so many paise of them are all that the client of a TM has, accounts 2 and 1
+abbrev atK7 : ℕ → List Record
+atK7 amount = opening 0 1 0 ∷ opening 1 2 1 ∷ securities 2 4 2 amount ∷ securities 3 6 2 amount ∷ []
+
 -- code 4, second mark byte 0xFF, serial 0, and zeros: n + 2 bytes
 abbrev full : ℕ → List ℕ
 full n = 4 ∷ 255 ∷ replicate n 0
@@ -130,6 +146,8 @@ pub data Question : Type 0 where
   usedAfter : List Record → ℕ → Question
   -- K3: the list of needs, and what is kept of them at the four accounts' places
   needsAfter : List Record → Question
+  -- K7: an account's collateral
+  collateralAfter : List Record → ℕ → Question
 
 -- what is asked, and the figures that a document gives for it
 pub record Case : Type 0 where
@@ -140,7 +158,7 @@ infix 20 _gives_
 abbrev _gives_ : Question → List ℕ → Case
 q gives l = record { asked = q; figures = l }
 
--- P1 to P11, Annexure 5 and K3, in one list
+-- P1 to P11, Annexure 5, K3 and K7, in one list
 unfoldable pub cases : List Case
 cases =
     (blockedAfter atP1 gives (0 ∷ 0 ∷ 0 ∷ 10000 ∷ []))  -- P1: B blocked 100, TM-1 0, CM 0
@@ -168,6 +186,15 @@ cases =
     ∷ (usedAfter atA5Less 1 gives (430000 ∷ 500000 ∷ 1 ∷ []))  -- K2: then TM1 430 of 500, 86%, still on
     ∷ (usedAfter atA5Never 1 gives (430000 ∷ 500000 ∷ 0 ∷ []))  -- K2: TM1 430 of 500 from the first, 86%, off
     ∷ (needsAfter atP4 gives (40000 ∷ 90000 ∷ 60000 ∷ 90000 ∷ 40000 ∷ 90000 ∷ 0 ∷ 0 ∷ []))  -- K3: 400, 900, 600, 900; kept are the CM's and the TM's
+    ∷ (collateralAfter (atK7 1) 2 gives (0 ∷ []))  -- K7: "One paisa therefore counts as nothing."
+    ∷ (collateralAfter (atK7 9) 2 gives (8 ∷ []))
+    ∷ (collateralAfter (atK7 10) 2 gives (9 ∷ []))
+    ∷ (collateralAfter (atK7 11) 2 gives (9 ∷ []))
+    ∷ (collateralAfter (atK7 19) 2 gives (17 ∷ []))
+    ∷ (collateralAfter (atK7 20) 2 gives (18 ∷ []))
+    ∷ (collateralAfter (atK7 21) 2 gives (18 ∷ []))
+    ∷ (refusalAfter (atK7 11 ++ (margin 4 2 9 ∷ [])) (securities 5 7 2 1) gives (0 ∷ []))  -- K7: 11 to 10 paise, with nothing free
+    ∷ (refusalAfter (atK7 10 ++ (margin 4 2 9 ∷ [])) (securities 5 7 2 1) gives (12 ∷ []))  -- K7: 10 to 9
     ∷ []
 
 -- What the rules say to a question. Of the book after the records, f of CM, TM-1, A and B,
@@ -213,6 +240,7 @@ byTheRules (refusalRead s) = refusalIn (nextOf freshBook s 0 .answer .outcome) �
 byTheRules (excessAfter rs) = excessIn (after rs)
 byTheRules (usedAfter rs i) = usedIn (after rs) i
 byTheRules (needsAfter rs) = allNeeds (after rs) ++ each (needAt (after rs))
+byTheRules (collateralAfter rs i) = view (after rs) .collateral i ∷ []
 
 -- The one claim (`promises.Claim.figures`) is that these two lists are the same: what the rules say to each question, and the documents' figures.
 unfoldable pub casesByTheRules : List (List ℕ)

@@ -1,3 +1,4 @@
+pub mod Counted
 pub mod BySort
 pub mod NeedSums
 pub mod DeemedUnder

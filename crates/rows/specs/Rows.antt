@@ -1,13 +1,16 @@
--- Document 01, 'Amounts and sizes': a book's rows, its view, and a fresh book. With document 02, K2: its modes; K3: its kept needs.
+-- Document 01, 'Amounts and sizes': a book's rows, its view, and a fresh book. With document 02, K2: its modes; K3: its kept needs; K7: the rule that
+-- it is under.
 use mathlib.Core.Bool.{Bool, true, false, _&&_}
 use mathlib.Core.List.{List, _∷_}
-use Prim.Native.Nat.{ℕ, _+_, _-_}
+use Prim.Native.Nat.{ℕ, _+_, _-_, _/_}
 use lib.Dec.{ltb}
 use lib.ListN.{length, getD, set, replicate}
 use Rattle.sums.specs.Sum.{any}
 use Rattle.rows.specs.declared.Kinds.{Kinds}
 use Rattle.rows.specs.declared.Row.{Row}
 use Rattle.rows.specs.declared.Account.{Account}
+use Rattle.rows.specs.declared.Rule.{Rule}
+use Rattle.rows.specs.declared.Rule.the-variants.{Old, New}
 use Rattle.rows.specs.declared.Book.{Book}
 use Rattle.rows.specs.View.{View, isClientOf}
 
@@ -65,17 +68,20 @@ places b = length (b .rows)
 abbrev pub placeOf : Book → ℕ → ℕ
 placeOf b number = number
 
--- the kinds added up
-abbrev pub addedUp : Kinds → ℕ
-addedUp k = k .cash + k .deposits + k .guarantees + k .securities
+-- Document 02, K7: what government securities of this face value count for. "Until now we counted them in full."; now "less a tenth, the tenth
+-- rounded up to a paisa. One paisa therefore counts as nothing."
+unfoldable pub counted : Rule → ℕ → ℕ
+counted Old face = face
+counted New face = face - (face + 9) / 10
 
--- "Collateral is the sum of the four allocated amounts and pledged."
-abbrev pub collateral : Row → ℕ
-collateral r = addedUp (r .allocated) + r .pledged
+-- "Collateral becomes cash, fixed deposits, guarantees and pledged, plus allocated government securities less a tenth"; by the old rule it is
+-- document 01's "the sum of the four allocated amounts and pledged"
+abbrev pub collateral : Rule → Row → ℕ
+collateral rule r = r .allocated .cash + r .allocated .deposits + r .allocated .guarantees + r .pledged + counted rule (r .allocated .securities)
 
 -- what needs and the close-out see of a row
-abbrev pub accountOf : Row → Account
-accountOf r = record { sort = r .sort; tm = r .tm; margin = r .margin; collateral = collateral r }
+abbrev pub accountOf : Rule → Row → Account
+accountOf rule r = record { sort = r .sort; tm = r .tm; margin = r .margin; collateral = collateral rule r }
 
 -- a book as needs and the close-out see it
 abbrev pub view : Book → View
@@ -83,14 +89,14 @@ view b = record {
   count = b .count;
   sort = λ i. rowAt b i .sort;
   tm = λ i. rowAt b i .tm;
-  collateral = λ i. collateral (rowAt b i);
+  collateral = λ i. collateral (b .rule) (rowAt b i);
   margin = λ i. rowAt b i .margin;
 }
 
 -- "number 0 is the CM and is there from the start, live. In a fresh book it is the only account and all amounts are 0.";
 -- "the next serial, 0 at first"; a mode is "off at first"; where all amounts are 0 so are the needs
 unfoldable pub freshBook : Book
-freshBook = record { count = 1; serial = 0; rows = openedRow 0 0 ∷ replicate 255 noRow; modes = replicate 256 false; needs = replicate 256 0 }
+freshBook = record { rule = New; count = 1; serial = 0; rows = openedRow 0 0 ∷ replicate 255 noRow; modes = replicate 256 false; needs = replicate 256 0 }
 
 -- A row with one of its words put anew.
 abbrev pub withLive : Row → Bool → Row
@@ -108,25 +114,29 @@ withPledged r x = record { sort = r .sort; live = r .live; tm = r .tm; received 
 abbrev pub withMargin : Row → ℕ → Row
 withMargin r x = record { sort = r .sort; live = r .live; tm = r .tm; received = r .received; allocated = r .allocated; pledged = r .pledged; margin = x }
 
+-- the same book, judged by this rule (K7)
+abbrev pub byRule : Rule → Book → Book
+byRule rule b = record { rule = rule; count = b .count; serial = b .serial; rows = b .rows; modes = b .modes; needs = b .needs }
+
 -- the book with row i put anew
 abbrev pub withRow : Book → ℕ → Row → Book
-withRow b i r = record { count = b .count; serial = b .serial; rows = set (b .rows) i r; modes = b .modes; needs = b .needs }
+withRow b i r = record { rule = b .rule; count = b .count; serial = b .serial; rows = set (b .rows) i r; modes = b .modes; needs = b .needs }
 
 -- the book with another next serial
 abbrev pub withSerial : Book → ℕ → Book
-withSerial b n = record { count = b .count; serial = n; rows = b .rows; modes = b .modes; needs = b .needs }
+withSerial b n = record { rule = b .rule; count = b .count; serial = n; rows = b .rows; modes = b .modes; needs = b .needs }
 
 -- the book with other modes
 abbrev pub withModes : Book → List Bool → Book
-withModes b modes = record { count = b .count; serial = b .serial; rows = b .rows; modes = modes; needs = b .needs }
+withModes b modes = record { rule = b .rule; count = b .count; serial = b .serial; rows = b .rows; modes = modes; needs = b .needs }
 
 -- the book with other kept needs
 abbrev pub withNeeds : Book → List ℕ → Book
-withNeeds b needs = record { count = b .count; serial = b .serial; rows = b .rows; modes = b .modes; needs = needs }
+withNeeds b needs = record { rule = b .rule; count = b .count; serial = b .serial; rows = b .rows; modes = b .modes; needs = needs }
 
 -- the book with one account more
 abbrev pub withNew : Book → Row → Book
-withNew b r = record { count = b .count + 1; serial = b .serial; rows = set (b .rows) (b .count) r; modes = b .modes; needs = b .needs }
+withNew b r = record { rule = b .rule; count = b .count + 1; serial = b .serial; rows = set (b .rows) (b .count) r; modes = b .modes; needs = b .needs }
 
 -- the account's number was given, and it is live
 abbrev pub isLive : Book → ℕ → Bool

@@ -2,7 +2,7 @@
 // tenths through too, with what is in excess under them (K2).
 ghost use mathlib.Core.Path.{_≡_};
 ghost use Prim.Native.Nat.{_+_, _-_, _≤_};
-ghost use Rattle.rows.specs.View.{freeOf};
+ghost use Rattle.rows.specs.View.{blockedOf, freeOf};
 ghost use Rattle.rows.specs.DeemedUnder.{deemedUnderTM, deemedUnderCM, needToKeep, needBy};
 use super::Account;
 use super::needs::blocked_of;
@@ -17,12 +17,20 @@ pub fn less(a: u64, b: u64) -> u64
     if b <= a { a - b } else { 0 }
 }
 
+// What is blocked of the account, where so much is deemed under it.
+pub fn blocked_with(a: Account, under: u64) -> u64
+    requires { ⌜ (a .margin ≤ 100_000_000_000_000) × (under ≤ 25_600_000_000_000_000) ⌝ }
+    ensures { λ x. ⌜ x ≡ blockedOf (a .margin + under) (a .collateral) ⌝ }
+{
+    blocked_of(a.margin + under, a.collateral)
+}
+
 // The account's free collateral, where so much is deemed under it.
 pub fn free_with(a: Account, under: u64) -> u64
     requires { ⌜ (a .margin ≤ 100_000_000_000_000) × (under ≤ 25_600_000_000_000_000) ⌝ }
     ensures { λ x. ⌜ x ≡ freeOf (a .margin + under) (a .collateral) ⌝ }
 {
-    a.collateral - blocked_of(a.margin + under, a.collateral)
+    a.collateral - blocked_with(a, under)
 }
 
 // The need that is kept at a TM's place (K3), where so much is deemed under it; 0 for any other account. The CM's is put by its place.

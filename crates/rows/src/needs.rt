@@ -5,12 +5,13 @@ ghost use Prim.Native.Nat.{_≤_};
 ghost use lib.ListN.{replicate};
 ghost use Rattle.sums.specs.Sum.{only};
 ghost use Rattle.rows.specs.View.{blockedOf, deemedOf};
-ghost use Rattle.rows.specs.Rows.{collateral, accountOf};
+ghost use Rattle.rows.specs.Rows.{ceiling, counted, collateral, accountOf};
 ghost use Rattle.rows.specs.Facts.{InRange};
 ghost use Rattle.rows.specs.DeemedUnder.{clientDue, memberDue};
 ghost use Rattle.rows.specs.Inner.{Slot, accountAs};
 use super::Account;
 use super::Row;
+use super::Rule;
 
 pub fn blocked_of(need: u64, collateral: u64) -> u64
     ensures { λ x. ⌜ x ≡ blockedOf need collateral ⌝ }
@@ -34,23 +35,34 @@ pub fn only_if(t: bool, a: u64) -> u64
     if t { a } else { 0 }
 }
 
-pub fn collateral_of(r: Row) -> u64
-    requires { ⌜ InRange r ⌝ }
-    ensures { λ x. ⌜ x ≡ collateral r ⌝ }
+// What government securities of face value s count for (K7).
+pub fn counted_of(s: u64, rule: Rule) -> u64
+    requires { ⌜ s ≤ ceiling ⌝ }
+    ensures { λ x. ⌜ x ≡ counted rule s ⌝ }
 {
-    let a = r.allocated;
-    a.cash + a.deposits + a.guarantees + a.securities + r.pledged
+    match rule {
+        Rule::Old => s,
+        Rule::New => s - (s + 9) / 10,
+    }
 }
 
-pub fn account_of(r: Row) -> Account
+pub fn collateral_of(r: Row, rule: Rule) -> u64
     requires { ⌜ InRange r ⌝ }
-    ensures { λ x. ⌜ x ≡ accountOf r ⌝ }
+    ensures { λ x. ⌜ x ≡ collateral rule r ⌝ }
+{
+    let a = r.allocated;
+    a.cash + a.deposits + a.guarantees + r.pledged + counted_of(a.securities, rule)
+}
+
+pub fn account_of(r: Row, rule: Rule) -> Account
+    requires { ⌜ InRange r ⌝ }
+    ensures { λ x. ⌜ x ≡ accountOf rule r ⌝ }
 {
     Account {
         sort: r.sort,
         tm: r.tm,
         margin: r.margin,
-        collateral: collateral_of(r),
+        collateral: collateral_of(r, rule),
     }
 }
 

@@ -11,12 +11,12 @@ use Rattle.sums.specs.Table.{_when_}
 use Rattle.sums.proofs.Choices.{and-split}
 use Rattle.sums.proofs.Tables.{first-names}
 use Rattle.rows.specs.declared.Book.{Book}
-use Rattle.rows.specs.View.{free}
+use Rattle.rows.specs.View.{blocked}
 use Rattle.rows.specs.Rows.{modeAt, view, hasLiveClient}
 use Rattle.book.specs.Facts.{Sound}
 use Rattle.book.proofs.SoundAfter.{margin-falls}
 use Rattle.dayfile.specs.declared.Record.{Record}
-use Rattle.rules.specs.Refusals.{namedRow, heldByMode, beyondFree, needPasses, newMargin, losesCover, notRetirable, refusalOf}
+use Rattle.rules.specs.Refusals.{namedRow, heldByMode, leftBelow, takesBlocked, needPasses, newMargin, losesCover, notRetirable, refusalOf}
 use Rattle.rules.proofs.HeldByMode.{ahead}
 
 module _ (b : Book) (s : Sound b) (r : Record) (l : r .account < b .count) (live : namedRow b r .live ≡ true) where
@@ -35,7 +35,7 @@ pub rises-at-13 : (b : Book) (r : Record) → refusalOf b r ≡ 13 → namedRow 
 unfolding refusalOf
 rises-at-13 b r e =
     let lost = first-names 13
-    (ahead b r ++ ((17 when heldByMode (modeAt b (r .account)) r) ∷ (12 when beyondFree (free (view b) (r .account)) r) ∷ []))
+    (ahead b r ++ ((17 when heldByMode (modeAt b (r .account)) r) ∷ (12 when takesBlocked (leftBelow (b .rule) (namedRow b r) (blocked (view b) (r .account)) r) r) ∷ []))
     ((14 when notRetirable (namedRow b r) (hasLiveClient b (r .account)) r) ∷ [])
     (omega arith, (omega arith, (omega arith, (omega arith, (omega arith, (omega arith, (omega arith, (omega arith, (omega arith, (omega arith, (omega arith, (omega arith, tt)))))))))))) refl refl
     (losesCover (namedRow b r) (needPasses (view (newMargin b r))) r) e in

@@ -10,12 +10,12 @@ use Rattle.sums.specs.Table.{Line, _when_, first}
 use Rattle.sums.proofs.Choices.{test-clash, and-left}
 use Rattle.sums.proofs.Tables.{first-here, first-beyond, first-passes, first-names, first-but}
 use Rattle.rows.specs.declared.Book.{Book}
-use Rattle.rows.specs.View.{free}
+use Rattle.rows.specs.View.{blocked}
 use Rattle.rows.specs.Rows.{modeAt, view, hasLiveClient, isLive}
 use Rattle.book.specs.Sound.{soundB}
 use Rattle.dayfile.specs.declared.Record.{Record}
 use Rattle.dayfile.specs.Records.{faults}
-use Rattle.rules.specs.Refusals.{namedRow, wrongSort, noNumberLeft, pastCeiling, tooMuch, heldByMode, beyondFree, needPasses, newMargin, losesCover, notRetirable, refusalOf}
+use Rattle.rules.specs.Refusals.{namedRow, wrongSort, noNumberLeft, pastCeiling, tooMuch, heldByMode, leftBelow, takesBlocked, needPasses, newMargin, losesCover, notRetirable, refusalOf}
 
 module _ (b : Book) (r : Record) where
   -- the lines ahead of 17
@@ -34,7 +34,7 @@ module _ (b : Book) (r : Record) where
   -- and those behind it
   abbrev behind : List Line
   behind =
-      (12 when beyondFree (free (view b) (r .account)) r)
+      (12 when takesBlocked (leftBelow (b .rule) (namedRow b r) (blocked (view b) (r .account)) r) r)
       ∷ (13 when losesCover (namedRow b r) (needPasses (view (newMargin b r))) r)
       ∷ (14 when notRetirable (namedRow b r) (hasLiveClient b (r .account)) r)
       ∷ []

@@ -10,14 +10,14 @@ use Rattle.sums.specs.Table.{first}
 use Rattle.sums.proofs.Choices.{and-split}
 use Rattle.sums.proofs.Tables.{first-fails, first-none, first-clear}
 use Rattle.rows.specs.declared.Book.{Book}
-use Rattle.rows.specs.View.{free}
+use Rattle.rows.specs.View.{blocked}
 use Rattle.rows.specs.Rows.{modeAt, view, hasLiveClient, isLive}
 use Rattle.book.specs.Sound.{soundB}
 use Rattle.book.specs.Facts.{Sound}
 use Rattle.book.proofs.SoundTest.{sound→}
 use Rattle.dayfile.specs.declared.Record.{Record}
 use Rattle.dayfile.specs.Records.{faults, faultOf}
-use Rattle.rules.specs.Refusals.{namedRow, wrongSort, noNumberLeft, pastCeiling, tooMuch, heldByMode, beyondFree, losesCover, notRetirable, needPasses, newMargin, refusalOf}
+use Rattle.rules.specs.Refusals.{namedRow, wrongSort, noNumberLeft, pastCeiling, tooMuch, heldByMode, leftBelow, takesBlocked, losesCover, notRetirable, needPasses, newMargin, refusalOf}
 use Rattle.rules.specs.Inner.{from7}
 use Rattle.dayfile.proofs.Good.{Good, no-fault-good, three-numbered}
 use Rattle.rules.proofs.WhatIsBeside.{besideOf}
@@ -33,7 +33,7 @@ pub record Passes (b : Book) (r : Record) : Type 0 where
   pub capped : pastCeiling (namedRow b r) r ≡ false
   pub enough : tooMuch (namedRow b r) r ≡ false
   pub notHeld : heldByMode (modeAt b (r .account)) r ≡ false
-  pub isFree : beyondFree (free (view b) (r .account)) r ≡ false
+  pub notBlocked : takesBlocked (leftBelow (b .rule) (namedRow b r) (blocked (view b) (r .account)) r) r ≡ false
   pub covered : losesCover (namedRow b r) (needPasses (view (newMargin b r))) r ≡ false
   pub retirable : notRetirable (namedRow b r) (hasLiveClient b (r .account)) r ≡ false
 
@@ -49,7 +49,7 @@ passes-all b r e =
     let f₁₀ = first-fails 10 (pastCeiling (namedRow b r) r) _ (omega arith) (f₉ .1) in
     let f₁₁ = first-fails 11 (tooMuch (namedRow b r) r) _ (omega arith) (f₁₀ .1) in
     let f₁₇ = first-fails 17 (heldByMode (modeAt b (r .account)) r) _ (omega arith) (f₁₁ .1) in
-    let f₁₂ = first-fails 12 (beyondFree (free (view b) (r .account)) r) _ (omega arith) (f₁₇ .1) in
+    let f₁₂ = first-fails 12 (takesBlocked (leftBelow (b .rule) (namedRow b r) (blocked (view b) (r .account)) r) r) _ (omega arith) (f₁₇ .1) in
     let f₁₃ = first-fails 13 (losesCover (namedRow b r) (needPasses (view (newMargin b r))) r) _ (omega arith) (f₁₂ .1) in
     let f₁₄ = first-fails 14 (notRetirable (namedRow b r) (hasLiveClient b (r .account)) r) _ (omega arith) (f₁₃ .1) in
     let there = and-split (ltb (r .account) (b .count)) (namedRow b r .live) (not-false _ (f₇ .0)) in
@@ -64,7 +64,7 @@ passes-all b r e =
       capped = f₁₀ .0;
       enough = f₁₁ .0;
       notHeld = f₁₇ .0;
-      isFree = f₁₂ .0;
+      notBlocked = f₁₂ .0;
       covered = f₁₃ .0;
       retirable = f₁₄ .0;
     }

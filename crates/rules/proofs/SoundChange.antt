@@ -1,19 +1,19 @@
 -- Every record, carried out or refused, leaves a sound book sound.
-use mathlib.Core.Bool.{Bool, true, false, not, _||_}
+use mathlib.Core.Bool.{Bool, true, false, not, _&&_, _||_}
 use mathlib.Core.Logic.{_⊎_, inl, inr}
-use mathlib.Core.Path.{_≡_, refl}
-use Prim.Native.Nat.{ℕ, zero, suc, _+_}
+use mathlib.Core.Path.{_≡_, refl, sym, ap, subst, _∙_}
+use Prim.Native.Nat.{ℕ, zero, suc, _+_, _-_, _≤_}
 use native.Mathlib.Omega.{arith}
 use native.Mathlib.Decide.{ℕ-discrete}
 use lib.Dec.{leb, ltb, eqb}
-use borrow.Author.Tests.{ltb-false, leb-false, eqb-true, eqb-false, not-false}
+use borrow.Author.Tests.{ltb-false, leb-false, eqb-true, eq-eqb, eqb-false, not-false}
 use Rattle.sums.specs.Choice.{pick, unlessRefused}
 use Rattle.sums.proofs.Choices.{or-fails, pick-yes, pick-no}
 use Rattle.rows.specs.declared.Row.{Row}
 use Rattle.rows.specs.declared.Book.{Book}
-use Rattle.rows.specs.View.{free}
+use Rattle.rows.specs.View.{blocked}
 use Rattle.rows.specs.Facts.{KindsWithin}
-use Rattle.rows.specs.Rows.{placeOf, ceiling, addedUp, view, openedRow, withRow, withNew, plusKinds, lessKinds, hasLiveClient}
+use Rattle.rows.specs.Rows.{placeOf, ceiling, collateral, view, openedRow, withAllocated, withPledged, withRow, withNew, plusKinds, lessKinds, hasLiveClient}
 use Rattle.rows.specs.Ranges.{kindsCapped, kindsWithin, noAmounts}
 use Rattle.book.specs.Facts.{SoundRows, Sound}
 use Rattle.book.proofs.RowFacts.{within→, capped→}
@@ -23,7 +23,7 @@ use Rattle.book.proofs.Settled.{sound-rows, settled-sound}
 use Rattle.dayfile.specs.declared.Record.{Record}
 use Rattle.rules.specs.declared.Change.{Change}
 use Rattle.rules.specs.declared.Change.the-variants.{Refuse, Put, Open}
-use Rattle.rules.specs.Refusals.{isOpening, namedRow, needPasses, newMargin, refusalOf}
+use Rattle.rules.specs.Refusals.{isOpening, namedRow, takenOut, leftBelow, needPasses, newMargin, refusalOf}
 use Rattle.rules.specs.Effects.{amended, effectOf, changeOf, nextSerial, movedOn, changedBy, bookAfter}
 use Rattle.rules.proofs.Faults.{amounts-in}
 use Rattle.rules.proofs.Codes.{Code, openTM, openClient, openCP, receive, handBack, allocate, release, pledge, unpledge, margin, retire, known-code-cases}
@@ -82,13 +82,19 @@ module _ (b : Book) (r : Record) (p : Passes b r) where
       put _ (by-allocate row r e)
       (allocate-sound b (p .sound) (r .account) (p .account) (p .live) (r .kinds) (left-enough (inr e)))
 
+  -- a release and an unpledge leave what was blocked
+  left-above : (r .code ≡ 7) ⊎ (r .code ≡ 9) → leftBelow (b .rule) row (blocked (view b) (r .account)) r ≡ false
+  left-above (inl e) = ap (λ n. (eqb n 7 || eqb n 9) && leftBelow (b .rule) row (blocked (view b) (r .account)) r) (sym e) ∙ p .notBlocked
+  left-above (inr e) = ap (λ n. (eqb n 7 || eqb n 9) && leftBelow (b .rule) row (blocked (view b) (r .account)) r) (sym e) ∙ p .notBlocked
+
   releases : r .code ≡ 7 → SoundRows (withRow b (r .account) (amended row r))
   releases e =
       let h : (not (kindsWithin (r .kinds) (row .allocated)) || false) ≡ false = rw e at (p .enough) in
-      let f : (ltb (free (view b) (r .account)) (addedUp (r .kinds)) || false) ≡ false = rw e at (p .isFree) in
+      let f : ltb (collateral (b .rule) (takenOut row r)) (blocked (view b) (r .account)) ≡ false = left-above (inl e) in
+      let is : takenOut row r ≡ withAllocated row (lessKinds (row .allocated) (r .kinds)) = pick-yes _ _ _ (eq-eqb _ _ e) in
       put _ (by-release row r e)
       (release-sound b (p .sound) (r .account) (p .account) (p .live) (r .kinds) (within→ _ _ (not-false _ (or-fails _ _ h .0)))
-      (ltb-false _ _ (or-fails _ _ f .0)))
+      (subst (λ x. blocked (view b) (r .account) ≤ collateral (b .rule) x) is (ltb-false _ _ f)))
 
   pledges : r .code ≡ 8 → SoundRows (withRow b (r .account) (amended row r))
   pledges e =
@@ -98,9 +104,11 @@ module _ (b : Book) (r : Record) (p : Passes b r) where
   unpledges : r .code ≡ 9 → SoundRows (withRow b (r .account) (amended row r))
   unpledges e =
       let h : ltb (row .pledged) (r .pledged) ≡ false = rw e at (p .enough) in
-      let f : ltb (free (view b) (r .account)) (r .pledged) ≡ false = rw e at (p .isFree) in
+      let f : ltb (collateral (b .rule) (takenOut row r)) (blocked (view b) (r .account)) ≡ false = left-above (inr e) in
+      let is : takenOut row r ≡ withPledged row (row .pledged - r .pledged) = pick-no _ _ _ (rw e) in
       put _ (by-unpledge row r e)
-      (unpledge-sound b (p .sound) (r .account) (p .account) (p .live) (r .pledged) (ltb-false _ _ h) (ltb-false _ _ f))
+      (unpledge-sound b (p .sound) (r .account) (p .account) (p .live) (r .pledged) (ltb-false _ _ h)
+      (subst (λ x. blocked (view b) (r .account) ≤ collateral (b .rule) x) is (ltb-false _ _ f)))
 
   sets-margin : r .code ≡ 10 → SoundRows (withRow b (r .account) (amended row r))
   sets-margin e = put _ (by-margin row r e) (by (ltb (row .margin) (r .margin)) refl)

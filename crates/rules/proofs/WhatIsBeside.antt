@@ -12,8 +12,8 @@ use Rattle.sums.proofs.Choices.{and-split, and-same, or-split}
 use Rattle.sums.proofs.Tables.{first-later, first-on, first-beyond}
 use Rattle.rows.specs.declared.Row.{Row}
 use Rattle.rows.specs.declared.Book.{Book}
-use Rattle.rows.specs.View.{free}
-use Rattle.rows.specs.Rows.{modeAt, placeOf, addedUp, view, hasLiveClient, isLive}
+use Rattle.rows.specs.View.{blocked}
+use Rattle.rows.specs.Rows.{modeAt, placeOf, view, hasLiveClient, isLive}
 use Rattle.rows.specs.Ranges.{noAmounts}
 use Rattle.book.specs.Facts.{Sound}
 use Rattle.book.proofs.SoundTest.{sound←}
@@ -22,21 +22,13 @@ use Rattle.dayfile.specs.Records.{faults, faultOf}
 use Rattle.rules.specs.declared.Change.{Change}
 use Rattle.rules.specs.declared.Change.the-variants.{Refuse}
 use Rattle.rules.specs.declared.Beside.{Beside}
-use Rattle.rules.specs.Refusals.{namedRow, heldByMode, beyondFree, needPasses, newMargin, refusalOf}
+use Rattle.rules.specs.Refusals.{namedRow, heldByMode, leftBelow, takesBlocked, needPasses, newMargin, refusalOf}
 use Rattle.rules.specs.Effects.{effectOf, changeOf}
 use Rattle.rules.specs.Inner.{AmountsIn, IsBeside, from7, refusalBy, changeBy}
 use Rattle.dayfile.proofs.Good.{no-fault-good, three-numbered}
 use Rattle.rules.proofs.Faults.{amounts-in}
 
-joins : {a b c d : Bool} → a ≡ b → c ≡ d → (a || c) ≡ (b || d)
-joins p q = rw (p, q)
-
--- 12 looks at free only for a release and an unpledge
-free-same : (r : Record) (x y : ℕ) → (r .code ≡ 7 → x ≡ y) → (r .code ≡ 9 → x ≡ y) → beyondFree x r ≡ beyondFree y r
-free-same r x y h k = joins (and-same (eqb (r .code) 7) (λ e. ap (λ z. ltb z (addedUp (r .kinds))) (h (eqb-true (r .code) 7 e))))
-    (and-same (eqb (r .code) 9) (λ e. ap (λ z. ltb z (r .pledged)) (k (eqb-true (r .code) 9 e))))
-
--- and so does 17 at the mode
+-- 17 looks at the mode only for a release and an unpledge
 pub mode-same : (r : Record) (x y : Bool) → (r .code ≡ 7 → x ≡ y) → (r .code ≡ 9 → x ≡ y) → heldByMode x r ≡ heldByMode y r
 mode-same r x y h k = and-same (eqb (r .code) 7 || eqb (r .code) 9) (λ e. by (or-split (eqb (r .code) 7) (eqb (r .code) 9) e))
   where
@@ -44,16 +36,24 @@ mode-same r x y h k = and-same (eqb (r .code) 7 || eqb (r .code) 9) (λ e. by (o
     by (inl e) = h (eqb-true (r .code) 7 e)
     by (inr e) = k (eqb-true (r .code) 9 e)
 
+-- and so does 12 at what would be left
+below-same : (r : Record) (x y : Bool) → (r .code ≡ 7 → x ≡ y) → (r .code ≡ 9 → x ≡ y) → takesBlocked x r ≡ takesBlocked y r
+below-same = mode-same
+
+-- whether a release or unpledge would leave less than was blocked
+abbrev belowIn : Book → Record → Bool
+belowIn b r = leftBelow (b .rule) (namedRow b r) (blocked (view b) (r .account)) r
+
 -- what there is to see
 abbrev pub besideOf : Book → Record → Beside
-besideOf b r = record { mode = modeAt b (r .account); free = free (view b) (r .account); passes = needPasses (view (newMargin b r)); client = hasLiveClient b (r .account) }
+besideOf b r = record { mode = modeAt b (r .account); below = belowIn b r; passes = needPasses (view (newMargin b r)); client = hasLiveClient b (r .account) }
 
 pub beside-is : (b : Book) (r : Record) → IsBeside b r (besideOf b r)
 beside-is b r = record {
   mode-kinds = λ e l. refl;
   mode-pledge = λ e l. refl;
-  free-kinds = λ e l. refl;
-  free-pledge = λ e l. refl;
+  below-kinds = λ e l. refl;
+  below-pledge = λ e l. refl;
   cover = λ e l g. refl;
   clients = λ e l. refl;
 }
@@ -64,7 +64,7 @@ module _ (b : Book) (s : Sound b) (r : Record) (beside : Beside) (w : IsBeside b
   last-lines l a =
       rw (
         mode-same r (beside .mode) (modeAt b (r .account)) (λ e. w .mode-kinds e l) (λ e. w .mode-pledge e l),
-        free-same r (beside .free) (free (view b) (r .account)) (λ e. w .free-kinds e l) (λ e. w .free-pledge e l),
+        below-same r (beside .below) (belowIn b r) (λ e. w .below-kinds e l) (λ e. w .below-pledge e l),
         and-same (eqb (r .code) 10) (λ e. ap (λ z. ltb (namedRow b r .margin) (r .margin) && z) (w .cover (eqb-true (r .code) 10 e) l (a .margin))),
         and-same (eqb (r .code) 11) (λ e. ap (λ z. not (noAmounts (namedRow b r)) || z) (w .clients (eqb-true (r .code) 11 e) l)),
       )

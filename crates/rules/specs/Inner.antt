@@ -10,7 +10,7 @@ use Rattle.sums.specs.Table.{Line, _when_, first}
 use Rattle.rows.specs.declared.Row.{Row}
 use Rattle.rows.specs.declared.Account.{Account}
 use Rattle.rows.specs.declared.Book.{Book}
-use Rattle.rows.specs.View.{blockedOf, freeOf, free}
+use Rattle.rows.specs.View.{blockedOf, blocked}
 use Rattle.rows.specs.Rows.{ceiling, modeAt, placeOf, view, hasLiveClient}
 use Rattle.rows.specs.Facts.{KindsWithin}
 use Rattle.rows.specs.Ranges.{ceilings}
@@ -20,7 +20,7 @@ use Rattle.dayfile.specs.Records.{faults}
 use Rattle.rules.specs.declared.Change.{Change}
 use Rattle.rules.specs.declared.Change.the-variants.{Refuse}
 use Rattle.rules.specs.declared.Beside.{Beside}
-use Rattle.rules.specs.Refusals.{wrongSort, noNumberLeft, pastCeiling, tooMuch, heldByMode, beyondFree, losesCover, notRetirable, needPasses, newMargin}
+use Rattle.rules.specs.Refusals.{namedRow, wrongSort, noNumberLeft, pastCeiling, tooMuch, heldByMode, leftBelow, takesBlocked, losesCover, notRetirable, needPasses, newMargin}
 use Rattle.rules.specs.Effects.{effectOf}
 
 -- no amount of the record passes the ceiling
@@ -38,7 +38,7 @@ from7 row count beside r =
     ∷ (10 when pastCeiling row r)
     ∷ (11 when tooMuch row r)
     ∷ (17 when heldByMode (beside .mode) r)
-    ∷ (12 when beyondFree (beside .free) r)
+    ∷ (12 when takesBlocked (beside .below) r)
     ∷ (13 when losesCover row (beside .passes) r)
     ∷ (14 when notRetirable row (beside .client) r)
     ∷ []
@@ -57,8 +57,8 @@ changeBy row count serial beside r = unlessRefused (refusalBy row count serial b
 pub record IsBeside (b : Book) (r : Record) (s : Beside) : Type 0 where
   pub mode-kinds : r .code ≡ 7 → r .account < b .count → s .mode ≡ modeAt b (placeOf b (r .account))
   pub mode-pledge : r .code ≡ 9 → r .account < b .count → s .mode ≡ modeAt b (placeOf b (r .account))
-  pub free-kinds : r .code ≡ 7 → r .account < b .count → s .free ≡ free (view b) (placeOf b (r .account))
-  pub free-pledge : r .code ≡ 9 → r .account < b .count → s .free ≡ free (view b) (placeOf b (r .account))
+  pub below-kinds : r .code ≡ 7 → r .account < b .count → s .below ≡ leftBelow (b .rule) (namedRow b r) (blocked (view b) (placeOf b (r .account))) r
+  pub below-pledge : r .code ≡ 9 → r .account < b .count → s .below ≡ leftBelow (b .rule) (namedRow b r) (blocked (view b) (placeOf b (r .account))) r
   pub cover : r .code ≡ 10 → r .account < b .count → r .margin ≤ ceiling → s .passes ≡ needPasses (view (newMargin b r))
   pub clients : r .code ≡ 11 → r .account < b .count → s .client ≡ hasLiveClient b (placeOf b (r .account))
 
@@ -66,11 +66,12 @@ pub record IsBeside (b : Book) (r : Record) (s : Beside) : Type 0 where
 abbrev pub topMargin : Account → Account → ℕ → ℕ
 topMargin a top m = only (eqb (a .sort) 0) m + only (not (eqb (a .sort) 0)) (top .margin)
 
--- what stands beside the row, by the mode, the account named, the one that it names as its TM, the CM, and what is deemed under each of them
-abbrev pub besideBy : Bool → Account → ℕ → Account → ℕ → Account → ℕ → Bool → Record → Beside
-besideBy mode a under tm clients top all liveClient r = record {
+-- what stands beside the row, by the mode, the collateral that a release or unpledge would leave, the account named, the one that it names as
+-- its TM, the CM, and what is deemed under each of them
+abbrev pub besideBy : Bool → ℕ → Account → ℕ → Account → ℕ → Account → ℕ → Bool → Record → Beside
+besideBy mode left a under tm clients top all liveClient r = record {
   mode = mode;
-  free = freeOf (a .margin + under) (a .collateral);
+  below = ltb left (blockedOf (a .margin + under) (a .collateral));
   passes = ltb (top .collateral)
       (topMargin a top (blockedOf (r .margin) ceiling) + deemedUnderCM a (atMargin a (blockedOf (r .margin) ceiling)) under tm clients all);
   client = liveClient;

@@ -1,13 +1,15 @@
--- Document 01, 'Refusal numbers, in order of checking': the table, for a record at a book; with document 02, K5: and its 17.
+-- Document 01, 'Refusal numbers, in order of checking': the table, for a record at a book; with document 02, K5: its 17; K7: its 12.
 use mathlib.Core.Bool.{Bool, not, _&&_, _||_}
 use mathlib.Core.List.{List, [], _∷_, _++_}
-use Prim.Native.Nat.{ℕ, _+_}
+use Prim.Native.Nat.{ℕ, _+_, _-_}
 use lib.Dec.{leb, ltb, eqb}
+use Rattle.sums.specs.Choice.{pick}
 use Rattle.sums.specs.Table.{Line, _when_, first}
 use Rattle.rows.specs.declared.Row.{Row}
+use Rattle.rows.specs.declared.Rule.{Rule}
 use Rattle.rows.specs.declared.Book.{Book}
-use Rattle.rows.specs.View.{View, needCM, free}
-use Rattle.rows.specs.Rows.{ceiling, rowAt, modeAt, placeOf, addedUp, view, withRow, withMargin, plusKinds, lessKinds, hasLiveClient, isLive}
+use Rattle.rows.specs.View.{View, needCM, blocked}
+use Rattle.rows.specs.Rows.{ceiling, rowAt, modeAt, placeOf, collateral, view, withRow, withAllocated, withPledged, withMargin, plusKinds, lessKinds, hasLiveClient, isLive}
 use Rattle.rows.specs.Ranges.{kindsCapped, kindsWithin, noAmounts}
 use Rattle.book.specs.Sound.{soundB}
 use Rattle.dayfile.specs.declared.Record.{Record}
@@ -52,9 +54,17 @@ tooMuch row r =
 abbrev pub heldByMode : Bool → Record → Bool
 heldByMode on r = (eqb (r .code) 7 || eqb (r .code) 9) && on
 
--- "12: release (its kinds added up) or unpledge of more than the account's free"
-abbrev pub beyondFree : ℕ → Record → Bool
-beyondFree left r = eqb (r .code) 7 && ltb left (addedUp (r .kinds)) || eqb (r .code) 9 && ltb left (r .pledged)
+-- the row after a release or unpledge
+abbrev pub takenOut : Row → Record → Row
+takenOut row r = pick (eqb (r .code) 7) (withAllocated row (lessKinds (row .allocated) (r .kinds))) (withPledged row (row .pledged - r .pledged))
+
+-- Document 02, K7: "the collateral left after a release or unpledge would be below what was blocked", before the record
+abbrev pub leftBelow : Rule → Row → ℕ → Record → Bool
+leftBelow rule row held r = ltb (collateral rule (takenOut row r)) held
+
+-- "12 is now given exactly when" that is so; by the old rule it is document 01's 12 (`promises.Haircut.by-the-old-rule-no-answer-moved`)
+abbrev pub takesBlocked : Bool → Record → Bool
+takesBlocked below r = (eqb (r .code) 7 || eqb (r .code) 9) && below
 
 -- the CM's need passes its collateral
 abbrev pub needPasses : View → Bool
@@ -85,7 +95,7 @@ refusals b r =
     ∷ (10 when pastCeiling (namedRow b r) r)
     ∷ (11 when tooMuch (namedRow b r) r)
     ∷ (17 when heldByMode (modeAt b (placeOf b (r .account))) r)
-    ∷ (12 when beyondFree (free (view b) (placeOf b (r .account))) r)
+    ∷ (12 when takesBlocked (leftBelow (b .rule) (namedRow b r) (blocked (view b) (placeOf b (r .account))) r) r)
     ∷ (13 when losesCover (namedRow b r) (needPasses (view (newMargin b r))) r)
     ∷ (14 when notRetirable (namedRow b r) (hasLiveClient b (placeOf b (r .account))) r)
     ∷ []))

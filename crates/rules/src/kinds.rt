@@ -3,7 +3,7 @@ use rows::Kinds;
 use rows::deemed::less;
 ghost use mathlib.Core.Path.{_≡_};
 ghost use Prim.Native.Nat.{_+_};
-ghost use Rattle.rows.specs.Rows.{addedUp, plusKinds, lessKinds};
+ghost use Rattle.rows.specs.Rows.{plusKinds, lessKinds};
 ghost use Rattle.rows.specs.Facts.{KindsWithin};
 ghost use Rattle.rows.specs.Ranges.{ceilings};
 
@@ -28,11 +28,4 @@ pub fn less_kinds(a: Kinds, b: Kinds) -> Kinds
         guarantees: less(a.guarantees, b.guarantees),
         securities: less(a.securities, b.securities),
     }
-}
-
-pub fn added_up(k: Kinds) -> u64
-    requires { ⌜ KindsWithin k ceilings ⌝ }
-    ensures { λ r. ⌜ r ≡ addedUp k ⌝ }
-{
-    k.cash + k.deposits + k.guarantees + k.securities
 }

@@ -13,7 +13,7 @@ pub enum Change {
 // What a record's verdict needs beside the row named: its mode, and what the other rows show.
 pub struct Beside {
     pub mode: bool,
-    pub free: u64,
+    pub below: bool,
     pub passes: bool,
     pub client: bool,
 }

@@ -11,6 +11,7 @@ use codes::settling::DeemedUnderAfter;
 use codes::settling::deemed_under_after;
 use codes::settling::deemed_under_at;
 use rows::Account;
+use rows::Rule;
 use rows::deemed::need_to_keep;
 use rows::modes::look;
 use rows::needs::account_of;
@@ -34,11 +35,12 @@ fn account_in(
     tm: &[u16; 256],
     w: &[u64; 2560],
     j: usize,
+    rule: Rule,
 ) -> Account
     requires { ⌜ Placed (marksFrom (now sort) (now live) (now tm)) (now w) × (j < 256) ⌝ }
-    ensures { λ x. ⌜ x ≡ accountIn (marksFrom (now (sort .entry)) (now (live .entry)) (now (tm .entry))) (now (w .entry)) j ⌝ }
+    ensures { λ x. ⌜ x ≡ accountIn rule (marksFrom (now (sort .entry)) (now (live .entry)) (now (tm .entry))) (now (w .entry)) j ⌝ }
 {
-    account_of(row_at(sort, live, tm, w, j))
+    account_of(row_at(sort, live, tm, w, j), rule)
 }
 
 fn past_of(
@@ -48,14 +50,15 @@ fn past_of(
     w: &[u64; 2560],
     needs: &[u64; 256],
     a: u16,
+    rule: Rule,
 ) -> Past
     requires { ⌜ Placed (marksFrom (now sort) (now live) (now tm)) (now w) ⌝ }
-    ensures { λ x. ⌜ PastOf (marksFrom (now (sort .entry)) (now (live .entry)) (now (tm .entry))) (now (w .entry)) (now (needs .entry)) a x ⌝ }
+    ensures { λ x. ⌜ PastOf rule (marksFrom (now (sort .entry)) (now (live .entry)) (now (tm .entry))) (now (w .entry)) (now (needs .entry)) a x ⌝ }
 {
     let place = slot(a);
-    let own = account_in(sort, live, tm, w, place);
+    let own = account_in(sort, live, tm, w, place, rule);
     let t = own.tm as usize;
-    let its = account_in(sort, live, tm, w, t);
+    let its = account_in(sort, live, tm, w, t, rule);
     let under = deemed_under_at(w, needs, place);
     let clients = deemed_under_at(w, needs, t);
     let all = deemed_under_at(w, needs, 0);
@@ -96,14 +99,15 @@ pub(crate) fn past_if(
     w: &[u64; 2560],
     needs: &[u64; 256],
     a: u16,
+    rule: Rule,
 ) -> Past
     requires { ⌜ Placed (marksFrom (now sort) (now live) (now tm)) (now w) ⌝ }
-    ensures { λ x. ⌜ (still ≡ false → PastOf (marksFrom (now (sort .entry)) (now (live .entry)) (now (tm .entry))) (now (w .entry)) (now (needs .entry)) a x) ⌝ }
+    ensures { λ x. ⌜ (still ≡ false → PastOf rule (marksFrom (now (sort .entry)) (now (live .entry)) (now (tm .entry))) (now (w .entry)) (now (needs .entry)) a x) ⌝ }
 {
     if still {
         return no_past();
     }
-    past_of(sort, live, tm, w, needs, a)
+    past_of(sort, live, tm, w, needs, a, rule)
 }
 
 // The kept needs after the record: at the account's place (0 where it is no TM's), at its TM's, and at the CM's last.
@@ -114,14 +118,15 @@ pub(crate) fn settle_needs(
     w: &[u64; 2560],
     needs: &mut [u64; 256],
     past: Past,
+    rule: Rule,
 )
     requires { ⌜ Placed (marksFrom (now sort) (now live) (now tm)) (now w) × ModestPast past ⌝ }
-    ensures { λ _. ⌜ now (needs .exit) ≡ neededSince (marksFrom (now (sort .entry)) (now (live .entry)) (now (tm .entry))) (now (w .entry)) (now (needs .entry)) past ⌝ }
+    ensures { λ _. ⌜ now (needs .exit) ≡ neededSince rule (marksFrom (now (sort .entry)) (now (live .entry)) (now (tm .entry))) (now (w .entry)) (now (needs .entry)) past ⌝ }
 {
     let i = past.place;
     let its = past.its;
-    let new = account_in(sort, live, tm, w, i);
-    let top = account_in(sort, live, tm, w, 0);
+    let new = account_in(sort, live, tm, w, i, rule);
+    let top = account_in(sort, live, tm, w, 0, rule);
     let x = deemed_under_after(past.under, past.clients, past.all, past.own, new, its);
     let t = past.own.tm as usize;
     needs[i] = need_to_keep(new, past.under);
@@ -174,11 +179,12 @@ fn look_at(
     excess: &[u64; 256],
     j: usize,
     before: bool,
+    rule: Rule,
 ) -> bool
     requires { ⌜ Placed (marksFrom (now sort) (now live) (now tm)) (now w) × Light (now excess) × (j < 256) ⌝ }
-    ensures { λ x. ⌜ x ≡ lookIn (marksFrom (now (sort .entry)) (now (live .entry)) (now (tm .entry))) (now (w .entry)) (now (excess .entry)) j before ⌝ }
+    ensures { λ x. ⌜ x ≡ lookIn rule (marksFrom (now (sort .entry)) (now (live .entry)) (now (tm .entry))) (now (w .entry)) (now (excess .entry)) j before ⌝ }
 {
-    let a = account_in(sort, live, tm, w, j);
+    let a = account_in(sort, live, tm, w, j, rule);
     look(j, a, excess[j], before)
 }
 
@@ -194,9 +200,10 @@ fn look_on(
     waiting: bool,
     i: usize,
     t: usize,
+    rule: Rule,
 )
     requires { ⌜ Placed (marksFrom (now sort) (now live) (now tm)) (now w) × Light (now excess) × (length (now was) ≡ 256) × (length (now modes) ≡ 256) × (i < 256) × (t < 256) ⌝ }
-    ensures { λ _. ⌜ now (modes .exit) ≡ lookedOn (marksFrom (now (sort .entry)) (now (live .entry)) (now (tm .entry))) (now (w .entry)) (now (excess .entry)) (modesIn waiting (now (was .entry)) (now (modes .entry))) (now (modes .entry)) i t ⌝ }
+    ensures { λ _. ⌜ now (modes .exit) ≡ lookedOn rule (marksFrom (now (sort .entry)) (now (live .entry)) (now (tm .entry))) (now (w .entry)) (now (excess .entry)) (modesIn waiting (now (was .entry)) (now (modes .entry))) (now (modes .entry)) i t ⌝ }
 {
     let own = look_at(
         sort,
@@ -206,6 +213,7 @@ fn look_on(
         excess,
         i,
         mode_of(was, modes, waiting, i),
+        rule,
     );
     let its = look_at(
         sort,
@@ -215,6 +223,7 @@ fn look_on(
         excess,
         t,
         mode_of(was, modes, waiting, t),
+        rule,
     );
     let top = look_at(
         sort,
@@ -224,6 +233,7 @@ fn look_on(
         excess,
         0,
         mode_of(was, modes, waiting, 0),
+        rule,
     );
     modes[i] = own;
     modes[t] = its;
@@ -241,15 +251,16 @@ pub(crate) fn look_after(
     was: &[bool; 256],
     waiting: bool,
     past: Past,
+    rule: Rule,
 )
     requires { ⌜ Placed (marksFrom (now sort) (now live) (now tm)) (now w) × Borne (now excess) × (length (now was) ≡ 256) × (length (now modes) ≡ 256) × ModestPast past ⌝ }
-    ensures { λ _. ⌜ now (excess .exit) ≡ excessSince (marksFrom (now (sort .entry)) (now (live .entry)) (now (tm .entry))) (now (w .entry)) (now (excess .entry)) past ⌝ }
-    ensures { λ _. ⌜ now (modes .exit) ≡ lookedSince (marksFrom (now (sort .entry)) (now (live .entry)) (now (tm .entry))) (now (w .entry)) (now (excess .entry)) (modesIn waiting (now (was .entry)) (now (modes .entry))) (now (modes .entry)) past ⌝ }
+    ensures { λ _. ⌜ now (excess .exit) ≡ excessSince rule (marksFrom (now (sort .entry)) (now (live .entry)) (now (tm .entry))) (now (w .entry)) (now (excess .entry)) past ⌝ }
+    ensures { λ _. ⌜ now (modes .exit) ≡ lookedSince rule (marksFrom (now (sort .entry)) (now (live .entry)) (now (tm .entry))) (now (w .entry)) (now (excess .entry)) (modesIn waiting (now (was .entry)) (now (modes .entry))) (now (modes .entry)) past ⌝ }
 {
     let i = past.place;
     let own = past.own;
     let its = past.its;
-    let new = account_in(sort, live, tm, w, i);
+    let new = account_in(sort, live, tm, w, i, rule);
     settle_excess(excess, i, own, new, its);
     look_on(
         sort,
@@ -262,5 +273,6 @@ pub(crate) fn look_after(
         waiting,
         i,
         own.tm as usize,
+        rule,
     );
 }

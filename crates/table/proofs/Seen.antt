@@ -5,6 +5,7 @@ use mathlib.Core.Path.{_≡_, ap, sym, _∙_}
 use Prim.Native.Nat.{ℕ, _<_}
 use native.Mathlib.Omega.{arith}
 use native.Mathlib.Decide.{decLt}
+use Rattle.rows.specs.declared.Rule.{Rule}
 use Rattle.rows.specs.declared.Book.{Book}
 use Rattle.rows.specs.Rows.{rowAt, accountOf, view}
 use Rattle.rows.specs.DeemedUnder.{accountAt}
@@ -14,12 +15,12 @@ use Rattle.table.specs.Words.{Marks, marksFrom, bookFrom}
 use Rattle.table.specs.Facts.{seenBook}
 use Rattle.table.proofs.Gathered.{rows-length, row-in}
 
-module _ (count serial : ℕ) (m : Marks) (w : List ℕ) (modes : List Bool) (needs : List ℕ) where
+module _ (rule : Rule) (count serial : ℕ) (m : Marks) (w : List ℕ) (modes : List Bool) (needs : List ℕ) where
   abbrev seen : Book
-  seen = seenBook count (m .sort) (m .tm) w
+  seen = seenBook rule count (m .sort) (m .tm) w
 
   abbrev whole : Book
-  whole = bookFrom count serial m w modes needs
+  whole = bookFrom rule count serial m w modes needs
 
   abbrev marks : Marks
   marks = marksFrom (m .sort) [] (m .tm)
@@ -33,12 +34,12 @@ module _ (count serial : ℕ) (m : Marks) (w : List ℕ) (modes : List Bool) (ne
     margin = λ i. alike i (decLt i 256) j .margin;
   }
     where
-      alike : (i : ℕ) → Dec (i < 256) → accountOf (rowAt seen i) ≡ accountOf (rowAt whole i)
-      alike i (yes l) = ap accountOf (row-in marks w i l) ∙ sym (ap accountOf (row-in m w i l))
+      alike : (i : ℕ) → Dec (i < 256) → accountOf rule (rowAt seen i) ≡ accountOf rule (rowAt whole i)
+      alike i (yes l) = ap (accountOf rule) (row-in marks w i l) ∙ sym (ap (accountOf rule) (row-in m w i l))
       alike i (no l) =
-          ap accountOf (row-far seen i (omega (arith, rows-length marks w)) ∙ sym (row-far whole i (omega (arith, rows-length m w))))
+          ap (accountOf rule) (row-far seen i (omega (arith, rows-length marks w)) ∙ sym (row-far whole i (omega (arith, rows-length m w))))
 
-  pub seen-account : (i : ℕ) → accountOf (rowAt seen i) ≡ accountOf (rowAt whole i)
+  pub seen-account : (i : ℕ) → accountOf rule (rowAt seen i) ≡ accountOf rule (rowAt whole i)
   seen-account i = ap (λ v. accountAt v i) seen-view
 
   pub seen-ranged : Ranged whole → Ranged seen

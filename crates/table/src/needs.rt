@@ -6,34 +6,41 @@ ghost use lib.ListN.{length, replicate};
 ghost use Rattle.rows.specs.Rows.{rowAt, accountOf, view};
 ghost use Rattle.rows.specs.Facts.{Shaped, NoneBeyond, InRange};
 ghost use Rattle.rows.specs.DeemedUnder.{DeemedUnder};
-ghost use Rattle.rows.specs.KeptNeeds.{allKept};
+ghost use Rattle.rows.specs.KeptNeeds.{allKept, needsAfresh};
 ghost use Rattle.rows.specs.Inner.{Ranged, ClientSums, membersBelow, accountAs, viewAs, keptWith};
 ghost use Rattle.table.specs.Facts.{seenBook};
 use super::places::kinds_at;
 use super::places::word_at;
 use rows::Account;
+use rows::Rule;
 use rows::deemed::need_to_keep;
 use rows::needs::client_due;
+use rows::needs::counted_of;
 use rows::needs::in_tenths;
 use rows::needs::member_due;
 use rows::needs::slot;
 
-// What needs see of account i: its collateral is words 4 to 8 added up, its margin word 9.
+// What needs see of account i: its collateral is words 4 to 6 and 8 and what word 7 counts for (K7), its margin word 9.
 pub fn account_at<'a>(
     sort: &'a [u8; 256],
     tm: &'a [u16; 256],
     w: &'a [u64; 2560],
     i: usize,
+    rule: Rule,
 ) -> Account
-    requires { ⌜ (i < 256) × InRange (rowAt (seenBook 0 (now sort) (now tm) (now w)) i) ⌝ }
-    ensures { λ x. ⌜ x ≡ accountOf (rowAt (seenBook 0 (now (sort .entry)) (now (tm .entry)) (now (w .entry))) i) ⌝ }
+    requires { ⌜ (i < 256) × InRange (rowAt (seenBook rule 0 (now sort) (now tm) (now w)) i) ⌝ }
+    ensures { λ x. ⌜ x ≡ accountOf rule (rowAt (seenBook rule 0 (now (sort .entry)) (now (tm .entry)) (now (w .entry))) i) ⌝ }
 {
     let a = kinds_at(w, 4, i);
     Account {
         sort: sort[i],
         tm: tm[i],
         margin: word_at(w, 9, i),
-        collateral: a.cash + a.deposits + a.guarantees + a.securities + word_at(w, 8, i),
+        collateral: a.cash
+            + a.deposits
+            + a.guarantees
+            + word_at(w, 8, i)
+            + counted_of(a.securities, rule),
     }
 }
 
@@ -44,11 +51,12 @@ fn account_as<'a>(
     w: &'a [u64; 2560],
     i: usize,
     tenths: bool,
+    rule: Rule,
 ) -> Account
-    requires { ⌜ (i < 256) × InRange (rowAt (seenBook 0 (now sort) (now tm) (now w)) i) ⌝ }
-    ensures { λ x. ⌜ x ≡ accountAs tenths (accountOf (rowAt (seenBook 0 (now (sort .entry)) (now (tm .entry)) (now (w .entry))) i)) ⌝ }
+    requires { ⌜ (i < 256) × InRange (rowAt (seenBook rule 0 (now sort) (now tm) (now w)) i) ⌝ }
+    ensures { λ x. ⌜ x ≡ accountAs tenths (accountOf rule (rowAt (seenBook rule 0 (now (sort .entry)) (now (tm .entry)) (now (w .entry))) i)) ⌝ }
 {
-    let a = account_at(sort, tm, w, i);
+    let a = account_at(sort, tm, w, i, rule);
     if tenths { in_tenths(a) } else { a }
 }
 
@@ -60,14 +68,15 @@ fn client_sums<'a>(
     count: u16,
     tenths: bool,
     under: &mut [u64; 256],
+    rule: Rule,
 )
-    requires { ⌜ Ranged (seenBook count (now sort) (now tm) (now w)) × (now under ≡ replicate 256 0) ⌝ }
-    ensures { λ _. ⌜ ClientSums (viewAs tenths (view (seenBook count (now (sort .entry)) (now (tm .entry)) (now (w .entry))))) (now (under .exit)) ⌝ }
+    requires { ⌜ Ranged (seenBook rule count (now sort) (now tm) (now w)) × (now under ≡ replicate 256 0) ⌝ }
+    ensures { λ _. ⌜ ClientSums (viewAs tenths (view (seenBook rule count (now (sort .entry)) (now (tm .entry)) (now (w .entry))))) (now (under .exit)) ⌝ }
 {
     let n = count as usize;
     let mut i: usize = 0;
     while i < n {
-        let a = account_as(sort, tm, w, i, tenths);
+        let a = account_as(sort, tm, w, i, tenths, rule);
         let t = slot(a.tm);
         let d = client_due(a);
         under[t] = under[t] + d;
@@ -83,15 +92,16 @@ fn members_sum<'a>(
     count: u16,
     tenths: bool,
     under: &'a [u64; 256],
+    rule: Rule,
 ) -> u64
-    requires { ⌜ Ranged (seenBook count (now sort) (now tm) (now w)) × ClientSums (viewAs tenths (view (seenBook count (now sort) (now tm) (now w)))) (now under) ⌝ }
-    ensures { λ x. ⌜ x ≡ membersBelow (viewAs tenths (view (seenBook count (now (sort .entry)) (now (tm .entry)) (now (w .entry))))) count ⌝ }
+    requires { ⌜ Ranged (seenBook rule count (now sort) (now tm) (now w)) × ClientSums (viewAs tenths (view (seenBook rule count (now sort) (now tm) (now w)))) (now under) ⌝ }
+    ensures { λ x. ⌜ x ≡ membersBelow (viewAs tenths (view (seenBook rule count (now (sort .entry)) (now (tm .entry)) (now (w .entry))))) count ⌝ }
 {
     let mut sum: u64 = 0;
     let n = count as usize;
     let mut i: usize = 0;
     while i < n {
-        let a = account_as(sort, tm, w, i, tenths);
+        let a = account_as(sort, tm, w, i, tenths, rule);
         sum += member_due(a, under[i]);
         i += 1;
     }
@@ -107,12 +117,13 @@ pub fn deemed_under<'a>(
     count: u16,
     tenths: bool,
     under: &mut [u64; 256],
+    rule: Rule,
 )
-    requires { ⌜ Ranged (seenBook count (now sort) (now tm) (now w)) × Shaped (view (seenBook count (now sort) (now tm) (now w))) × (now under ≡ replicate 256 0) ⌝ }
-    ensures { λ _. ⌜ DeemedUnder (viewAs tenths (view (seenBook count (now (sort .entry)) (now (tm .entry)) (now (w .entry))))) (now (under .exit)) ⌝ }
+    requires { ⌜ Ranged (seenBook rule count (now sort) (now tm) (now w)) × Shaped (view (seenBook rule count (now sort) (now tm) (now w))) × (now under ≡ replicate 256 0) ⌝ }
+    ensures { λ _. ⌜ DeemedUnder (viewAs tenths (view (seenBook rule count (now (sort .entry)) (now (tm .entry)) (now (w .entry))))) (now (under .exit)) ⌝ }
 {
-    client_sums(sort, tm, w, count, tenths, under);
-    let all = members_sum(sort, tm, w, count, tenths, under);
+    client_sums(sort, tm, w, count, tenths, under, rule);
+    let all = members_sum(sort, tm, w, count, tenths, under, rule);
     under[0] = all;
 }
 
@@ -124,18 +135,40 @@ fn kept_at<'a>(
     count: u16,
     i: usize,
     under: u64,
+    rule: Rule,
 ) -> u64
-    requires { ⌜ Ranged (seenBook count (now sort) (now tm) (now w)) × (under ≤ 10_000_000_000_000_000_000) ⌝ }
-    ensures { λ x. ⌜ x ≡ keptWith (view (seenBook count (now (sort .entry)) (now (tm .entry)) (now (w .entry)))) i under ⌝ }
+    requires { ⌜ Ranged (seenBook rule count (now sort) (now tm) (now w)) × (under ≤ 10_000_000_000_000_000_000) ⌝ }
+    ensures { λ x. ⌜ x ≡ keptWith (view (seenBook rule count (now (sort .entry)) (now (tm .entry)) (now (w .entry)))) i under ⌝ }
 {
     if (count as usize) <= i {
         return 0;
     }
-    let a = account_at(sort, tm, w, i);
+    let a = account_at(sort, tm, w, i, rule);
     if i == 0 {
         return a.margin + under;
     }
     need_to_keep(a, under)
+}
+
+// Every need to keep, worked out afresh and put into a list of zeros.
+pub fn needs_afresh<'a>(
+    sort: &'a [u8; 256],
+    tm: &'a [u16; 256],
+    w: &'a [u64; 2560],
+    count: u16,
+    needs: &mut [u64; 256],
+    rule: Rule,
+)
+    requires { ⌜ Ranged (seenBook rule count (now sort) (now tm) (now w)) × Shaped (view (seenBook rule count (now sort) (now tm) (now w))) × NoneBeyond (view (seenBook rule count (now sort) (now tm) (now w))) × (now needs ≡ replicate 256 0) ⌝ }
+    ensures { λ _. ⌜ now (needs .exit) ≡ needsAfresh (view (seenBook rule count (now (sort .entry)) (now (tm .entry)) (now (w .entry)))) ⌝ }
+{
+    deemed_under(sort, tm, w, count, false, needs, rule);
+    let mut i: usize = 0;
+    while i < 256 {
+        let under = needs[i];
+        needs[i] = kept_at(sort, tm, w, count, i, under, rule);
+        i += 1;
+    }
 }
 
 // Each kept need is the one worked out afresh.
@@ -145,16 +178,17 @@ pub fn needs_kept<'a>(
     w: &'a [u64; 2560],
     count: u16,
     needs: &'a [u64; 256],
+    rule: Rule,
 ) -> bool
-    requires { ⌜ Ranged (seenBook count (now sort) (now tm) (now w)) × Shaped (view (seenBook count (now sort) (now tm) (now w))) × NoneBeyond (view (seenBook count (now sort) (now tm) (now w))) ⌝ }
-    ensures { λ x. ⌜ x ≡ allKept (view (seenBook count (now (sort .entry)) (now (tm .entry)) (now (w .entry)))) (now (needs .entry)) ⌝ }
+    requires { ⌜ Ranged (seenBook rule count (now sort) (now tm) (now w)) × Shaped (view (seenBook rule count (now sort) (now tm) (now w))) × NoneBeyond (view (seenBook rule count (now sort) (now tm) (now w))) ⌝ }
+    ensures { λ x. ⌜ x ≡ allKept (view (seenBook rule count (now (sort .entry)) (now (tm .entry)) (now (w .entry)))) (now (needs .entry)) ⌝ }
 {
-    let mut under = [0u64; 256];
-    deemed_under(sort, tm, w, count, false, &mut under);
+    let mut fresh = [0u64; 256];
+    needs_afresh(sort, tm, w, count, &mut fresh, rule);
     let mut ok = true;
     let mut i: usize = 0;
     while i < 256 {
-        ok = ok & (needs[i] == kept_at(sort, tm, w, count, i, under[i]));
+        ok = ok & (needs[i] == fresh[i]);
         i += 1;
     }
     ok

@@ -14,14 +14,16 @@ impl Book {
     }
 
     pub fn deemed(&self, account: usize) -> u64 {
-        self.need(account)
-            .saturating_sub(self.rows[account].collateral())
+        self.need(account).saturating_sub(self.collateral(account))
+    }
+
+    /// "Blocked is the lesser of need and collateral."
+    pub fn blocked(&self, account: usize) -> u64 {
+        self.need(account).min(self.collateral(account))
     }
 
     pub fn free(&self, account: usize) -> u64 {
-        self.rows[account]
-            .collateral()
-            .saturating_sub(self.need(account))
+        self.collateral(account).saturating_sub(self.need(account))
     }
 
     /// The CM's need if the account's margin were this one.
@@ -30,7 +32,7 @@ impl Book {
         let mut need = self.need(at) - self.rows[at].margin + margin;
         while at != 0 {
             let above = self.answers_for(at);
-            let deemed = need.saturating_sub(self.rows[at].collateral());
+            let deemed = need.saturating_sub(self.collateral(at));
             need = self.need(above) - self.deemed(at) + deemed;
             at = above;
         }

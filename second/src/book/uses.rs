@@ -9,7 +9,7 @@ impl Book {
     /// and a TM's "own excess is use less nine collaterals, or 0".
     pub fn excess(&self, account: usize) -> u64 {
         let row = &self.rows[account];
-        let nine_collaterals = 9 * row.collateral();
+        let nine_collaterals = 9 * self.collateral(account);
         match row.sort {
             Sort::Client | Sort::Cp => (10 * row.margin).saturating_sub(nine_collaterals),
             Sort::Tm => self.used(account).saturating_sub(nine_collaterals),
@@ -48,7 +48,7 @@ impl Book {
 
     fn look_at(&mut self, account: usize) {
         if self.is_member(account) {
-            let collateral = self.rows[account].collateral();
+            let collateral = self.collateral(account);
             self.modes[account] = self.modes[account].looked_at(self.used(account), collateral);
         }
     }
@@ -72,7 +72,8 @@ impl Book {
                 uses[account] = against;
             }
             if account != 0 {
-                over[self.answers_for(account)] += against.saturating_sub(9 * row.collateral());
+                over[self.answers_for(account)] +=
+                    against.saturating_sub(9 * self.collateral(account));
             }
         }
         uses

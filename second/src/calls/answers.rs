@@ -2,6 +2,7 @@
 //! but for `read_at`.
 
 use super::Call;
+use crate::book::Book;
 use crate::carry::{carry_values, Answer};
 use crate::closeout::close_out;
 use crate::day::{run, Closing};
@@ -22,16 +23,22 @@ pub struct Answered {
 const UNSOUND: u8 = 1;
 
 pub fn answer(call: &Call) -> Answered {
+    let (call, rule) = call.by_rule();
     match call {
-        Call::IsSound(book) => told(u8::from(book.is_sound()), &[]),
-        Call::Standing(book, account) => standing(book, *account),
-        Call::CarryOut(book, record) => carry_out(book, record),
-        Call::CarryOutNext(book, piece, place) => carry_out_next(book, piece, *place),
-        Call::Day(book, piece, number) => day(book, piece, *number),
+        Call::IsSound(book) => told(u8::from(book.is_sound_by(rule)), &[]),
+        Call::Standing(book, account) => standing(book.book_by(rule), *account),
+        Call::CarryOut(table, record) => carry_out(table, table.book_by(rule), record),
+        Call::CarryOutNext(table, piece, place) => {
+            carry_out_next(table, table.book_by(rule), piece, *place)
+        }
+        Call::Day(table, piece, number) => day(table, table.book_by(rule), piece, *number),
         Call::ReadAt(piece, place) => read_at(piece, *place),
         Call::Write(record, room) => write(record, *room),
-        Call::CloseOut(book, losses, room) => close_out_call(book, losses, *room),
-        Call::Needs(book, room) => needs(book, *room),
+        Call::CloseOut(book, losses, room) => close_out_call(book.book_by(rule), losses, *room),
+        Call::Needs(book, room) => needs(book.book_by(rule), *room),
+        Call::TakeOver(book) => take_over(book),
+        // A call under the old rule is none of another.
+        Call::Old(call) => answer(call),
     }
 }
 
@@ -50,8 +57,8 @@ fn spaced(mut line: String, rest: &[u64]) -> String {
 }
 
 /// "Refusals 1, 7, and all five figures 0"; a refused one shows off.
-fn standing(table: &Table, account: u16) -> Answered {
-    let Some(book) = table.book() else {
+fn standing(book: Option<Book>, account: u16) -> Answered {
+    let Some(book) = book else {
         return told(UNSOUND, &[0; 6]);
     };
     if !book.is_live(account) {
@@ -117,8 +124,8 @@ fn record_answered(answer: &Answer, place: Option<u64>, before: &Table, after: &
     record_line(names, word, answer.opened(), place, &book)
 }
 
-fn carry_out(table: &Table, record: &Values) -> Answered {
-    let Some(mut book) = table.book() else {
+fn carry_out(table: &Table, book: Option<Book>, record: &Values) -> Answered {
+    let Some(mut book) = book else {
         return nameless(UNSOUND, None);
     };
     let answer = carry_values(&mut book, record);
@@ -126,8 +133,8 @@ fn carry_out(table: &Table, record: &Values) -> Answered {
 }
 
 /// "An unsound book gives 1 even at the end."
-fn carry_out_next(table: &Table, piece: &[u8], place: u64) -> Answered {
-    let Some(mut book) = table.book() else {
+fn carry_out_next(table: &Table, book: Option<Book>, piece: &[u8], place: u64) -> Answered {
+    let Some(mut book) = book else {
         return nameless(UNSOUND, Some(place));
     };
     let record = match next_at(piece, place) {
@@ -142,8 +149,8 @@ fn carry_out_next(table: &Table, piece: &[u8], place: u64) -> Answered {
 
 /// "An unsound book gives 1 as the closing word, place 0, counts of 0 and the
 /// same book."
-fn day(table: &Table, piece: &[u8], number: u64) -> Answered {
-    let Some(mut book) = table.book() else {
+fn day(table: &Table, book: Option<Book>, piece: &[u8], number: u64) -> Answered {
+    let Some(mut book) = book else {
         return with_book(told(UNSOUND, &[0; 3]), "same");
     };
     let most = usize::try_from(number).unwrap_or(usize::MAX);
@@ -210,12 +217,12 @@ fn write(record: &Values, room: usize) -> Answered {
 
 /// "The checks are 1, 15 (losses, then room), 16. A refusal leaves the room
 /// untouched and gives a total of 0."
-fn close_out_call(table: &Table, losses: &[u64], room: usize) -> Answered {
+fn close_out_call(book: Option<Book>, losses: &[u64], room: usize) -> Answered {
     let refused = |refusal: u8| {
         let rest: Vec<u64> = [0].into_iter().chain(lent(room)).collect();
         told(refusal, &rest)
     };
-    let Some(book) = table.book() else {
+    let Some(book) = book else {
         return refused(UNSOUND);
     };
     if losses.len() != book.count || room != 4 * book.count {
@@ -234,10 +241,18 @@ fn close_out_call(table: &Table, losses: &[u64], room: usize) -> Answered {
 }
 
 /// "Refusals 1; 15, room not one for each account."
-fn needs(table: &Table, room: usize) -> Answered {
-    match table.book() {
+fn needs(book: Option<Book>, room: usize) -> Answered {
+    match book {
         None => told(UNSOUND, &lent(room)),
         Some(book) if room != book.count => told(Refusal::WrongLength as u8, &lent(room)),
         Some(book) => told(0, &book.all_needs()),
+    }
+}
+
+/// "1 and the same book", or the book taken over.
+fn take_over(table: &Table) -> Answered {
+    match table.taken_over() {
+        None => with_book(told(UNSOUND, &[]), "same"),
+        Some(after) => with_book(told(0, &[]), &book_words(table, &after)),
     }
 }

@@ -6,7 +6,8 @@ use super::{Answered, Call};
 use crate::book::CEILING;
 use crate::dayfile::{length, Next, Reader};
 use crate::make::asked::ENDINGS;
-use crate::table::{Fault, Table, ALLOCATED, LIVE, MODE, PLEDGED, RECEIVED};
+use crate::rule::Rule;
+use crate::table::{Fault, Table, ALLOCATED, LIVE, MARGIN, MODE, PLEDGED, RECEIVED};
 use std::collections::BTreeMap;
 
 /// The outcomes of each call, in the order of their names.
@@ -20,10 +21,18 @@ const OUTCOMES: [&str; NAMES.len()] = [
     "0 4 5 6 15",
     "0 1 15 16",
     "0 1 15",
+    "0 1",
+    "0 1",
+    "0 1 7",
+    "0 1 3 4 5 6 7 8 9 10 11 12 13 14 17",
+    "0 1 2 3 4 5 6 7 8 9 10 11 12 13 14 17 end",
+    "1 end cut long",
+    "0 1 15 16",
+    "0 1 15",
 ];
 
 /// The edges of arguments that every run must have, by call.
-const EDGES: [(&str, &[&str]); 7] = [
+const EDGES: [(&str, &[&str]); 16] = [
     ("carry_out_next", &PLACES),
     ("read_at", &PLACES),
     ("day", &NUMBERS),
@@ -31,6 +40,15 @@ const EDGES: [(&str, &[&str]); 7] = [
     ("close_out", &ROOMS),
     ("needs", &ROOMS),
     ("is_sound", &BOOKS),
+    ("is_sound", &RULES),
+    ("old carry_out_next", &PLACES),
+    ("old day", &NUMBERS),
+    ("old close_out", &ROOMS),
+    ("old needs", &ROOMS),
+    ("old is_sound", &BOOKS),
+    ("old is_sound", &RULES),
+    ("take_over", &RULES),
+    ("take_over", &TAKEN_OVER),
 ];
 
 const PLACES: [&str; 5] = [
@@ -65,6 +83,28 @@ const BOOKS: [&str; 6] = [
     "serial 65535",
 ];
 
+/// How the two rules judge one book.
+const RULES: [&str; 4] = [
+    "sound by both rules",
+    "sound by the old rule alone",
+    "sound by the new rule alone",
+    "covered at face value only",
+];
+/// Of books that are sound by the old rule.
+const TAKEN_OVER: [&str; 6] = [
+    "kept needs that move",
+    "kept needs that stay",
+    "a mode on",
+    "covered by the new rule to the paisa",
+    "a paisa short by the new rule",
+    "a retired account",
+];
+
+/// By whom a book is judged: by the calls of today, by the old rule's, or
+/// where it is to be taken over.
+type Judge = &'static str;
+const JUDGES: [Judge; 3] = ["new", "old", "take_over"];
+
 #[derive(Default)]
 pub struct Met {
     pub inputs: u64,
@@ -72,7 +112,7 @@ pub struct Met {
     outcomes: BTreeMap<(&'static str, String), u64>,
     edges: BTreeMap<(&'static str, &'static str), u64>,
     /// Books with one fault alone.
-    alone: BTreeMap<Fault, u64>,
+    alone: BTreeMap<(Judge, Fault), u64>,
     sound: u64,
     several: u64,
     endings: [u64; ENDINGS.len()],
@@ -87,17 +127,22 @@ impl Met {
             *self.edges.entry((call.name(), edge)).or_default() += 1;
         }
         if let Some(book) = call.book() {
-            self.count_book(book);
+            self.count_book(book, call);
         }
     }
 
-    fn count_book(&mut self, book: &Table) {
-        let faults = book.faults();
+    fn count_book(&mut self, book: &Table, call: &Call) {
+        let judge = match call {
+            Call::TakeOver(_) => JUDGES[2],
+            Call::Old(_) => JUDGES[1],
+            _ => JUDGES[0],
+        };
+        let faults = book.faults_by(call.by_rule().1);
         let alone = Fault::alone(&faults);
         self.sound += u64::from(faults.is_empty());
         self.several += u64::from(alone.is_empty() && !faults.is_empty());
         for fault in alone {
-            *self.alone.entry(fault).or_default() += 1;
+            *self.alone.entry((judge, fault)).or_default() += 1;
         }
     }
 
@@ -108,7 +153,7 @@ impl Met {
 
     pub fn missed(&self) -> Vec<String> {
         let mut missed = Vec::new();
-        for (name, outcomes) in NAMES.into_iter().zip(OUTCOMES) {
+        for ((_, name), outcomes) in NAMES.into_iter().zip(OUTCOMES) {
             for outcome in outcomes.split(' ') {
                 if !self.outcomes.contains_key(&(name, outcome.to_string())) {
                     missed.push(format!("{name}: {outcome}"));
@@ -120,9 +165,12 @@ impl Met {
             let unmet = edges.filter(|&&edge| !self.edges.contains_key(&(name, edge)));
             missed.extend(unmet.map(|edge| format!("{name}: {edge}")));
         }
-        let mut faults = Fault::all();
-        faults.retain(|fault| !self.alone.contains_key(fault));
-        missed.extend(faults.iter().map(|fault| format!("alone: {fault:?}")));
+        for judge in JUDGES {
+            let mut faults = Fault::all();
+            faults.retain(|&fault| !self.alone.contains_key(&(judge, fault)));
+            let faults = faults.iter();
+            missed.extend(faults.map(|fault| format!("alone, {judge}: {fault:?}")));
+        }
         let endings = ENDINGS.iter().zip(self.endings);
         let unmet = endings.filter(|(_, many)| *many == 0);
         missed.extend(unmet.map(|(ending, _)| ending.0.to_string()));
@@ -139,7 +187,7 @@ impl Met {
             self.alone.values().sum::<u64>(),
             self.several
         )];
-        for name in NAMES {
+        for (_, name) in NAMES {
             let of_call = self.outcomes.iter().filter(|((call, _), _)| *call == name);
             let mut met: Vec<String> = of_call
                 .map(|((_, outcome), many)| format!("{outcome}: {many}"))
@@ -161,6 +209,7 @@ impl Met {
 }
 
 fn edges(call: &Call) -> Vec<&'static str> {
+    let (call, rule) = call.by_rule();
     match call {
         Call::CarryOutNext(_, piece, place) | Call::ReadAt(piece, place) => {
             vec![place_edge(piece.len() as u64, *place)]
@@ -169,9 +218,50 @@ fn edges(call: &Call) -> Vec<&'static str> {
         Call::Write(record, room) => room_edges(length(record.mark), *room),
         Call::CloseOut(book, _, room) => room_edges(4 * book.held(), *room),
         Call::Needs(book, room) => room_edges(book.held(), *room),
-        Call::IsSound(book) if book.is_sound() => book_edges(book),
+        Call::IsSound(book) if book.is_sound_by(rule) => {
+            [book_edges(book), rule_edges(book)].concat()
+        }
+        Call::IsSound(book) => rule_edges(book),
+        Call::TakeOver(book) => [rule_edges(book), over_edges(book)].concat(),
         _ => Vec::new(),
     }
+}
+
+fn rule_edges(book: &Table) -> Vec<&'static str> {
+    let (old, new) = (book.is_sound_by(Rule::Old), book.is_sound_by(Rule::New));
+    let is = [
+        old && new,
+        old && !new,
+        new && !old,
+        old && !book.is_covered(Rule::New),
+    ];
+    chosen(&RULES, &is)
+}
+
+fn over_edges(book: &Table) -> Vec<&'static str> {
+    if !book.is_sound_by(Rule::Old) {
+        return Vec::new();
+    }
+    let held = &book.places[..book.held()];
+    let is_settled = book.settled(Rule::New) == *book;
+    let margin = book.places[0][MARGIN];
+    let is_covered = is_covered_with(book, margin);
+    let is = [
+        is_covered && !is_settled,
+        is_covered && is_settled,
+        is_covered && held.iter().any(|place| place[MODE] == 1),
+        is_covered && !is_covered_with(book, margin + 1),
+        !is_covered && is_covered_with(book, margin.saturating_sub(1)),
+        held.iter().any(|place| place[LIVE] == 0),
+    ];
+    chosen(&TAKEN_OVER, &is)
+}
+
+/// By the new rule, with another margin of the CM's.
+fn is_covered_with(book: &Table, margin: u64) -> bool {
+    let mut book = book.clone();
+    book.places[0][MARGIN] = margin;
+    book.is_covered(Rule::New)
 }
 
 fn place_edge(length: u64, place: u64) -> &'static str {

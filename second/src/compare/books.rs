@@ -7,10 +7,11 @@ use crate::book::Book;
 use crate::child::{ask, ask_held, Pace};
 use crate::difference::settle;
 use crate::made::Made;
-use crate::make::asked::{any_sound, unsound, with_steps};
+use crate::make::asked::{any_sound, to_take_over, unsound, with_steps};
 use crate::make::{losses, make, ROUND};
 use crate::options::Options;
 use crate::rng::Rng;
+use crate::rule::Rule;
 use crate::table::{Fault, Table};
 use crate::{bookfile, print};
 use std::fs;
@@ -24,13 +25,15 @@ pub struct Met {
     odd: u64,
     unsound: u64,
     none: u64,
+    /// Taken over, and not.
+    over: [u64; 2],
 }
 
 impl Met {
     pub fn line(&self) -> String {
         format!(
-            "same: {} days in two pieces, {} runs from a book; books with modes of their own: {}, not sound: {}, none: {}",
-            self.days, self.runs, self.odd, self.unsound, self.none
+            "same: {} days in two pieces, {} runs from a book; books with modes of their own: {}, not sound: {}, none: {}; taken over: {}, not taken over: {}",
+            self.days, self.runs, self.odd, self.unsound, self.none, self.over[0], self.over[1]
         )
     }
 }
@@ -68,6 +71,9 @@ pub fn all_books(options: &Options, programs: &Programs, many: u64) -> Result<Me
         night.own_modes()?;
         night.not_sound(place)?;
         night.no_book(place)?;
+        if let Some(program) = programs.take_over {
+            night.take_over(program, place)?;
+        }
         met.days += 1;
     }
     for name in ["book", "to", "losses"] {
@@ -186,7 +192,11 @@ impl Night<'_> {
     /// open, so that a program that waits for it is found out.
     fn not_sound(&mut self, place: u64) -> Result<(), String> {
         let faults = Fault::all();
-        let table = unsound(faults[place as usize % faults.len()], &mut self.rng);
+        let table = unsound(
+            faults[place as usize % faults.len()],
+            Rule::New,
+            &mut self.rng,
+        );
         let book = self.put("book", &bookfile::bytes(&table))?;
         let to = self.put("to", b"as it was")?;
         let losses = self.put("losses", &vec![0; 8 * table.held()])?;
@@ -194,6 +204,8 @@ impl Night<'_> {
         for (name, program, words) in self.runs(&book, &to, &losses) {
             let want = match name {
                 "closeouts" => &closed,
+                // It judges by the old rule.
+                "take_over" => continue,
                 _ => print::UNSOUND,
             };
             let got = ask_held(program, &words);
@@ -207,6 +219,7 @@ impl Night<'_> {
     /// The programs there are, each with its words.
     fn runs<'p>(&self, book: &'p Path, to: &'p Path, losses: &'p Path) -> Vec<Run<'_, 'p>> {
         let all = [
+            ("take_over", self.programs.take_over, vec![book, to]),
             ("day", self.programs.day, vec![book, to]),
             ("standings", self.programs.standings, vec![book]),
             ("needs", self.programs.needs, vec![book]),
@@ -220,7 +233,36 @@ impl Night<'_> {
     fn to_untouched(&self, to: &Path) -> Result<(), String> {
         match fs::read(to) {
             Ok(bytes) if bytes == b"as it was" => Ok(()),
-            _ => Err(self.told("day kept a book that it should not have")),
+            _ => Err(self.told("a book was kept that should not have been")),
+        }
+    }
+
+    /// The refusal alone, standard input unread, and TO: the book taken over,
+    /// or as it was.
+    fn take_over(&mut self, program: &str, place: u64) -> Result<(), String> {
+        let faults = Fault::all();
+        let table = match place % 3 {
+            0 => unsound(
+                faults[place as usize % faults.len()],
+                Rule::Old,
+                &mut self.rng,
+            ),
+            _ => to_take_over(place, &mut self.rng),
+        };
+        let book = self.put("book", &bookfile::bytes(&table))?;
+        let to = self.put("to", b"as it was")?;
+        let after = table.taken_over();
+        let want: &[u8] = if after.is_some() { b"0\n" } else { b"1\n" };
+        let got = ask_held(program, &[&book, &to]);
+        settle(&self.programs.folder, &self.made, "take_over", want, got)?;
+        self.met.over[usize::from(after.is_none())] += 1;
+        match after {
+            None => self.to_untouched(&to),
+            Some(after) if fs::read(&to).unwrap_or_default() == bookfile::bytes(&after) => Ok(()),
+            Some(after) => {
+                let kept = fs::read(&to).unwrap_or_default();
+                Err(self.told(&book_difference(&kept, &after)))
+            }
         }
     }
 
@@ -274,16 +316,16 @@ fn no_book_bytes(place: u64, mut bytes: Vec<u8>, rng: &mut Rng) -> Option<Vec<u8
 
 fn book_difference(kept: &[u8], want: &Table) -> String {
     let Some(got) = bookfile::table(kept) else {
-        return "day kept what is no book".to_string();
+        return "what was kept is no book".to_string();
     };
     let place = (0..want.places.len()).find(|&place| got.places[place] != want.places[place]);
     match place {
         Some(place) => format!(
-            "day kept another book at place {place}: second {:?}, other {:?}",
+            "another book was kept at place {place}: second {:?}, other {:?}",
             want.places[place], got.places[place]
         ),
         None => format!(
-            "day kept another book: second has {} accounts and serial {}, other {} and {}",
+            "another book was kept: second has {} accounts and serial {}, other {} and {}",
             want.count, want.serial, got.count, got.serial
         ),
     }

@@ -7,11 +7,13 @@ mod books;
 mod breaches;
 mod endings;
 mod lists;
+mod overs;
 mod pieces;
 mod records;
 
 use crate::calls::Call;
 use crate::rng::Rng;
+use crate::rule::Rule;
 use crate::table::{Fault, Table};
 use aims::Aim;
 pub use endings::ENDINGS;
@@ -32,8 +34,8 @@ pub fn make(seed: u64) -> Asked {
     let start = (seed as usize).wrapping_mul(CALLS);
     let mut bytes = Vec::new();
     for place in 0..CALLS {
-        let aim = aims[start.wrapping_add(place) % aims.len()];
-        aim.call(&mut rng).lay(&mut bytes);
+        let (aim, rule) = aims[start.wrapping_add(place) % aims.len()];
+        aim.call(rule, &mut rng).lay(&mut bytes);
     }
     let ending = seed as usize % ENDINGS.len();
     endings::put(ending, &mut bytes, &mut rng);
@@ -48,23 +50,28 @@ pub fn whole_round() -> usize {
 
 /// A sound book of any kind.
 pub fn any_sound(rng: &mut Rng) -> Table {
-    books::sound(rng)
+    books::sound(Rule::New, rng)
 }
 
 /// A book with this fault alone.
-pub fn unsound(fault: Fault, rng: &mut Rng) -> Table {
-    breaches::with(fault, rng)
+pub fn unsound(fault: Fault, rule: Rule, rng: &mut Rng) -> Table {
+    breaches::with(fault, rule, rng)
+}
+
+/// A book to be taken over, or not.
+pub fn to_take_over(place: u64, rng: &mut Rng) -> Table {
+    overs::book(overs::OVERS[place as usize % overs::OVERS.len()], rng)
 }
 
 /// A piece for this book.
 pub fn with_steps(book: &Table, rng: &mut Rng) -> Vec<u8> {
     let many = rng.below(60);
-    pieces::steps(book, many, rng)
+    pieces::steps(book, many, Rule::New, rng)
 }
 
 /// Any call on any book.
 fn any_call(rng: &mut Rng) -> Call {
     let aims = Aim::round();
-    let aim = rng.pick(&aims);
-    aim.call(rng)
+    let (aim, rule) = rng.pick(&aims);
+    aim.call(rule, rng)
 }

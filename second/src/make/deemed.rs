@@ -66,7 +66,10 @@ pub fn fund_by_sort(maker: &mut Maker, account: u16) {
 
 fn margin_by_sort(maker: &mut Maker, account: u16) {
     let row = maker.book.rows[usize::from(account)];
-    let (own, cm_free) = (row.collateral(), maker.book.free(0));
+    let (own, cm_free) = (
+        maker.book.collateral(usize::from(account)),
+        maker.book.free(0),
+    );
     let margin = match row.sort {
         Sort::Cm => maker.rng.below(cm_free / 3 + 1),
         Sort::Tm if maker.rng.one_in(4) => own + maker.rng.below(cm_free / 4 + 1),
@@ -93,6 +96,6 @@ fn call_for(maker: &mut Maker, account: usize, above: usize) {
     let row = maker.book.rows[account];
     let free = maker.book.free(above);
     let called = free.saturating_sub(maker.rng.below(2));
-    let margin = row.margin.max(row.collateral()) + called;
+    let margin = row.margin.max(maker.book.collateral(account)) + called;
     maker.say_margin(account as u16, margin.min(CEILING));
 }

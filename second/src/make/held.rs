@@ -3,7 +3,7 @@
 
 use super::maker::Maker;
 use super::steer::open_any;
-use crate::book::KINDS;
+use crate::book::{KINDS, SECURITIES};
 use crate::dayfile::*;
 use crate::holds::Way;
 
@@ -66,14 +66,21 @@ fn ways(maker: &mut Maker) -> [Way; 2] {
     }
 }
 
-/// About half allocated, in one kind, and half pledged; some more is received.
+/// About half allocated, in one kind that counts in full and a little of it in
+/// securities, and half pledged; some more is received.
 fn fund(maker: &mut Maker, account: u16, tenth: u64, more: u64) {
-    let kind = maker.rng.below(KINDS as u64) as usize;
+    let kind = maker.rng.below(SECURITIES as u64) as usize;
     let allocated = maker.rng.between(4 * tenth, 6 * tenth);
     for (code, amount) in [(RECEIVE, allocated + more), (ALLOCATE, allocated)] {
         say_of(maker, code, account, kind, amount);
     }
-    maker.say_pledge(PLEDGE, account, 10 * tenth - allocated);
+    let counted = maker.rng.below(tenth / 2);
+    let face = maker.book.rule.face(counted).max(1);
+    for code in [RECEIVE, ALLOCATE] {
+        say_of(maker, code, account, SECURITIES, face);
+    }
+    let there = maker.book.collateral(usize::from(account));
+    maker.say_pledge(PLEDGE, account, 10 * tenth - there);
 }
 
 fn say_of(maker: &mut Maker, code: u8, account: u16, kind: usize, amount: u64) {

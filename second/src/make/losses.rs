@@ -100,7 +100,7 @@ impl Sheet<'_> {
     }
 
     fn own(&self, account: usize) -> u64 {
-        self.book.rows[account].collateral()
+        self.book.collateral(account)
     }
 
     fn margin(&self, account: usize) -> u64 {

@@ -4,7 +4,7 @@
 use super::deemed::{fund_by_sort, open_groups};
 use super::maker::Maker;
 use super::steer::{open_any, release_free, step, unpledge_free, wind_down_account};
-use crate::book::{Sort, CEILING, KINDS};
+use crate::book::{Sort, CEILING, KINDS, SECURITIES};
 use crate::dayfile::*;
 
 /// Every kind of move in every day, whatever the seed. At the end TMs stand
@@ -43,7 +43,7 @@ fn amount(maker: &mut Maker) -> u64 {
 }
 
 fn own(maker: &Maker, account: u16) -> u64 {
-    maker.book.rows[usize::from(account)].collateral()
+    maker.book.collateral(usize::from(account))
 }
 
 fn of_one_kind(kind: usize, amount: u64) -> [u64; KINDS] {
@@ -57,24 +57,37 @@ fn allocate_new(maker: &mut Maker, account: u16, kind: usize, amount: u64) {
     maker.say_kinds(ALLOCATE, account, of_one_kind(kind, amount));
 }
 
-/// As an allocation, or as a pledge.
+/// As an allocation, or as a pledge. Securities of so much count as the
+/// amount where the account has none, and else as a paisa more or less.
 fn deposit(maker: &mut Maker, account: u16, amount: u64) {
-    if maker.rng.one_in(2) {
-        let kind = maker.rng.below(4) as usize;
-        allocate_new(maker, account, kind, amount);
-    } else {
-        maker.say_pledge(PLEDGE, account, amount);
+    let kind = maker.rng.below(4) as usize;
+    match (maker.rng.one_in(2), kind) {
+        (true, SECURITIES) => {
+            let face = maker.book.rule.face(amount);
+            allocate_new(maker, account, kind, face);
+        }
+        (true, _) => allocate_new(maker, account, kind, amount),
+        _ => {
+            maker.say_pledge(PLEDGE, account, amount);
+        }
     }
+}
+
+/// A kind that counts in full.
+fn full_kind(maker: &mut Maker) -> usize {
+    maker.rng.below(SECURITIES as u64) as usize
 }
 
 /// About the account's own collateral: up to it, a paisa over and back again
 /// by its margin, by an allocation and by a pledge. For the CM over is 13.
 fn about(maker: &mut Maker, account: u16) {
-    let (kind, part) = (maker.rng.below(4) as usize, amount(maker));
+    let (kind, part) = (full_kind(maker), amount(maker));
     let pledged = maker.rng.between(part / 2 + 3, part);
+    let securities = maker.rng.between(1, 21);
+    allocate_new(maker, account, SECURITIES, securities);
     allocate_new(maker, account, kind, part);
     maker.say_pledge(PLEDGE, account, pledged);
-    let whole = part + pledged;
+    let whole = own(maker, account);
     for margin in [whole - 1, whole, whole + 1, whole, whole, whole + 1] {
         maker.say_margin(account, margin);
     }
@@ -111,7 +124,7 @@ fn about_tm(maker: &mut Maker, tm: u16, client: u16) {
     for margin in [whole, whole + 1, whole, whole + 1] {
         maker.say_margin(client, margin);
     }
-    let kind = maker.rng.below(4) as usize;
+    let kind = full_kind(maker);
     allocate_new(maker, client, kind, 1);
     maker.say_margin(client, whole + 2);
     maker.say_pledge(PLEDGE, client, 1);
@@ -188,10 +201,7 @@ fn take_out_of_member(maker: &mut Maker) {
         Some(tm) if !maker.rng.one_in(3) => tm,
         _ => 0,
     };
-    let (row, kind) = (
-        maker.book.rows[usize::from(member)],
-        maker.rng.below(4) as usize,
-    );
+    let (row, kind) = (maker.book.rows[usize::from(member)], full_kind(maker));
     let is_release = row.allocated[kind] > 0 && maker.rng.one_in(2);
     let there = if is_release {
         row.allocated[kind]
@@ -200,7 +210,7 @@ fn take_out_of_member(maker: &mut Maker) {
     };
     maker.say_margin(member, 0);
     let free = maker.book.free(usize::from(member));
-    let least = (row.collateral() / 8 + 1).min(there);
+    let least = (own(maker, member) / 8 + 1).min(there);
     let kept = free.saturating_sub(maker.rng.between(least, there));
     maker.say_margin(member, kept.min(CEILING));
     let amount = maker.rng.beside(maker.book.free(usize::from(member)));
@@ -218,11 +228,11 @@ fn move_margin(maker: &mut Maker) {
     let (book, at) = (&maker.book, usize::from(account));
     let row = &book.rows[at];
     let others = book.need(at) - row.margin;
-    let mut edge = row.collateral().saturating_sub(others);
+    let mut edge = book.collateral(at).saturating_sub(others);
     if row.sort == Sort::Client && maker.rng.one_in(2) {
         let tm = book.answers_for(at);
         let others = book.need(tm) - book.deemed(at);
-        edge += book.rows[tm].collateral().saturating_sub(others);
+        edge += book.collateral(tm).saturating_sub(others);
     }
     let margin = maker.rng.beside(edge).min(CEILING);
     maker.say_margin(account, margin);

@@ -2,8 +2,9 @@
 //! them, one over and one under.
 
 use super::maker::Maker;
-use crate::book::{Sort, CEILING, MOST_ACCOUNTS};
+use crate::book::{Sort, CEILING, MOST_ACCOUNTS, SECURITIES};
 use crate::dayfile::*;
+use crate::rule::Rule;
 
 type Aim = (u64, fn(&mut Maker));
 
@@ -179,22 +180,42 @@ fn release_there(maker: &mut Maker) {
 }
 
 /// Kinds whose sum is near what is free, none of them more than allocated,
-/// so that only the sum can tell.
+/// so that only the sum can tell. Securities are as many as cost so much, the
+/// last of which cost nothing, and now and then one more.
 pub fn release_free(maker: &mut Maker) {
     let (account, bounds) = with_something(maker, allocated);
     let mut left = maker.rng.near(maker.book.free(usize::from(account)));
     let mut kinds = [0; 4];
     let first = maker.rng.below(4) as usize;
     for kind in (first..first + 4).map(|kind| kind % 4) {
-        let most = left.min(bounds[kind]);
+        let by = by_rule(maker, kind);
+        let most = costing(by, bounds[kind], left);
         kinds[kind] = if maker.rng.one_in(3) {
             maker.rng.below(most + 1)
         } else {
             most
         };
-        left -= kinds[kind];
+        let kept = bounds[kind] - kinds[kind];
+        left -= by.counted(bounds[kind]) - by.counted(kept);
+    }
+    if kinds[SECURITIES] < bounds[SECURITIES] && maker.rng.one_in(4) {
+        kinds[SECURITIES] += 1;
     }
     maker.say_kinds(RELEASE, account, kinds);
+}
+
+/// How a kind counts: all but securities in full.
+fn by_rule(maker: &Maker, kind: usize) -> Rule {
+    match kind {
+        SECURITIES => maker.book.rule,
+        _ => Rule::Old,
+    }
+}
+
+/// The most of a kind that may go where it may cost so much.
+pub fn costing(by: Rule, there: u64, cost: u64) -> u64 {
+    let kept = by.counted(there).saturating_sub(cost);
+    there - by.face(kept)
 }
 
 fn pledged(maker: &Maker, account: u16) -> [u64; 4] {
@@ -218,7 +239,7 @@ pub fn unpledge_free(maker: &mut Maker) {
 /// be deemed what it is now and the CM's free besides.
 fn largest_margin(maker: &Maker, account: usize) -> u64 {
     let book = &maker.book;
-    let mut may_need = book.rows[account].collateral();
+    let mut may_need = book.collateral(account);
     if account == 0 {
         return may_need - (book.need(0) - book.rows[0].margin);
     }
@@ -240,7 +261,7 @@ fn margin_at_edge(maker: &mut Maker) {
 /// Near the account's own collateral, or with what its TM has free.
 fn margin_at_own(maker: &mut Maker) {
     let account = maker.live();
-    let mut edge = maker.book.rows[usize::from(account)].collateral();
+    let mut edge = maker.book.collateral(usize::from(account));
     let above = maker.book.answers_for(usize::from(account));
     if above != 0 && maker.rng.one_in(2) {
         edge += maker.book.free(above);

@@ -44,7 +44,7 @@ impl Mark {
 /// Off or on first, then to the mark in one record, the member's own margin.
 /// Its lever, an account under it, has the odd tenths.
 pub fn stand(maker: &mut Maker, member: u16, lever: u16, mark: Mark, from: Mode) {
-    let collateral = maker.book.rows[usize::from(member)].collateral();
+    let collateral = maker.book.collateral(usize::from(member));
     no_margin(maker, lever);
     match from {
         Mode::Off => no_margin(maker, member),
@@ -133,7 +133,7 @@ fn one_under(maker: &mut Maker, member: u16) -> Option<u16> {
 }
 
 fn own_margin(maker: &mut Maker, member: u16, mark: Mark) {
-    let collateral = maker.book.rows[usize::from(member)].collateral();
+    let collateral = maker.book.collateral(usize::from(member));
     let tenths = mark.tenths(collateral);
     let edge = tenths.saturating_sub(others(maker, member)) / 10;
     let margin = maker.rng.beside(edge).min(CEILING);
@@ -142,10 +142,10 @@ fn own_margin(maker: &mut Maker, member: u16, mark: Mark) {
 
 fn margin_under(maker: &mut Maker, member: u16, account: u16, mark: Mark) {
     let (book, at) = (&maker.book, usize::from(account));
-    let tenths = mark.tenths(book.rows[usize::from(member)].collateral());
+    let tenths = mark.tenths(book.collateral(usize::from(member)));
     let without = book.used(usize::from(member)) - book.excess(at);
     let excess = tenths.saturating_sub(without);
-    let used = excess + 9 * book.rows[at].collateral();
+    let used = excess + 9 * book.collateral(at);
     let edge = used.saturating_sub(others(maker, account)) / 10;
     let margin = maker.rng.beside(edge).min(CEILING);
     maker.say_margin(account, margin);
@@ -159,7 +159,7 @@ fn move_collateral(maker: &mut Maker, member: u16, mark: Mark) {
     };
     let wanted = maker.rng.beside(edge);
     let row = maker.book.rows[usize::from(member)];
-    let now = row.collateral();
+    let now = maker.book.collateral(usize::from(member));
     if wanted > now {
         let in_cash = maker.rng.one_in(2);
         put_in(maker, member, (wanted - now).min(CEILING), in_cash);

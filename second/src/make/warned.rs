@@ -84,7 +84,7 @@ fn tm_to_and_fro(maker: &mut Maker) {
 /// once as a pledge.
 fn to_and_fro(maker: &mut Maker, member: u16, lever: u16) {
     stand(maker, member, lever, Mark::Nine, Mode::Off);
-    let part = maker.book.rows[usize::from(member)].collateral() / 17;
+    let part = maker.book.collateral(usize::from(member)) / 17;
     for in_cash in [true, false] {
         put_in(maker, member, part, in_cash);
         put_in(maker, member, 1, in_cash);
@@ -106,7 +106,7 @@ fn tm_at(maker: &mut Maker, mark: Mark, from: Mode) {
 
 fn cm_at(maker: &mut Maker, lever: u16, mark: Mark, from: Mode) {
     let drawn = maker.rng.one_in(2);
-    if mark.wants_one_more(maker.book.rows[0].collateral(), drawn) {
+    if mark.wants_one_more(maker.book.collateral(0), drawn) {
         put_in(maker, 0, 1, false);
     }
     stand(maker, 0, lever, mark, from);

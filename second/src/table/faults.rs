@@ -1,5 +1,6 @@
-//! Document 01, "A sound book", with K2 and K3, clause by clause and of any
-//! words at all: sums are of 128 bits, and no clause trusts another.
+//! Document 01, "A sound book", with K2, K3 and K7, clause by clause and of any
+//! words at all: sums are of 128 bits, and no clause trusts another. Cover and
+//! kept needs go by a rule, all else by none.
 
 use super::*;
 use crate::book::CEILING;
@@ -98,11 +99,15 @@ impl Fault {
 
 impl Table {
     pub fn is_sound(&self) -> bool {
-        self.faults().is_empty()
+        self.is_sound_by(Rule::New)
+    }
+
+    pub fn is_sound_by(&self, rule: Rule) -> bool {
+        self.faults_by(rule).is_empty()
     }
 
     /// Every fault of every place; a kind of fault may stand there often.
-    pub fn faults(&self) -> Vec<Fault> {
+    pub fn faults_by(&self, rule: Rule) -> Vec<Fault> {
         let mut faults = Vec::new();
         match usize::from(self.count) {
             0 => faults.push(Fault::NoAccounts),
@@ -118,7 +123,7 @@ impl Table {
         for account in 0..held {
             self.row_faults(account, &mut faults);
         }
-        self.need_faults(held, &mut faults);
+        self.need_faults(held, rule, &mut faults);
         faults
     }
 
@@ -175,22 +180,26 @@ impl Table {
         }
     }
 
-    fn need_faults(&self, held: usize, faults: &mut Vec<Fault>) {
-        let afresh = self.needs_afresh();
+    fn need_faults(&self, held: usize, rule: Rule, faults: &mut Vec<Fault>) {
+        let afresh = self.needs_afresh(rule);
         for (place, &need) in self.places[..held].iter().zip(&afresh) {
             let kept = u128::from(place[NEED]);
             if kept != need {
                 faults.push(Fault::KeptNeed(place[SORT], place[LIVE], kept > need));
             }
         }
-        if afresh[0] > collateral(&self.places[0]) {
+        if !self.is_covered(rule) {
             faults.push(Fault::NotCovered);
         }
     }
 
+    pub fn is_covered(&self, rule: Rule) -> bool {
+        self.needs_afresh(rule)[0] <= collateral(&self.places[0], rule)
+    }
+
     /// What must be kept at each place: the CM's need at place 0, each TM's at
     /// its own, 0 at any other.
-    pub fn needs_afresh(&self) -> [u128; MOST_ACCOUNTS] {
+    pub fn needs_afresh(&self, rule: Rule) -> [u128; MOST_ACCOUNTS] {
         let held = &self.places[..self.held()];
         let mut needs = [0; MOST_ACCOUNTS];
         for (need, place) in needs.iter_mut().zip(held) {
@@ -201,14 +210,14 @@ impl Table {
         for place in held.iter().filter(|place| place[SORT] == CLIENT) {
             let tm = place[TM] as usize;
             if held.get(tm).is_some_and(|tm| tm[SORT] == TRADING) {
-                needs[tm] += deemed(u128::from(place[MARGIN]), place);
+                needs[tm] += deemed(u128::from(place[MARGIN]), place, rule);
             }
         }
         let mut cm = u128::from(self.places[0][MARGIN]);
         for (place, &need) in held.iter().zip(&needs).skip(1) {
             match place[SORT] {
-                TRADING => cm += deemed(need, place),
-                CP => cm += deemed(u128::from(place[MARGIN]), place),
+                TRADING => cm += deemed(need, place, rule),
+                CP => cm += deemed(u128::from(place[MARGIN]), place, rule),
                 _ => {}
             }
         }
@@ -217,14 +226,16 @@ impl Table {
     }
 }
 
-/// "The sum of the four allocated amounts and pledged."
-fn collateral(place: &Place) -> u128 {
-    let words = ALLOCATED..=PLEDGED;
-    words.map(|word| u128::from(place[word])).sum()
+/// "Cash, fixed deposits, guarantees and pledged, plus allocated government
+/// securities" as the rule counts them.
+fn collateral(place: &Place, rule: Rule) -> u128 {
+    let in_full = [ALLOCATED, ALLOCATED + 1, ALLOCATED + 2, PLEDGED];
+    let in_full: u128 = in_full.map(|word| u128::from(place[word])).iter().sum();
+    in_full + u128::from(rule.counted(place[SECURITIES]))
 }
 
-fn deemed(need: u128, place: &Place) -> u128 {
-    need.saturating_sub(collateral(place))
+fn deemed(need: u128, place: &Place, rule: Rule) -> u128 {
+    need.saturating_sub(collateral(place, rule))
 }
 
 fn limit_faults(place: &Place, faults: &mut Vec<Fault>) {

@@ -18,7 +18,7 @@ fn made_books_are_sound() {
     let mut rng = Rng::new(1, 1);
     for _ in 0..600 {
         let table = any_sound(&mut rng);
-        assert_eq!(table.faults(), []);
+        assert_eq!(table.faults_by(Rule::New), []);
         let book = table.book().unwrap();
         assert!(book.is_sound() && book.uses_agree());
         assert!(Table::of(&book) == table);
@@ -28,12 +28,14 @@ fn made_books_are_sound() {
 #[test]
 fn every_fault_by_itself() {
     let mut rng = Rng::new(2, 2);
-    for fault in Fault::all() {
-        for _ in 0..12 {
-            let table = unsound(fault, &mut rng);
-            let alone = Fault::alone(&table.faults());
-            assert!(alone.contains(&fault), "{fault:?}");
-            assert!(table.book().is_none());
+    for rule in [Rule::Old, Rule::New] {
+        for fault in Fault::all() {
+            for _ in 0..12 {
+                let table = unsound(fault, rule, &mut rng);
+                let alone = Fault::alone(&table.faults_by(rule));
+                assert!(alone.contains(&fault), "{rule:?} {fault:?}");
+                assert!(table.book_by(rule).is_none());
+            }
         }
     }
 }
@@ -54,8 +56,12 @@ fn a_whole_round_meets_everything() {
         assert_eq!(met.missed(), Vec::<String>::new());
     }
     let outcomes = 2 + 3 + 15 + 17 + 4 + 6 + 5 + 4 + 3;
-    let edges = 5 + 5 + 6 + 5 + 5 + 5 + 6;
-    let all = outcomes + edges + Fault::all().len() + ENDINGS.len();
+    let old_outcomes = outcomes - 6 - 5;
+    let edges = 5 + 5 + 6 + 5 + 5 + 5 + 6 + 4;
+    let old_edges = edges - 5 - 5;
+    let taken_over = 2 + 4 + 6;
+    let outcomes = outcomes + old_outcomes + edges + old_edges + taken_over;
+    let all = outcomes + 3 * Fault::all().len() + ENDINGS.len();
     assert_eq!(Met::default().missed().len(), all);
 }
 

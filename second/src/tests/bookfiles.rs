@@ -60,10 +60,10 @@ allocate 2 cash 1 deposits 2 guarantees 3 securities 4\npledge 2 5\nmargin 2 16"
     let amounts: Vec<u64> = crate::dayfile::numbers(&client[4..84]).collect();
     assert_eq!(amounts, [1, 2, 3, 4, 1, 2, 3, 4, 5, 16]);
     assert_eq!(&client[84..], [0; 9]);
-    // The TM has nothing and is deemed the paisa.
+    // Of 4 paise of securities 3 count; the TM has nothing and is deemed what is missing.
     let tm = &bytes[8 + 93..][..93];
-    assert_eq!(&tm[84..], [1, 0, 0, 0, 0, 0, 0, 0, 1]);
-    assert_eq!(&bytes[8 + 92..][..1], [1]);
+    assert_eq!(&tm[84..], [1, 0, 0, 0, 0, 0, 0, 0, 2]);
+    assert_eq!(&bytes[8 + 92..][..1], [2]);
     assert!(Table::of(&book).book().unwrap().is_sound());
 }
 

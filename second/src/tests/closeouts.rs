@@ -51,9 +51,9 @@ fn demand_three() {
             let loss = answer.losses[account];
             assert_eq!(paid.own + paid.tm + paid.cm + paid.uncovered, loss);
             assert!(paid.uncovered <= loss.saturating_sub(row.margin));
-            assert!(paid.own <= loss.min(row.collateral()));
+            assert!(paid.own <= loss.min(row.collateral(book.rule)));
             if is_client_or_cp(book, account) {
-                assert_eq!(paid.own, loss.min(row.collateral()));
+                assert_eq!(paid.own, loss.min(row.collateral(book.rule)));
             }
             assert!(paid.tm == 0 || row.sort == Sort::Client);
         }
@@ -63,10 +63,10 @@ fn demand_three() {
                 .iter()
                 .map(|&client| answer.payments[client].tm)
                 .sum();
-            assert!(answer.payments[tm].own + of_clients <= book.rows[tm].collateral());
+            assert!(answer.payments[tm].own + of_clients <= book.collateral(tm));
         }
         let of_others: u64 = answer.payments.iter().map(|paid| paid.cm).sum();
-        assert!(answer.payments[0].own + of_others <= book.rows[0].collateral());
+        assert!(answer.payments[0].own + of_others <= book.collateral(0));
         let uncovered = answer.payments.iter().map(|paid| paid.uncovered);
         assert_eq!(uncovered.sum::<u64>(), answer.total);
     }
@@ -101,7 +101,7 @@ fn within_margin(book: &Book, losses: &[u64], account: usize) -> u64 {
     let row = &book.rows[account];
     let within = losses[account].min(row.margin);
     if is_client_or_cp(book, account) {
-        within.saturating_sub(losses[account].min(row.collateral()))
+        within.saturating_sub(losses[account].min(row.collateral(book.rule)))
     } else {
         within
     }
@@ -111,14 +111,18 @@ fn first_round(book: &Book, losses: &[u64]) -> (Vec<u64>, Vec<u64>) {
     let wanted: Vec<u64> = (0..book.count)
         .map(|account| within_margin(book, losses, account))
         .collect();
-    let collateral: Vec<u64> = book.rows.iter().map(|row| row.collateral()).collect();
+    let collateral: Vec<u64> = book
+        .rows
+        .iter()
+        .map(|row| row.collateral(book.rule))
+        .collect();
     one_round(book, &wanted, &collateral)
 }
 
 fn by_the_letter(book: &Book, losses: &[u64]) -> Vec<Payment> {
     let (tm_one, cm_one) = first_round(book, losses);
     let ahead = |account: usize| match is_client_or_cp(book, account) {
-        true => losses[account].min(book.rows[account].collateral()),
+        true => losses[account].min(book.collateral(account)),
         false => 0,
     };
     let left: Vec<u64> = (0..book.count)
@@ -210,7 +214,11 @@ fn losses_meet_the_edges() {
     for (book, answer) in &made(204).0 {
         for account in (0..book.count).filter(|&account| book.rows[account].live) {
             let row = &book.rows[account];
-            let (loss, own, margin) = (answer.losses[account], row.collateral(), row.margin);
+            let (loss, own, margin) = (
+                answer.losses[account],
+                row.collateral(book.rule),
+                row.margin,
+            );
             let edges = [
                 loss == 0,
                 loss == CEILING,

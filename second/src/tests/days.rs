@@ -7,7 +7,7 @@ use crate::day::Closing;
 use crate::dayfile::{Next, Reader};
 use crate::make::{kind_named, make, NO_LIMIT, ROUND};
 use crate::tally::Tally;
-use crate::{holds, moves};
+use crate::{holds, moves, tenths};
 
 /// Need as the paper says it, with no walk order and nothing kept.
 fn need(book: &Book, account: usize) -> u64 {
@@ -16,12 +16,12 @@ fn need(book: &Book, account: usize) -> u64 {
         Sort::Tm | Sort::Cp => account == 0,
         _ => false,
     });
-    let deemed = |other| need(book, other).saturating_sub(book.rows[other].collateral());
+    let deemed = |other| need(book, other).saturating_sub(book.collateral(other));
     book.rows[account].margin + under.map(deemed).sum::<u64>()
 }
 
 fn standing(book: &Book, account: usize) -> Standing {
-    let (collateral, need) = (book.rows[account].collateral(), need(book, account));
+    let (collateral, need) = (book.collateral(account), need(book, account));
     let blocked = need.min(collateral);
     Standing {
         collateral,
@@ -112,6 +112,7 @@ fn a_tally_knows_what_it_missed() {
         margins,
         moves::Kind::all().len(),
         holds::Kind::all().len(),
+        tenths::Kind::all().len(),
     ];
     assert_eq!(Tally::default().missed().len(), all.iter().sum::<usize>());
 }

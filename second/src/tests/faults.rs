@@ -14,7 +14,7 @@ pledge 0 50\nreceive 2 cash 7\nmargin 2 4\nmargin 4 1\npledge 1 2";
 }
 
 fn settled(table: &mut Table) {
-    for (place, need) in table.needs_afresh().into_iter().enumerate() {
+    for (place, need) in table.needs_afresh(Rule::New).into_iter().enumerate() {
         table.places[place][NEED] = need as u64;
     }
 }
@@ -22,7 +22,7 @@ fn settled(table: &mut Table) {
 fn of(change: impl FnOnce(&mut Table)) -> Vec<Fault> {
     let mut table = start();
     change(&mut table);
-    table.faults()
+    table.faults_by(Rule::New)
 }
 
 fn set(place: usize, word: usize, value: u64) -> Vec<Fault> {
@@ -36,8 +36,8 @@ fn set(place: usize, word: usize, value: u64) -> Vec<Fault> {
 
 #[test]
 fn sound_ones() {
-    assert_eq!(start().faults(), []);
-    assert_eq!(Table::fresh().faults(), []);
+    assert_eq!(start().faults_by(Rule::New), []);
+    assert_eq!(Table::fresh().faults_by(Rule::New), []);
     assert_eq!(of(|table| table.serial = 65_535), []);
     assert_eq!(set(2, RECEIVED + 1, CEILING), []);
     assert_eq!(set(2, ALLOCATED, 7), []);

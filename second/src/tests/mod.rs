@@ -10,6 +10,7 @@ mod days;
 mod faults;
 mod figures;
 mod forms;
+mod haircut;
 mod holds;
 mod margins;
 mod modes;
@@ -19,6 +20,7 @@ mod soundness;
 mod stories;
 
 use crate::book::Book;
+use crate::rule::Rule;
 use crate::{day, print, text};
 
 /// A day from its readable form.

@@ -40,7 +40,7 @@ fn annexure_5_excess() {
 #[test]
 fn annexure_5_table() {
     let book = book_after(ANNEXURE_5);
-    let per_mille = |account: usize| 100 * book.used(account) / book.rows[account].collateral();
+    let per_mille = |account: usize| 100 * book.used(account) / book.collateral(account);
     assert_eq!([per_mille(1), per_mille(5), per_mille(0)], [960, 440, 691]);
     assert_eq!(
         modes(ANNEXURE_5),
@@ -205,7 +205,7 @@ fn used(book: &Book, account: usize) -> u64 {
 }
 
 fn excess(book: &Book, account: usize) -> u64 {
-    let (row, nine) = (&book.rows[account], 9 * book.rows[account].collateral());
+    let (row, nine) = (&book.rows[account], 9 * book.collateral(account));
     match row.sort {
         Sort::Tm => used(book, account).saturating_sub(nine),
         _ => (10 * row.margin).saturating_sub(nine),
@@ -232,7 +232,7 @@ fn modes_by_the_letter() {
             print::day_seen(&make(kind, seed, 3_000), |answer, book| {
                 for account in (0..book.count).filter(|_| answer.refusal() == 0) {
                     if matches!(book.rows[account].sort, Sort::Cm | Sort::Tm) {
-                        let collateral = book.rows[account].collateral();
+                        let collateral = book.collateral(account);
                         let used = used(book, account);
                         before[account] = looked_at(before[account], used, collateral);
                     }
@@ -284,7 +284,7 @@ fn warned_days_end_at_the_marks() {
         let book = day::run_fresh(&make(kind, seed, ROOM)).0;
         let mut of_tms = [[0; 2]; 5];
         for (account, used) in book.uses().into_iter().enumerate() {
-            let collateral = book.rows[account].collateral();
+            let collateral = book.collateral(account);
             let slots = if account == 0 {
                 &mut of_cm
             } else {

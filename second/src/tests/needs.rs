@@ -156,8 +156,7 @@ fn refusals_move_nothing() {
 /// Need as the paper says it, in two plain sums over all accounts.
 fn by_the_letter(book: &Book, account: usize) -> u64 {
     let sort = |other: usize| book.rows[other].sort;
-    let deemed =
-        |other: usize| by_the_letter(book, other).saturating_sub(book.rows[other].collateral());
+    let deemed = |other: usize| by_the_letter(book, other).saturating_sub(book.collateral(other));
     let of_clients = |tm: usize| -> u64 {
         let clients = (0..book.count).filter(|&other| sort(other) == Sort::Client);
         let own = clients.filter(|&client| usize::from(book.rows[client].tm) == tm);

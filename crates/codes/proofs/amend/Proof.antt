@@ -53,43 +53,43 @@ retire-requires c κs = search needs
 returns : tie.Need-returns
 returns c =
     let s = c .before .before .before .before .before in
-    receive-answered (s .args .count) (marks s) (s .args .w .now) (under s) (s .args .on) (s .args .r) (c .before .before .before .match .keys1) (c .receive .ensures)
+    receive-answered (s .args .rule) (s .args .count) (marks s) (s .args .w .now) (under s) (s .args .on) (s .args .r) (c .before .before .before .match .keys1) (c .receive .ensures)
 
 returns-2 : tie.Need-returns-2
 returns-2 c =
     let s = c .before .before .before .before .before in
-    hands-back (s .args .count) (marks s) (s .args .w .now) (under s) (s .args .on) (s .args .r) (c .before .before .before .match .keys2) (c .hand-back .ensures)
+    hands-back (s .args .rule) (s .args .count) (marks s) (s .args .w .now) (under s) (s .args .on) (s .args .r) (c .before .before .before .match .keys2) (c .hand-back .ensures)
 
 returns-3 : tie.Need-returns-3
 returns-3 c =
     let s = c .before .before .before .before .before in
-    allocate-answered (s .args .count) (marks s) (s .args .w .now) (under s) (s .args .on) (s .args .r) (c .before .before .before .match .keys3) (c .allocate .ensures)
+    allocate-answered (s .args .rule) (s .args .count) (marks s) (s .args .w .now) (under s) (s .args .on) (s .args .r) (c .before .before .before .match .keys3) (c .allocate .ensures)
 
 returns-4 : tie.Need-returns-4
 returns-4 c =
     let s = c .before .before .before .before .before in
-    release-answered (s .args .count) (marks s) (s .args .w .now) (under s) (s .args .on) (s .args .r) (c .before .before .before .match .keys4) (c .release .ensures)
+    release-answered (s .args .rule) (s .args .count) (marks s) (s .args .w .now) (under s) (s .args .on) (s .args .r) (c .before .before .before .match .keys4) (c .release .ensures)
 
 returns-5 : tie.Need-returns-5
 returns-5 c =
     let s = c .before .before .before .before .before in
-    pledge-answered (s .args .count) (marks s) (s .args .w .now) (under s) (s .args .on) (s .args .r) (c .before .before .before .match .keys5) (c .pledge .ensures)
+    pledge-answered (s .args .rule) (s .args .count) (marks s) (s .args .w .now) (under s) (s .args .on) (s .args .r) (c .before .before .before .match .keys5) (c .pledge .ensures)
 
 returns-6 : tie.Need-returns-6
 returns-6 c =
     let s = c .before .before .before .before .before in
-    unpledge-answered (s .args .count) (marks s) (s .args .w .now) (under s) (s .args .on) (s .args .r) (c .before .before .before .match .keys6) (c .unpledge .ensures)
+    unpledge-answered (s .args .rule) (s .args .count) (marks s) (s .args .w .now) (under s) (s .args .on) (s .args .r) (c .before .before .before .match .keys6) (c .unpledge .ensures)
 
 returns-7 : tie.Need-returns-7
 returns-7 c =
     let s = c .before .before .before .before .before in
-    sets-margin (s .args .count) (marks s) (s .args .w .now) (under s) (s .args .on) (s .args .r) (c .before .before .before .match .keys7) (s .pre .amounts .margin) (c .set-margin .ensures)
+    sets-margin (s .args .rule) (s .args .count) (marks s) (s .args .w .now) (under s) (s .args .on) (s .args .r) (c .before .before .before .match .keys7) (s .pre .amounts .margin) (c .set-margin .ensures)
 
 returns-8 : tie.Need-returns-8
 returns-8 c =
     let s = c .before .before .before .before .before in
     let g = c .before .before .before .match .rest in
-    retire-answered (s .args .count) (marks s) (s .args .w .now) (under s) (s .args .on) (s .args .r)
+    retire-answered (s .args .rule) (s .args .count) (marks s) (s .args .w .now) (under s) (s .args .on) (s .args .r)
     (last-code (s .args .r .code) (s .pre .known) (s .pre .low) (g .0 .0 .0 .0 .0 .0 .1) (g .0 .0 .0 .0 .0 .1) (g .0 .0 .0 .0 .1) (g .0 .0 .0 .1) (g .0 .0 .1) (g .0 .1) (g .1)) (c .retire .ensures)
 
 pub amend-spec : {M : Type 1} → statement M

@@ -1,8 +1,9 @@
 //! What made-up calls aim at.
 
-use super::{books, breaches, lists, pieces, records};
+use super::{books, breaches, lists, overs, pieces, records};
 use crate::calls::Call;
 use crate::rng::Rng;
+use crate::rule::Rule;
 use crate::table::{Fault, Table};
 
 #[derive(Clone, Copy)]
@@ -17,6 +18,11 @@ pub enum Aim {
     /// A sound book with one word put anew; it may be sound still.
     OneWord,
     Sound,
+    /// The same with the last serial there is.
+    LastSerial,
+    /// Books that the rules judge differently, or just don't.
+    Over(overs::Over),
+    OverElsewhere(overs::Over),
     Standing(lists::Who),
     /// A record with this refusal, or carried out, as values.
     Values(u8),
@@ -35,13 +41,38 @@ pub enum Aim {
     Write(records::Fit, records::Room),
     CloseOut(lists::Losses, lists::Length),
     Needs(lists::Length),
+    TakeOver(overs::Over),
+    /// A book with this fault alone by the old rule, to be taken over.
+    FaultOver(Fault),
 }
 
 /// The refusals of a record that is handed over as values, and 0.
 pub const REFUSALS: [u8; 14] = [0, 3, 4, 5, 6, 7, 8, 9, 10, 11, 12, 13, 14, 17];
 
 impl Aim {
-    pub fn round() -> Vec<Aim> {
+    /// Each with the rule that it goes by.
+    pub fn round() -> Vec<(Aim, Rule)> {
+        let over = overs::OVERS.map(Aim::TakeOver);
+        let mut aims = over.to_vec();
+        aims.extend(Fault::all().into_iter().map(Aim::FaultOver));
+        aims.extend(Aim::without_book());
+        aims.extend(Aim::with_book());
+        let old = Aim::with_book().into_iter();
+        let both = aims.into_iter().map(|aim| (aim, Rule::New));
+        both.chain(old.map(|aim| (aim, Rule::Old))).collect()
+    }
+
+    fn without_book() -> Vec<Aim> {
+        let mut aims = Vec::new();
+        aims.extend(pieces::SPOTS.map(Aim::ReadAt));
+        aims.extend([0, 0, 0, 0, 2, 4, 5, 6].map(Aim::Read));
+        for room in records::ROOMS {
+            aims.extend(records::FITS.map(|fit| Aim::Write(fit, room)));
+        }
+        aims
+    }
+
+    fn with_book() -> Vec<Aim> {
         let mut aims = Vec::new();
         aims.extend(Fault::all().into_iter().map(Aim::Fault));
         aims.extend(Fault::all().into_iter().map(Aim::FaultElsewhere));
@@ -49,6 +80,9 @@ impl Aim {
         aims.extend([Aim::Garbage; 8]);
         aims.extend([Aim::OneWord; 48]);
         aims.extend([Aim::Sound; 12]);
+        aims.push(Aim::LastSerial);
+        aims.extend(overs::OVERS.map(Aim::Over));
+        aims.extend(overs::OVERS.map(Aim::OverElsewhere));
         aims.extend(lists::WHO.map(Aim::Standing));
         for _ in 0..2 {
             aims.extend(REFUSALS.map(Aim::Values));
@@ -58,13 +92,8 @@ impl Aim {
         aims.extend([Aim::Unnamed; 3]);
         aims.extend([Aim::AnyValues; 12]);
         aims.extend(pieces::SPOTS.map(Aim::NextAt));
-        aims.extend(pieces::SPOTS.map(Aim::ReadAt));
-        aims.extend([0, 0, 0, 0, 2, 4, 5, 6].map(Aim::Read));
         for day in pieces::DAYS {
             aims.extend(pieces::NUMBERS.map(|number| Aim::Day(day, number)));
-        }
-        for room in records::ROOMS {
-            aims.extend(records::FITS.map(|fit| Aim::Write(fit, room)));
         }
         for length in lists::LENGTHS {
             aims.extend(lists::LOSSES.map(|losses| Aim::CloseOut(losses, length)));
@@ -73,27 +102,42 @@ impl Aim {
         aims
     }
 
-    pub fn call(self, rng: &mut Rng) -> Call {
+    pub fn call(self, rule: Rule, rng: &mut Rng) -> Call {
+        let call = self.call_on(rule, rng);
+        call.clone().under(rule).unwrap_or(call)
+    }
+
+    /// The call with a book for this rule.
+    fn call_on(self, rule: Rule, rng: &mut Rng) -> Call {
         match self {
-            Aim::Fault(fault) => Call::IsSound(breaches::with(fault, rng)),
-            Aim::FaultElsewhere(fault) => asked_elsewhere(breaches::with(fault, rng), rng),
-            Aim::Several => asked_anyhow(breaches::with_several(rng), rng),
-            Aim::Garbage => asked_anyhow(books::garbage(rng), rng),
-            Aim::OneWord => asked_anyhow(books::one_word_anew(rng), rng),
-            Aim::Sound => Call::IsSound(books::sound(rng)),
-            Aim::Standing(who) => lists::standing(who, rng),
-            Aim::Values(refusal) => records::refused_with(refusal, rng),
-            Aim::Done(code) => records::done_with(code, rng),
-            Aim::Unnamed => records::unnamed(rng),
-            Aim::AnyValues => any_record(books::sound(rng), rng),
-            Aim::Next(refusal) => pieces::next_with(refusal, rng),
-            Aim::NextAt(spot) => pieces::next_at(spot, rng),
-            Aim::Day(day, number) => pieces::day(day, number, rng),
+            Aim::Fault(fault) => Call::IsSound(breaches::with(fault, rule, rng)),
+            Aim::FaultElsewhere(fault) => asked_elsewhere(breaches::with(fault, rule, rng), rng),
+            Aim::Several => asked_anyhow(breaches::with_several(rule, rng), rng),
+            Aim::Garbage => asked_anyhow(books::garbage(rule, rng), rng),
+            Aim::OneWord => asked_anyhow(books::one_word_anew(rule, rng), rng),
+            Aim::Sound => Call::IsSound(books::sound(rule, rng)),
+            Aim::LastSerial => {
+                let mut book = books::sound(rule, rng);
+                book.serial = u16::MAX;
+                Call::IsSound(book)
+            }
+            Aim::Over(over) => Call::IsSound(overs::book(over, rng)),
+            Aim::OverElsewhere(over) => asked_elsewhere(overs::book(over, rng), rng),
+            Aim::Standing(who) => lists::standing(who, rule, rng),
+            Aim::Values(refusal) => records::refused_with(refusal, rule, rng),
+            Aim::Done(code) => records::done_with(code, rule, rng),
+            Aim::Unnamed => records::unnamed(rule, rng),
+            Aim::AnyValues => any_record(books::sound(rule, rng), rng),
+            Aim::Next(refusal) => pieces::next_with(refusal, rule, rng),
+            Aim::NextAt(spot) => pieces::next_at(spot, rule, rng),
+            Aim::Day(day, number) => pieces::day(day, number, rule, rng),
             Aim::Read(refusal) => pieces::read(refusal, rng),
-            Aim::ReadAt(spot) => pieces::read_at(spot, rng),
+            Aim::ReadAt(spot) => pieces::read_at(spot, rule, rng),
             Aim::Write(fit, room) => records::write(fit, room, rng),
-            Aim::CloseOut(losses, length) => lists::close_out(losses, length, rng),
-            Aim::Needs(length) => lists::needs(length, rng),
+            Aim::CloseOut(losses, length) => lists::close_out(losses, length, rule, rng),
+            Aim::Needs(length) => lists::needs(length, rule, rng),
+            Aim::TakeOver(over) => Call::TakeOver(overs::book(over, rng)),
+            Aim::FaultOver(fault) => Call::TakeOver(breaches::with(fault, Rule::Old, rng)),
         }
     }
 }

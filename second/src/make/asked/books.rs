@@ -1,17 +1,18 @@
 //! Books to hand over: grown by a made-up day, or put together word by word.
 
-use crate::book::{CEILING, KINDS, MOST_ACCOUNTS};
-use crate::day;
+use crate::book::{Book, CEILING, KINDS, MOST_ACCOUNTS};
+use crate::day::{run, MILLION};
 use crate::make::{make, Kind, ROUND};
 use crate::rng::Rng;
+use crate::rule::Rule;
 use crate::table::*;
 
-/// A sound book.
-pub fn sound(rng: &mut Rng) -> Table {
+/// A book that is sound by this rule.
+pub fn sound(rule: Rule, rng: &mut Rng) -> Table {
     let mut table = match rng.below(12) {
         0 => Table::fresh(),
-        1..=5 => grown(rng),
-        _ => direct(rng),
+        1..=5 => grown(rule, rng),
+        _ => direct(rule, rng),
     };
     if rng.one_in(3) {
         table.serial = rng.pick(&[0, 1, 255, 256, 65_534, 65_535]);
@@ -21,14 +22,15 @@ pub fn sound(rng: &mut Rng) -> Table {
 
 /// The book at the end of a made-up day, now and then with modes that don't
 /// fit its figures.
-fn grown(rng: &mut Rng) -> Table {
+fn grown(rule: Rule, rng: &mut Rng) -> Table {
     let kinds: Vec<Kind> = ROUND
         .into_iter()
         .filter(|kind| kind.0 != "hostile")
         .collect();
     let kind = rng.pick(&kinds);
     let room = rng.pick(&[400, 3_000, 12_000]);
-    let (book, _) = day::run_fresh(&make(kind, rng.next(), room));
+    let mut book = Book::fresh_by(rule);
+    run(&mut book, &make(kind, rng.next(), room), MILLION, |_, _| {});
     let mut table = Table::of(&book);
     if rng.one_in(3) {
         turn_modes(&mut table, rng);
@@ -49,7 +51,7 @@ fn turn_modes(table: &mut Table, rng: &mut Rng) {
 
 /// Words put together without a record: any numbers of accounts and amounts
 /// up to the ceiling.
-pub fn direct(rng: &mut Rng) -> Table {
+pub fn direct(rule: Rule, rng: &mut Rng) -> Table {
     let count = match rng.below(5) {
         0 => rng.between(1, 4),
         1 | 2 => rng.between(5, 30),
@@ -67,7 +69,7 @@ pub fn direct(rng: &mut Rng) -> Table {
             fill(&mut table.places[number], scale, rng);
         }
     }
-    cover(&mut table, rng);
+    cover(&mut table, rule, rng);
     turn_modes(&mut table, rng);
     table
 }
@@ -134,44 +136,42 @@ pub fn find(table: &Table, sort: u64, live: Option<u64>, rng: &mut Rng) -> Optio
 
 /// "Each kept need equals the need worked out afresh", as far as its word
 /// goes.
-pub fn settle(table: &mut Table) {
-    let needs = table.needs_afresh();
-    let held = table.held();
-    for (place, need) in table.places[..held].iter_mut().zip(needs) {
-        place[NEED] = u64::try_from(need).unwrap_or(u64::MAX);
-    }
+pub fn settle(table: &mut Table, rule: Rule) {
+    *table = table.settled(rule);
 }
 
 /// Lowers margins until the CM could answer for them, and gives the CM what
 /// it takes: exactly, with a little over, or all that it may have. Kept needs
 /// are settled then.
-pub fn cover(table: &mut Table, rng: &mut Rng) {
-    let most = 5 * u128::from(CEILING);
-    while table.needs_afresh()[0] > most {
+pub fn cover(table: &mut Table, rule: Rule, rng: &mut Rng) {
+    let most = 4 * CEILING + rule.counted(CEILING);
+    while table.needs_afresh(rule)[0] > u128::from(most) {
         table.places.iter_mut().for_each(|place| place[MARGIN] /= 2);
     }
-    settle(table);
-    let (need, own) = (table.places[0][NEED], collateral(&table.places[0]));
+    settle(table, rule);
+    let (need, own) = (table.places[0][NEED], collateral(&table.places[0], rule));
     if need > own || rng.one_in(3) {
         let more = rng.pick(&[0, 0, 1, 1_000, CEILING]);
-        fund(&mut table.places[0], need + more);
+        fund(&mut table.places[0], need + more, rule);
     }
 }
 
-/// Makes the collateral this much, at most five ceilings.
-pub fn fund(place: &mut Place, amount: u64) {
+/// Makes the collateral this much, at most all amounts at the ceiling.
+pub fn fund(place: &mut Place, amount: u64, rule: Rule) {
     let mut left = amount;
     for word in (ALLOCATED..=PLEDGED).rev() {
-        place[word] = left.min(CEILING);
-        left -= place[word];
+        let by = if word == SECURITIES { rule } else { Rule::Old };
+        place[word] = by.face(left).min(CEILING);
+        left -= by.counted(place[word]);
         if word < PLEDGED {
             place[word - KINDS] = place[word - KINDS].max(place[word]);
         }
     }
 }
 
-pub fn collateral(place: &Place) -> u64 {
-    place[ALLOCATED..=PLEDGED].iter().sum()
+pub fn collateral(place: &Place, rule: Rule) -> u64 {
+    let all: u64 = place[ALLOCATED..=PLEDGED].iter().sum();
+    all - place[SECURITIES] + rule.counted(place[SECURITIES])
 }
 
 /// Edges of a range, a byte, a word or a sign.
@@ -206,8 +206,8 @@ fn within(word: usize, value: u64) -> u64 {
 }
 
 /// "Books may hold anything in every word."
-pub fn garbage(rng: &mut Rng) -> Table {
-    let mut table = sound(rng);
+pub fn garbage(rule: Rule, rng: &mut Rng) -> Table {
+    let mut table = sound(rule, rng);
     table.count = rng.pick(&[0, 1, 2, 9, 255, 256, 257, 512, 65_535]);
     table.serial = rng.next() as u16;
     let wild = rng.one_in(2);
@@ -226,8 +226,8 @@ pub fn garbage(rng: &mut Rng) -> Table {
 }
 
 /// One word of one place, the count or the serial.
-pub fn one_word_anew(rng: &mut Rng) -> Table {
-    let mut table = sound(rng);
+pub fn one_word_anew(rule: Rule, rng: &mut Rng) -> Table {
+    let mut table = sound(rule, rng);
     match rng.below(30) {
         0 => table.count = rng.near(u64::from(table.count)) as u16,
         1 => table.serial = rng.next() as u16,

@@ -3,45 +3,46 @@
 use super::books::*;
 use crate::book::{CEILING, KINDS, MOST_ACCOUNTS};
 use crate::rng::Rng;
+use crate::rule::Rule;
 use crate::table::*;
 
 /// How often another book is tried where the last one wouldn't do.
 const TRIES: usize = 200;
 
-/// A book whose only fault is this one.
-pub fn with(fault: Fault, rng: &mut Rng) -> Table {
-    let mut table = sound(rng);
+/// A book whose only fault by this rule is this one.
+pub fn with(fault: Fault, rule: Rule, rng: &mut Rng) -> Table {
+    let mut table = sound(rule, rng);
     for _ in 0..TRIES {
-        if breach(&mut table, fault, rng).is_some() && only(&table, fault) {
+        if breach(&mut table, fault, rule, rng).is_some() && only(&table, fault, rule) {
             break;
         }
-        table = sound(rng);
+        table = sound(rule, rng);
     }
     table
 }
 
 /// Two to four faults one after the other, and whatever comes of it.
-pub fn with_several(rng: &mut Rng) -> Table {
-    let mut table = sound(rng);
+pub fn with_several(rule: Rule, rng: &mut Rng) -> Table {
+    let mut table = sound(rule, rng);
     for _ in 0..rng.between(2, 4) {
         let fault = rng.pick(&Fault::all());
         let mut next = table.clone();
-        if breach(&mut next, fault, rng).is_some() {
+        if breach(&mut next, fault, rule, rng).is_some() {
             table = next;
         }
     }
     table
 }
 
-fn only(table: &Table, fault: Fault) -> bool {
-    let alone = Fault::alone(&table.faults());
+fn only(table: &Table, fault: Fault, rule: Rule) -> bool {
+    let alone = Fault::alone(&table.faults_by(rule));
     alone.contains(&fault)
 }
 
 /// None where the book has no room for it.
-fn breach(table: &mut Table, fault: Fault, rng: &mut Rng) -> Option<()> {
+fn breach(table: &mut Table, fault: Fault, rule: Rule, rng: &mut Rng) -> Option<()> {
     match fault {
-        Fault::NoAccounts | Fault::TooManyAccounts => count(table, fault, rng),
+        Fault::NoAccounts | Fault::TooManyAccounts => count(table, fault, rule, rng),
         Fault::TopIsNoCm | Fault::TopIsRetired | Fault::TopHasTm => top(table, fault, rng),
         Fault::Beyond(word) => beyond(table, word, rng)?,
         Fault::UnknownSort | Fault::SecondCm => sort(table, fault, rng)?,
@@ -50,18 +51,20 @@ fn breach(table: &mut Table, fault: Fault, rng: &mut Rng) -> Option<()> {
             let tm = rng.pick(&[1, account as u64, 256, 65_535]);
             table.places[account][TM] = tm;
         }
-        Fault::RetiredHas(sort, word) => retired_has(table, sort, word, rng)?,
-        Fault::PastCeiling(word) => past_ceiling(table, word, rng)?,
+        Fault::RetiredHas(sort, word) => retired_has(table, sort, word, rule, rng)?,
+        Fault::PastCeiling(word) => past_ceiling(table, word, rule, rng)?,
         Fault::AllocatedPast(word) => allocated_past(table, word, rng)?,
-        Fault::NotCovered => not_covered(table),
+        Fault::NotCovered => not_covered(table, rule),
         Fault::ModeOn(sort, live) => {
             let account = an_account(table, sort, Some(live), rng)?;
             table.places[account][MODE] = 1;
         }
-        Fault::KeptNeed(sort, live, is_high) => return kept_need(table, sort, live, is_high, rng),
+        Fault::KeptNeed(sort, live, is_high) => {
+            return kept_need(table, [sort, live], is_high, rule, rng)
+        }
         _ => client(table, fault, rng)?,
     }
-    settle(table);
+    settle(table, rule);
     Some(())
 }
 
@@ -84,11 +87,11 @@ fn an_account(table: &mut Table, sort: u64, live: Option<u64>, rng: &mut Rng) ->
     Some(append(table, row(sort, live, tm)))
 }
 
-fn count(table: &mut Table, fault: Fault, rng: &mut Rng) {
+fn count(table: &mut Table, fault: Fault, rule: Rule, rng: &mut Rng) {
     if fault == Fault::NoAccounts {
         // Every row but the first is beyond the number then.
         table.places[1..].fill([0; WORDS.len()]);
-        cover(table, rng);
+        cover(table, rule, rng);
         table.count = 0;
         return;
     }
@@ -151,7 +154,7 @@ fn sort(table: &mut Table, fault: Fault, rng: &mut Rng) -> Option<()> {
 
 /// Allocated of a retired account goes with received, so that no other
 /// sentence is broken.
-fn retired_has(table: &mut Table, sort: u64, word: usize, rng: &mut Rng) -> Option<()> {
+fn retired_has(table: &mut Table, sort: u64, word: usize, rule: Rule, rng: &mut Rng) -> Option<()> {
     let account = an_account(table, sort, Some(0), rng)?;
     let amount = rng.pick(&[1, 1, 1_000, CEILING]);
     let place = &mut table.places[account];
@@ -160,7 +163,7 @@ fn retired_has(table: &mut Table, sort: u64, word: usize, rng: &mut Rng) -> Opti
         place[word - KINDS] = amount;
     }
     if word == MARGIN {
-        cover(table, rng);
+        cover(table, rule, rng);
     }
     Some(())
 }
@@ -178,21 +181,21 @@ fn live_account(table: &mut Table, rng: &mut Rng) -> Option<usize> {
 }
 
 /// A margin past the ceiling is met by own collateral, so that it is covered.
-fn past_ceiling(table: &mut Table, word: usize, rng: &mut Rng) -> Option<()> {
+fn past_ceiling(table: &mut Table, word: usize, rule: Rule, rng: &mut Rng) -> Option<()> {
     let account = live_account(table, rng)?;
     if word != MARGIN {
         table.places[account][word] = rng.pick(&[CEILING + 1, CEILING + 1, 1 << 63, u64::MAX]);
         return Some(());
     }
     table.places[account][MARGIN] = 0;
-    settle(table);
+    settle(table, rule);
     let place = &mut table.places[account];
     place[MARGIN] = CEILING + rng.pick(&[1, 1, 2, 1_000, CEILING]);
     let under = match place[SORT] {
         CM | TRADING => place[NEED],
         _ => 0,
     };
-    fund(place, (under + place[MARGIN]).min(5 * CEILING));
+    fund(place, under + place[MARGIN], rule);
     Some(())
 }
 
@@ -205,11 +208,11 @@ fn allocated_past(table: &mut Table, word: usize, rng: &mut Rng) -> Option<()> {
 }
 
 /// By a paisa.
-fn not_covered(table: &mut Table) {
+fn not_covered(table: &mut Table, rule: Rule) {
     table.places[0][MARGIN] = table.places[0][MARGIN].max(1);
-    settle(table);
+    settle(table, rule);
     let need = table.places[0][NEED];
-    fund(&mut table.places[0], need - 1);
+    fund(&mut table.places[0], need - 1, rule);
 }
 
 /// A TM that a client may not name.
@@ -266,16 +269,22 @@ fn client_of_retired(table: &mut Table, rng: &mut Rng) -> Option<()> {
 
 /// One kept need too high or too low, all others right. A client's or CP's own
 /// margin is what one might keep for it.
-fn kept_need(table: &mut Table, sort: u64, live: u64, is_high: bool, rng: &mut Rng) -> Option<()> {
+fn kept_need(
+    table: &mut Table,
+    [sort, live]: [u64; 2],
+    is_high: bool,
+    rule: Rule,
+    rng: &mut Rng,
+) -> Option<()> {
     let account = match sort {
         CM => 0,
         _ => an_account(table, sort, Some(live), rng)?,
     };
     if !is_high && table.places[account][MARGIN] == 0 {
         table.places[account][MARGIN] = rng.pick(&[1, 1_000]);
-        cover(table, rng);
+        cover(table, rule, rng);
     }
-    settle(table);
+    settle(table, rule);
     let place = &mut table.places[account];
     let (need, margin) = (place[NEED], place[MARGIN]);
     place[NEED] = if is_high {

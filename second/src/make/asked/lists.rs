@@ -5,6 +5,7 @@ use crate::book::{CEILING, MOST_ACCOUNTS};
 use crate::calls::Call;
 use crate::make::losses;
 use crate::rng::Rng;
+use crate::rule::Rule;
 use crate::table::*;
 
 /// Whose standing is asked for.
@@ -34,8 +35,8 @@ pub const WHO: [Who; 14] = [
     Who::PastTable,
 ];
 
-pub fn standing(who: Who, rng: &mut Rng) -> Call {
-    let mut book = books::sound(rng);
+pub fn standing(who: Who, rule: Rule, rng: &mut Rng) -> Call {
+    let mut book = books::sound(rule, rng);
     let held = book.held();
     let account = match who {
         Who::Cm => 0,
@@ -121,20 +122,20 @@ fn room(length: Length, wanted: usize) -> usize {
     }
 }
 
-pub fn needs(length: Length, rng: &mut Rng) -> Call {
-    let book = books::sound(rng);
+pub fn needs(length: Length, rule: Rule, rng: &mut Rng) -> Call {
+    let book = books::sound(rule, rng);
     let room = room(length, book.held());
     Call::Needs(book, room)
 }
 
-pub fn close_out(losses: Losses, length: Length, rng: &mut Rng) -> Call {
-    let mut book = books::sound(rng);
+pub fn close_out(losses: Losses, length: Length, rule: Rule, rng: &mut Rng) -> Call {
+    let mut book = books::sound(rule, rng);
     let of_retired = match losses {
         Losses::OfRetired => retired(&mut book, rng),
         _ => 0,
     };
-    cover(&mut book, rng);
-    let mut list = match book.book() {
+    cover(&mut book, rule, rng);
+    let mut list = match book.book_by(rule) {
         Some(sound) => losses::good(&sound, rng.next()),
         None => vec![0; book.held()],
     };

@@ -8,6 +8,7 @@ use crate::dayfile::*;
 use crate::make::maker::Maker;
 use crate::make::mixed::any_step;
 use crate::rng::Rng;
+use crate::rule::Rule;
 use crate::table::Table;
 
 /// How many steps are tried on one book, and how many books.
@@ -15,10 +16,14 @@ const STEPS: usize = 120;
 const BOOKS: usize = 60;
 
 /// A book and the bytes of a record that it answers in the way wanted.
-pub fn seek(rng: &mut Rng, wanted: impl Fn(&Answer) -> bool) -> Option<(Table, Vec<u8>)> {
+pub fn seek(
+    rule: Rule,
+    rng: &mut Rng,
+    wanted: impl Fn(&Answer) -> bool,
+) -> Option<(Table, Vec<u8>)> {
     (0..BOOKS).find_map(|_| {
-        let table = books::sound(rng);
-        seek_on(table.book()?, rng, &wanted)
+        let table = books::sound(rule, rng);
+        seek_on(table.book_by(rule)?, rng, &wanted)
     })
 }
 
@@ -63,19 +68,19 @@ fn sought(found: Option<(Table, Vec<u8>)>) -> Call {
     Call::CarryOut(book, values_of(&bytes))
 }
 
-pub fn refused_with(refusal: u8, rng: &mut Rng) -> Call {
-    sought(seek(rng, |answer| answer.refusal() == refusal))
+pub fn refused_with(refusal: u8, rule: Rule, rng: &mut Rng) -> Call {
+    sought(seek(rule, rng, |answer| answer.refusal() == refusal))
 }
 
-pub fn done_with(code: u8, rng: &mut Rng) -> Call {
-    sought(seek(rng, |answer| {
+pub fn done_with(code: u8, rule: Rule, rng: &mut Rng) -> Call {
+    sought(seek(rule, rng, |answer| {
         answer.refusal() == 0 && answer.code == code
     }))
 }
 
 /// A good record but for an amount that it doesn't name.
-pub fn unnamed(rng: &mut Rng) -> Call {
-    let call = sought(seek(rng, |answer| answer.refusal() == 0));
+pub fn unnamed(rule: Rule, rng: &mut Rng) -> Call {
+    let call = sought(seek(rule, rng, |answer| answer.refusal() == 0));
     let Call::CarryOut(book, mut record) = call else {
         return call;
     };

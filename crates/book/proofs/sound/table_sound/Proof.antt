@@ -30,7 +30,7 @@ abbrev marksIn : tie.Start → Marks
 marksIn c = marksFrom (c .args .sort .now) (c .args .live .now) (c .args .tm .now)
 
 abbrev bookOf : tie.Start → Book
-bookOf c = bookFrom (c .args .count) 0 (marksIn c) (c .args .w .now) (c .args .modes .now) (c .args .needs .now)
+bookOf c = bookFrom (c .args .rule) (c .args .count) 0 (marksIn c) (c .args .w .now) (c .args .modes .now) (c .args .needs .now)
 
 returns : tie.Need-returns
 unfolding soundB formedB
@@ -47,7 +47,7 @@ rows-sound-requires c κs = search needs
 rows-tested : (c : tie.After-rows-sound) → all 256 (rowSound (bookOf (c .before .before .before))) ≡ c .rows-sound .result
 rows-tested c =
     let start = c .before .before .before in
-    sym (c .rows-sound .ensures ∙ rows-modes (start .args .count) (marksIn start) (start .args .w .now) (start .args .modes .now) (start .args .needs .now))
+    sym (c .rows-sound .ensures ∙ rows-modes (start .args .rule) (start .args .count) (marksIn start) (start .args .w .now) (start .args .modes .now) (start .args .needs .now))
 
 returns-3 : tie.Need-returns-3
 unfolding soundB formedB
@@ -63,7 +63,7 @@ rows-hold c = rows-tested (c .before) ∙ not-false _ (c .if3 .left)
 modes-tested : (c : tie.After-modes-sound) → all 256 (modeSound (bookOf (c .before .before .before .before .before))) ≡ c .modes-sound .result
 modes-tested c =
     let start = c .before .before .before .before .before in
-    sym (c .modes-sound .ensures ∙ modes-in-place (start .args .count) (marksIn start) (start .args .w .now) (start .args .modes .now) (start .args .needs .now))
+    sym (c .modes-sound .ensures ∙ modes-in-place (start .args .rule) (start .args .count) (marksIn start) (start .args .w .now) (start .args .modes .now) (start .args .needs .now))
 
 returns-4 : tie.Need-returns-4
 unfolding soundB formedB
@@ -71,23 +71,23 @@ returns-4 c = simp (modes-tested (c .before) ∙ not-true _ (c .if4 .taken), and
 
 ranged : (c : tie.Else4) →
     let a = c .before .before .before .before .before .before .args in
-    Ranged (seenBook (a .count) (a .sort .now) (a .tm .now) (a .w .now))
+    Ranged (seenBook (a .rule) (a .count) (a .sort .now) (a .tm .now) (a .w .now))
 ranged c =
     let past = c .before .before in
     let start = past .before .before .before .before in
     let a = start .args in
-    seen-ranged (a .count) 0 (marksIn start) (a .w .now) (a .modes .now) (a .needs .now)
+    seen-ranged (a .rule) (a .count) 0 (marksIn start) (a .w .now) (a .modes .now) (a .needs .now)
     (rows-ranged (bookOf start) (rows-length (marksIn start) (a .w .now)) (past .before .before .if2 .left) (rows-hold past))
 
 -- the view of the words is the book's
 abbrev seen : tie.Else4 → View
-seen c = let a = c .before .before .before .before .before .before .args in view (seenBook (a .count) (a .sort .now) (a .tm .now) (a .w .now))
+seen c = let a = c .before .before .before .before .before .before .args in view (seenBook (a .rule) (a .count) (a .sort .now) (a .tm .now) (a .w .now))
 
 is-seen : (c : tie.Else4) → seen c ≡ view (bookOf (c .before .before .before .before .before .before))
 is-seen c =
     let start = c .before .before .before .before .before .before in
     let a = start .args in
-    seen-view (a .count) 0 (marksIn start) (a .w .now) (a .modes .now) (a .needs .now)
+    seen-view (a .rule) (a .count) 0 (marksIn start) (a .w .now) (a .modes .now) (a .needs .now)
 
 needs-kept-requires : tie.Need-needs-kept-requires
 needs-kept-requires c κs =
@@ -126,7 +126,7 @@ returns-6 c =
     let m = marksIn start in
     let holds : keptB (bookOf start) ≡ true = kept-tested (kept .before) ∙ not-false _ (kept .if5 .left) in
     simp (
-      ap (λ x. x .collateral) (c .before .before .account-at .ensures ∙ seen-account (a .count) 0 m (a .w .now) (a .modes .now) (a .needs .now) 0),
+      ap (λ x. x .collateral) (c .before .before .account-at .ensures ∙ seen-account (a .rule) (a .count) 0 m (a .w .now) (a .modes .now) (a .needs .now) 0),
       kept→ (view (bookOf start)) (a .needs .now) holds 0 (omega arith) ∙ kept-CM (view (bookOf start)),
       holds,
       le-leb 1 (a .count) (omega arith),

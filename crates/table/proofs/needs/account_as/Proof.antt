@@ -4,6 +4,7 @@ use mathlib.Core.Path.{ap, _∙_}
 use native.Mathlib.Omega.{arith}
 use borrow.Author.Needs.{needs}
 use Rattle.rows.specs.Inner.{accountAs}
+use Rattle.rows.proofs.Counted.{collateral-most}
 use Rattle.table.proofs.needs.account_as.Statement.{statement}
 use Rattle.table.proofs.needs.account_as.Tie as tie
 
@@ -12,8 +13,9 @@ account-at-requires c κs = search needs
 
 in-tenths-requires : tie.Need-in-tenths-requires
 in-tenths-requires c κs =
-    let h = c .before .before .pre .1 in
-    rw (c .before .account-at .ensures) (omega arith)
+    let start = c .before .before in
+    let h = start .pre .1 in
+    rw (c .before .account-at .ensures) (omega (arith, collateral-most (start .args .rule) _ h))
 
 returns : tie.Need-returns
 returns c = rw (c .before .if1 .taken) (c .in-tenths .ensures ∙ ap (accountAs true) (c .before .before .account-at .ensures))

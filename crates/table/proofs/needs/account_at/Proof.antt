@@ -1,9 +1,16 @@
 -- `table::needs::account_at` meets its contract: the account's words are in range, so that its collateral fits a word.
 use mathlib.Core.List.{[]}
+use mathlib.Core.Path.{_≡_, sym, ap, _∙_}
+use Prim.Native.Nat.{ℕ, _+_}
 use native.Mathlib.Omega.{arith}
 use borrow.Author.Needs.{needs}
+use Rattle.rows.specs.declared.Kinds.{Kinds}
+use Rattle.rows.specs.declared.Row.{Row}
+use Rattle.rows.specs.declared.Rule.{Rule}
+use Rattle.rows.specs.Rows.{counted, accountOf}
 use Rattle.rows.specs.Ranges.{ceilings}
 use Rattle.rows.specs.Facts.{InRange, KindsWithin}
+use Rattle.rows.proofs.Counted.{counted-most}
 use Rattle.table.specs.Words.{marksFrom, rowIn}
 use Rattle.table.proofs.Gathered.{row-in}
 use Rattle.table.proofs.needs.account_at.Statement.{statement}
@@ -16,61 +23,80 @@ held c = rw (row-in (marksFrom (c .args .sort .now) [] (c .args .tm .now)) (c .a
 most : (c : tie.After-kinds-at) → KindsWithin (c .kinds-at .result) ceilings
 most c = let h = held (c .before) in rw (c .kinds-at .ensures) (omega arith)
 
+-- the words read first
+abbrev kinds : tie.After-word-at2 → tie.After-kinds-at
+kinds c = c .before .before .before .before .before .before
+
 kinds-at-requires : tie.Need-kinds-at-requires
 kinds-at-requires c κs = search needs
 
-element-copy-out-t8 : tie.Need-element-copy-out-t8
-element-copy-out-t8 c = search needs
+element-copy-out-t9 : tie.Need-element-copy-out-t9
+element-copy-out-t9 c = search needs
 
-mul-t9 : tie.Need-mul-t9
-mul-t9 c = search needs
+mul-t10 : tie.Need-mul-t10
+mul-t10 c = search needs
 
-element-copy-out-t12 : tie.Need-element-copy-out-t12
-element-copy-out-t12 c = search needs
+element-copy-out-t13 : tie.Need-element-copy-out-t13
+element-copy-out-t13 c = search needs
 
 word-at-requires : tie.Need-word-at-requires
 word-at-requires c κs = search needs
 
-add-t14 : tie.Need-add-t14
-add-t14 c = omega (arith, most (c .before .before .before .before))
-
 add-t15 : tie.Need-add-t15
-add-t15 c = omega (arith, most (c .before .before .before .before .before))
+add-t15 c = omega (arith, most (c .before .before .before .before))
 
 add-t16 : tie.Need-add-t16
-add-t16 c = omega (arith, most (c .before .before .before .before .before .before))
+add-t16 c = omega (arith, most (c .before .before .before .before .before))
 
 word-at-requires-2 : tie.Need-word-at-requires-2
 word-at-requires-2 c κs = search needs
 
 add-t18 : tie.Need-add-t18
-add-t18 c =
-    let k = c .before .before .before .before .before .before .before in
-    omega (arith, most k, c .word-at2 .ensures, held (k .before) .pledged)
+add-t18 c = omega (arith, most (kinds c), c .word-at2 .ensures, held (kinds c .before) .pledged)
+
+counted-of-requires : tie.Need-counted-of-requires
+counted-of-requires c κs = omega (arith, most (kinds c))
+
+add-t20 : tie.Need-add-t20
+add-t20 c =
+    let at = c .before in
+    let k = kinds at in
+    omega (
+      arith,
+      most k,
+      at .word-at2 .ensures,
+      held (k .before) .pledged,
+      c .counted-of .ensures,
+      counted-most (k .before .args .rule) (k .kinds-at .result .securities),
+    )
+
+-- the account made of words that are the row's
+made : (rule : Rule) (row : Row) (k : Kinds) {m p x : ℕ} → k ≡ row .allocated → m ≡ row .margin → p ≡ row .pledged → x ≡ counted rule (k .securities)
+    → record { sort = row .sort; tm = row .tm; margin = m; collateral = k .cash + k .deposits + k .guarantees + p + x } ≡ accountOf rule row
+made rule row k e f g h = cc
 
 returns : tie.Need-returns
 returns c =
-    let k = c .before .before .before .before .before .before .before in
+    let at = c .before in
+    let k = kinds at in
     let a = k .before .args in
-    rw (
-      row-in (marksFrom (a .sort .now) [] (a .tm .now)) (a .w .now) (a .i) (k .before .pre .0),
-      k .kinds-at .ensures,
-      c .before .before .before .before .word-at .ensures,
-      c .word-at2 .ensures,
-    )
+    let m = marksFrom (a .sort .now) [] (a .tm .now) in
+    made (a .rule) (rowIn m (a .w .now) (a .i)) (k .kinds-at .result) (k .kinds-at .ensures) (at .before .before .before .word-at .ensures) (at .word-at2 .ensures) (c .counted-of .ensures)
+    ∙ sym (ap (accountOf (a .rule)) (row-in m (a .w .now) (a .i) (k .before .pre .0)))
 
 pub account-at-spec : {M : Type 1} → statement M
 account-at-spec =
     tie.close
     (tie.spec
     kinds-at-requires
-    element-copy-out-t8
-    mul-t9
-    element-copy-out-t12
+    element-copy-out-t9
+    mul-t10
+    element-copy-out-t13
     word-at-requires
-    add-t14
     add-t15
     add-t16
     word-at-requires-2
     add-t18
+    counted-of-requires
+    add-t20
     returns)

@@ -26,7 +26,7 @@ returns c =
     let sums = c .before .before in
     let start = sums .before .before in
     let a = start .args in
-    let v = viewAs (a .tenths) (view (seenBook (a .count) (a .sort .now) (a .tm .now) (a .w .now))) in
+    let v = viewAs (a .tenths) (view (seenBook (a .rule) (a .count) (a .sort .now) (a .tm .now) (a .w .now))) in
     let clients = sums .client-sums .last .1 .1 .1 .1 .1 .0 in
     subst (λ (all : ℕ). DeemedUnder v (set clients 0 all)) (sym (c .members-sum .ensures))
     (under-first v (shaped-in (a .tenths) (start .pre .1)) (start .pre .0 .most) clients (sums .client-sums .ensures))

@@ -15,13 +15,13 @@ use Rattle.table.proofs.needs.members_sum.Statement.{statement}
 use Rattle.table.proofs.needs.members_sum.Tie as tie
 
 abbrev Inv-loop : tie.InvT-loop
-Inv-loop sort tm w count tenths under sum₀ n i₀ sum i = (n ≡ count) × (i ≤ n) × (sum ≡ membersBelow (viewAs tenths (view (seenBook count sort tm w))) i)
+Inv-loop sort tm w count tenths under rule sum₀ n i₀ sum i = (n ≡ count) × (i ≤ n) × (sum ≡ membersBelow (viewAs tenths (view (seenBook rule count sort tm w))) i)
 
 abbrev μ-loop : tie.MeasureT-loop
-μ-loop sort tm w count tenths under sum₀ n i₀ sum i = n - i
+μ-loop sort tm w count tenths under rule sum₀ n i₀ sum i = n - i
 
 abbrev bookOf : tie.Start Inv-loop μ-loop → Book
-bookOf c = seenBook (c .args .count) (c .args .sort .now) (c .args .tm .now) (c .args .w .now)
+bookOf c = seenBook (c .args .rule) (c .args .count) (c .args .sort .now) (c .args .tm .now) (c .args .w .now)
 
 abbrev seen : tie.Start Inv-loop μ-loop → View
 seen c = viewAs (c .args .tenths) (view (bookOf c))

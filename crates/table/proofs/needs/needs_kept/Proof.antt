@@ -1,39 +1,34 @@
 -- `table::needs::needs_kept` meets its contract. The invariant: the flag is the test of the kept needs passed (K3).
-use mathlib.Core.Bool.{Bool, false, _&&_}
+use mathlib.Core.Bool.{Bool, _&&_}
+use mathlib.Core.List.{List}
 use mathlib.Core.Path.{_≡_, refl, sym, ap, _∙_}
 use Prim.Native.Nat.{ℕ, _-_, _≤_}
 use native.Mathlib.Omega.{arith}
 use lib.Dec.{eqb}
 use lib.ListN.{getD}
-use borrow.Author.Needs.{needs}
 use Rattle.sums.specs.Sum.{all}
-use Rattle.sums.proofs.Sums.{all-none, all-step}
-use Rattle.rows.specs.View.{View}
-use Rattle.rows.specs.Rows.{ceiling, view}
+use Rattle.sums.proofs.Sums.{all-none, all-step, all-eq}
+use Rattle.rows.specs.Rows.{view}
 use Rattle.rows.specs.KeptNeeds.{keptNeed, allKept}
-use Rattle.rows.proofs.Bounds.{under-cap, ranged-bounded}
-use Rattle.rows.proofs.KeptNeeds.{kept-with}
+use Rattle.rows.proofs.KeptNeeds.{afresh-at}
 use Rattle.table.specs.Facts.{seenBook}
 use Rattle.table.proofs.needs.needs_kept.Statement.{statement}
 use Rattle.table.proofs.needs.needs_kept.Tie as tie
 
+abbrev same : List ℕ → List ℕ → ℕ → Bool
+same needs fresh j = eqb (getD needs j 0) (getD fresh j 0)
+
 abbrev Inv-loop : tie.InvT-loop
-Inv-loop sort tm w count needs under ok₀ i₀ ok i = (i ≤ 256) × (ok ≡ all i (λ j. eqb (getD needs j 0) (keptNeed (view (seenBook count sort tm w)) j)))
+Inv-loop sort tm w count needs fresh ok₀ i₀ ok i = (i ≤ 256) × (ok ≡ all i (same needs fresh))
 
 abbrev μ-loop : tie.MeasureT-loop
-μ-loop sort tm w count needs under ok₀ i₀ ok i = 256 - i
+μ-loop sort tm w count needs fresh ok₀ i₀ ok i = 256 - i
 
-abbrev seen : tie.Start Inv-loop μ-loop → View
-seen c = view (seenBook (c .args .count) (c .args .sort .now) (c .args .tm .now) (c .args .w .now))
-
-abbrev right : tie.Start Inv-loop μ-loop → ℕ → Bool
-right c j = eqb (getD (c .args .needs .now) j 0) (keptNeed (seen c) j)
-
-deemed-under-requires : tie.Need-deemed-under-requires Inv-loop μ-loop
-deemed-under-requires c κs = (c .before .pre .0, c .before .pre .1, refl)
+needs-afresh-requires : tie.Need-needs-afresh-requires Inv-loop μ-loop
+needs-afresh-requires c κs = (c .before .pre .0, c .before .pre .1, c .before .pre .2, refl)
 
 loop-holds : tie.Need-loop-holds Inv-loop μ-loop
-loop-holds c = (omega arith, sym (all-none (right (c .before .before))))
+loop-holds c = (omega arith, sym (all-none _))
 
 mul-ok : tie.Need-mul-ok Inv-loop μ-loop
 mul-ok c = omega arith
@@ -41,24 +36,11 @@ mul-ok c = omega arith
 element-copy-out-ok : tie.Need-element-copy-out-ok Inv-loop μ-loop
 element-copy-out-ok c = omega arith
 
-mul-kept-at : tie.Need-mul-kept-at Inv-loop μ-loop
-mul-kept-at c = omega arith
+mul-ok-2 : tie.Need-mul-ok-2 Inv-loop μ-loop
+mul-ok-2 c = omega arith
 
-array-read-kept-at : tie.Need-array-read-kept-at Inv-loop μ-loop
-array-read-kept-at c = omega arith
-
-kept-at-requires : tie.Need-kept-at-requires Inv-loop μ-loop
-kept-at-requires c κs =
-    let added = c .before .before .before in
-    let start = added .before .before in
-    let a = start .args in (
-      start .pre .0,
-      omega (
-        arith,
-        under-cap (seen start) ceiling (ranged-bounded (seenBook (a .count) (a .sort .now) (a .tm .now) (a .w .now)) (start .pre .0)) (start .pre .1)
-            _ (added .deemed-under .ensures) (c .before .before .loop .i),
-      ),
-    )
+array-read-ok : tie.Need-array-read-ok Inv-loop μ-loop
+array-read-ok c = omega arith
 
 add-i : tie.Need-add-i Inv-loop μ-loop
 add-i c = omega arith
@@ -68,20 +50,21 @@ loop-less c = omega arith
 
 loop-again : tie.Need-loop-again Inv-loop μ-loop
 loop-again c =
-    let at = c .before .before .before in
-    let added = at .before in
-    let start = added .before .before in
-    let i = at .loop .i in (
-      omega arith,
-      ap (λ x. x && eqb (getD (start .args .needs .now) i 0) (c .kept-at .result)) (at .loop .inv .1)
-          ∙ ap (λ x. all i (right start) && eqb (getD (start .args .needs .now) i 0) x)
-          (c .kept-at .ensures ∙ kept-with (seen start) (start .pre .1) _ (added .deemed-under .ensures) (start .pre .2) i)
-          ∙ sym (all-step i (right start)),
-    )
+    let afresh = c .before .before .before in
+    let l = c .before .before .loop in
+    let p = same (afresh .before .before .args .needs .now) (afresh .needs-afresh .last .1 .1 .1 .1 .0) in
+    (omega arith, ap (λ x. x && p (l .i)) (l .inv .1) ∙ sym (all-step (l .i) p))
 
 returns : tie.Need-returns Inv-loop μ-loop
 unfolding allKept
-returns c = c .before .loop .inv .1 ∙ ap (λ (k : ℕ). all k (right (c .before .before .before .before))) (omega arith)
+returns c =
+    let afresh = c .before .before in
+    let a = afresh .before .before .args in
+    let v = view (seenBook (a .rule) (a .count) (a .sort .now) (a .tm .now) (a .w .now)) in
+    let fresh = afresh .needs-afresh .last .1 .1 .1 .1 .0 in
+    c .before .loop .inv .1 ∙ ap (λ (k : ℕ). all k (same (a .needs .now) fresh)) (omega arith)
+    ∙ all-eq 256 (same (a .needs .now) fresh) (λ j. eqb (getD (a .needs .now) j 0) (keptNeed v j))
+    (λ j l. ap (eqb (getD (a .needs .now) j 0)) (ap (λ n. getD n j 0) (afresh .needs-afresh .ensures) ∙ afresh-at v j l))
 
 pub needs-kept-spec : {M : Type 1} → statement M
 needs-kept-spec =
@@ -89,13 +72,12 @@ needs-kept-spec =
     (tie.spec
     Inv-loop
     μ-loop
-    deemed-under-requires
+    needs-afresh-requires
     loop-holds
     mul-ok
     element-copy-out-ok
-    mul-kept-at
-    array-read-kept-at
-    kept-at-requires
+    mul-ok-2
+    array-read-ok
     add-i
     loop-less
     loop-again

@@ -1,0 +1,27 @@
+-- Document 02, K7: "One more call takes a book over to the new rule"
+use mathlib.Core.Bool.{not, _&&_}
+use mathlib.Core.List.{List, [], _∷_}
+use Prim.Native.Nat.{ℕ}
+use Rattle.sums.specs.Choice.{unlessRefused}
+use Rattle.sums.specs.Table.{Line, _when_, first}
+use Rattle.rows.specs.declared.Book.{Book}
+use Rattle.rows.specs.declared.Rule.the-variants.{Old, New}
+use Rattle.rows.specs.Rows.{view, byRule, withNeeds}
+use Rattle.rows.specs.KeptNeeds.{needsAfresh}
+use Rattle.book.specs.Sound.{coveredB, soundB}
+
+-- "1 and the same book if it isn't sound by the old rule or isn't covered by the new"
+abbrev pub takeOverRefusals : Book → List Line
+takeOverRefusals b = (1 when not (soundB (byRule Old b) && coveredB (byRule New b))) ∷ []
+
+-- that number, or 0
+unfoldable pub takeOverRefusal : Book → ℕ
+takeOverRefusal b = first (takeOverRefusals b)
+
+-- "otherwise the book with its kept needs worked out afresh and nothing else changed"
+abbrev pub needsRenewed : Book → Book
+needsRenewed b = withNeeds b (needsAfresh (view b))
+
+-- the book after the call
+unfoldable pub takenOver : Book → Book
+takenOver b = unlessRefused (takeOverRefusal b) (needsRenewed (byRule New b)) (λ n. b)

@@ -1,0 +1,31 @@
+-- `rows::needs::collateral_of` meets its contract: securities count for no more than their face value, so that the sum fits a word.
+use native.Mathlib.Omega.{arith}
+use borrow.Author.Needs.{needs}
+use Rattle.rows.proofs.Counted.{counted-most}
+use Rattle.rows.proofs.needs.collateral_of.Statement.{statement}
+use Rattle.rows.proofs.needs.collateral_of.Tie as tie
+
+add-result : tie.Need-add-result
+add-result c = search needs
+
+add-result-2 : tie.Need-add-result-2
+add-result-2 c = search needs
+
+add-result-3 : tie.Need-add-result-3
+add-result-3 c = search needs
+
+counted-of-requires : tie.Need-counted-of-requires
+counted-of-requires c κs = search needs
+
+add-result-4 : tie.Need-add-result-4
+add-result-4 c =
+    let start = c .before .before .before .before .before in
+    omega (arith, c .counted-of .ensures, counted-most (start .args .rule) (start .args .r .allocated .securities), start .pre)
+
+returns : tie.Need-returns
+returns c = search needs
+
+pub collateral-of-spec : {M : Type 1} → statement M
+collateral-of-spec =
+    tie.close
+    (tie.spec add-result add-result-2 add-result-3 counted-of-requires add-result-4 returns)

@@ -1,0 +1,108 @@
+-- `table::needs::needs_afresh` meets its contract. The invariant: the places passed have the need to keep, the others what is deemed under their account.
+use mathlib.Core.Path.{_≡_, refl, sym, ap, _∙_}
+use Prim.Native.Nat.{ℕ, _-_, _≤_, _<_}
+use native.Mathlib.Omega.{arith}
+use lib.ListN.{length, getD, length-set}
+use lib.Seq.{getD-set-other}
+use Rattle.sums.proofs.Lists.{filled-step, list-is}
+use Rattle.rows.specs.View.{View}
+use Rattle.rows.specs.Rows.{ceiling, view}
+use Rattle.rows.specs.DeemedUnder.{DeemedUnder}
+use Rattle.rows.specs.KeptNeeds.{keptNeed, needsAfresh}
+use Rattle.rows.specs.Inner.{keptWith}
+use Rattle.rows.proofs.Bounds.{under-cap, ranged-bounded}
+use Rattle.rows.proofs.KeptNeeds.{kept-with}
+use Rattle.table.specs.Facts.{seenBook}
+use Rattle.table.proofs.needs.needs_afresh.Statement.{statement}
+use Rattle.table.proofs.needs.needs_afresh.Tie as tie
+
+abbrev Inv-loop : tie.InvT-loop
+Inv-loop sort tm w count under rule i₀ needs i =
+    (i ≤ 256) × DeemedUnder (view (seenBook rule count sort tm w)) under × (length needs ≡ 256)
+    × ((j : ℕ) → j < i → getD needs j 0 ≡ keptNeed (view (seenBook rule count sort tm w)) j) × ((j : ℕ) → i ≤ j → getD needs j 0 ≡ getD under j 0)
+
+abbrev μ-loop : tie.MeasureT-loop
+μ-loop sort tm w count under rule i₀ needs i = 256 - i
+
+abbrev seen : tie.Start Inv-loop μ-loop → View
+seen c = view (seenBook (c .args .rule) (c .args .count) (c .args .sort .now) (c .args .tm .now) (c .args .w .now))
+
+deemed-under-requires : tie.Need-deemed-under-requires Inv-loop μ-loop
+deemed-under-requires c κs = (c .before .pre .0, c .before .pre .1, c .before .pre .3)
+
+loop-holds : tie.Need-loop-holds Inv-loop μ-loop
+loop-holds c =
+    let h = c .deemed-under .ensures in
+    (omega arith, h, h .size, λ j l. absurd (omega arith), λ j l. refl)
+
+mul-under : tie.Need-mul-under Inv-loop μ-loop
+mul-under c = omega arith
+
+element-copy-out-under : tie.Need-element-copy-out-under Inv-loop μ-loop
+element-copy-out-under c = omega arith
+
+kept-at-requires : tie.Need-kept-at-requires Inv-loop μ-loop
+kept-at-requires c κs =
+    let start = c .before .before .before .before .before in
+    let a = start .args in
+    let l = c .before .before .loop in (
+      start .pre .0,
+      omega (
+        arith,
+        l .inv .4 (l .i) (omega arith),
+        under-cap (seen start) ceiling (ranged-bounded (seenBook (a .rule) (a .count) (a .sort .now) (a .tm .now) (a .w .now)) (start .pre .0)) (start .pre .1)
+            _ (l .inv .1) (l .i),
+      ),
+    )
+
+mul-needs : tie.Need-mul-needs Inv-loop μ-loop
+mul-needs c = omega arith
+
+element-write-needs : tie.Need-element-write-needs Inv-loop μ-loop
+element-write-needs c = omega arith
+
+add-i : tie.Need-add-i Inv-loop μ-loop
+add-i c = omega arith
+
+loop-less : tie.Need-loop-less Inv-loop μ-loop
+loop-less c = omega arith
+
+loop-again : tie.Need-loop-again Inv-loop μ-loop
+loop-again c =
+    let l = c .before .before .before .loop in
+    let start = c .before .before .before .before .before .before in
+    let i = l .i in
+    let v = seen start in
+    let x = c .kept-at .result in
+    let is : x ≡ keptNeed v i =
+    c .kept-at .ensures ∙ ap (keptWith v i) (l .inv .4 i (omega arith)) ∙ kept-with v (start .pre .1) _ (l .inv .1) (start .pre .2) i in (
+      omega arith,
+      l .inv .1,
+      length-set (l .needs) i x ∙ l .inv .2,
+      filled-step (keptNeed v) (l .needs) 0 i x (omega arith) (l .inv .3) is,
+      λ j m. getD-set-other (l .needs) i j x 0 (λ e. omega arith) ∙ l .inv .4 j (omega arith),
+    )
+
+returns : tie.Need-returns Inv-loop μ-loop
+unfolding needsAfresh
+returns c =
+    let l = c .before .loop in
+    sym (list-is (keptNeed (seen (c .before .before .before .before))) 256 0 (l .needs) (l .inv .2) (λ j m. l .inv .3 j (omega arith)))
+
+pub needs-afresh-spec : {M : Type 1} → statement M
+needs-afresh-spec =
+    tie.close
+    (tie.spec
+    Inv-loop
+    μ-loop
+    deemed-under-requires
+    loop-holds
+    mul-under
+    element-copy-out-under
+    kept-at-requires
+    mul-needs
+    element-write-needs
+    add-i
+    loop-less
+    loop-again
+    returns)
