@@ -50,10 +50,10 @@ impl Row {
     }
 
     /// "Cash, fixed deposits, guarantees and pledged, plus allocated
-    /// government securities" as the rule counts them.
-    pub fn collateral(&self, rule: Rule) -> u64 {
+    /// government securities less a tenth."
+    pub fn collateral(&self) -> u64 {
         let [cash, deposits, guarantees, securities] = self.allocated;
-        cash + deposits + guarantees + self.pledged + rule.counted(securities)
+        cash + deposits + guarantees + self.pledged + Rule::New.counted(securities)
     }
 
     pub fn is_empty(&self) -> bool {
@@ -83,6 +83,8 @@ pub struct Standing {
     pub deemed: u64,
     pub free: u64,
     pub mode: Mode,
+    /// "The CM's need less its collateral, or 0"; 0 for every other account.
+    pub shortfall: u64,
 }
 
 impl Standing {
@@ -95,14 +97,13 @@ impl Standing {
             deemed: need - blocked,
             free: collateral - blocked,
             mode,
+            shortfall: 0,
         }
     }
 }
 
 #[derive(Clone)]
 pub struct Book {
-    /// By which rule it is worked on; no book carries a mark of it.
-    pub rule: Rule,
     pub rows: [Row; MOST_ACCOUNTS],
     pub count: usize,
     pub serial: u16,
@@ -128,14 +129,9 @@ struct Left {
 impl Book {
     /// "In a fresh book it is the only account and all amounts are 0."
     pub fn fresh() -> Book {
-        Book::fresh_by(Rule::New)
-    }
-
-    pub fn fresh_by(rule: Rule) -> Book {
         let mut rows = [Row::default(); MOST_ACCOUNTS];
         rows[0] = Row::opened(Sort::Cm, 0);
         Book {
-            rule,
             rows,
             count: 1,
             serial: 0,
@@ -149,7 +145,6 @@ impl Book {
     /// A sound book that comes from outside: what is kept for the look is
     /// worked out from its rows.
     pub fn handed_over(
-        rule: Rule,
         rows: [Row; MOST_ACCOUNTS],
         count: usize,
         serial: u16,
@@ -157,7 +152,6 @@ impl Book {
         needs: [u64; MOST_ACCOUNTS],
     ) -> Book {
         let mut book = Book {
-            rule,
             rows,
             count,
             serial,
@@ -175,7 +169,7 @@ impl Book {
     }
 
     pub fn collateral(&self, account: usize) -> u64 {
-        self.rows[account].collateral(self.rule)
+        self.rows[account].collateral()
     }
 
     /// "The account is not live, or its number was never given" is the opposite.
@@ -255,11 +249,12 @@ impl Book {
                 called[self.answers_for(account)] += all[account].deemed;
             }
         }
+        all[0].shortfall = all[0].need.saturating_sub(all[0].collateral);
         all
     }
 
-    /// Document 01, "A sound book", and "each kept need equals the need worked
-    /// out afresh" (K3). A row that is no client has TM number 0.
+    /// Document 01, "A sound book", without its last line: it "no longer has to
+    /// be covered" (K8); and "each kept need equals the need worked out afresh" (K3). A row that is no client has TM number 0.
     pub fn is_sound(&self) -> bool {
         (1..=MOST_ACCOUNTS).contains(&self.count)
             && self.rows[0].sort == Sort::Cm
@@ -270,7 +265,6 @@ impl Book {
             && (0..self.count).all(|account| self.row_is_sound(account))
             && self.modes_are_sound()
             && self.needs == self.needs_afresh()
-            && self.standings()[0].deemed == 0
     }
 
     fn row_is_sound(&self, account: usize) -> bool {

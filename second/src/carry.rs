@@ -85,6 +85,9 @@ fn instruct(book: &mut Book, record: &Values) -> Carried {
         UNPLEDGE => unpledge(book, account, amounts[PLEDGED]),
         SET_MARGIN => set_margin(book, account, amounts[MARGIN]),
         RETIRE => retire(book, record.account),
+        // "Neither can be refused for want of cover."
+        REVALUE => Ok(put(book, account, |row| row.pledged = amounts[PLEDGED])),
+        REVISE => Ok(put(book, account, |row| row.margin = amounts[MARGIN])),
         _ => Err(Refusal::UnknownCode),
     }
 }
@@ -144,7 +147,7 @@ fn take_out(book: &mut Book, account: usize, left: Row) -> Carried {
     if book.keeps_in(account) {
         return Err(Refusal::KeptIn);
     }
-    if left.collateral(book.rule) < book.blocked(account) {
+    if left.collateral() < book.blocked(account) {
         return Err(Refusal::MoreThanFree);
     }
     book.change(account, |row| *row = left);
@@ -178,8 +181,8 @@ fn unpledge(book: &mut Book, account: usize, amount: u64) -> Carried {
     take_out(book, account, left)
 }
 
-/// 13 is for "a rising margin" (K6): any other leaves a sound book covered.
-/// `Margins` holds this against the line without the word.
+/// 13 is for "a rising margin" (K6), whether or not there is a shortfall:
+/// one "that doesn't rise is carried out even while there is" (K8).
 fn set_margin(book: &mut Book, account: usize, margin: u64) -> Carried {
     let rises = margin > book.rows[account].margin;
     if rises && book.cm_need_with(account, margin) > book.collateral(0) {
@@ -187,6 +190,11 @@ fn set_margin(book: &mut Book, account: usize, margin: u64) -> Carried {
     }
     book.change(account, |row| row.margin = margin);
     Ok(Outcome::Done)
+}
+
+fn put(book: &mut Book, account: usize, change: impl FnOnce(&mut Row)) -> Outcome {
+    book.change(account, change);
+    Outcome::Done
 }
 
 fn retire(book: &mut Book, account: u16) -> Carried {

@@ -20,6 +20,7 @@ use crate::options::Options;
 use crate::print;
 use crate::refusal::Refusal;
 use crate::rng::Rng;
+use crate::shorts::Shorts;
 use crate::tally::Tally;
 use crate::tenths::Tenths;
 use std::fs;
@@ -137,7 +138,10 @@ fn all_days(options: &Options, programs: &Programs) -> Result<Tally, String> {
     }
     // A whole round has a day of every kind, and so meets whatever days are
     // made for.
-    let missed = tally.missed();
+    let mut missed = tally.missed();
+    if programs.closeouts.is_some() {
+        missed.extend(tally.missed_closed());
+    }
     if days >= ROUND.len() as u64 && !missed.is_empty() {
         return Err(format!("not met: {}", missed.join(", ")));
     }
@@ -218,11 +222,13 @@ struct Own {
 }
 
 /// A day made for modes is stopped where it meets a kind of look first, one
-/// made for needs where it meets a kind of move.
-fn kinds_met(made: &Made, looks: &Looks, moves: &Moves) -> usize {
+/// made for needs where it meets a kind of move, one made for shortfalls where
+/// it meets a kind of those.
+fn kinds_met(made: &Made, looks: &Looks, moves: &Moves, shorts: &Shorts) -> usize {
     match made.kind {
         "warned" => looks.met.kinds(),
-        "moved" => moves.met.kinds(),
+        "moved" | "valued" => moves.met.kinds(),
+        "short" => shorts.met.kinds(),
         _ => 0,
     }
 }
@@ -238,18 +244,20 @@ fn own_answer(made: &Made, tally: &mut Tally) -> Result<Own, String> {
     let mut holds = Holds::from(&fresh, &made.bytes);
     let mut margins = Margins::from(&fresh, &made.bytes);
     let mut tenths = Tenths::from(&fresh, &made.bytes);
+    let mut shorts = Shorts::from(&fresh, &made.bytes);
     let mut stops = Vec::new();
     let checked = made.kind != MILLION_KIND.0;
     let (out, book, day) = print::day_seen(&made.bytes, |answer, book| {
         tally.count(answer);
         read += 1;
-        let kinds = kinds_met(made, &looks, &moves);
+        let kinds = kinds_met(made, &looks, &moves, &shorts);
         faults += usize::from(!looks.after(answer, book));
         faults += usize::from(!moves.after(answer, book));
         faults += usize::from(!holds.after(answer, book));
         faults += usize::from(!margins.after(answer, book));
         faults += usize::from(!tenths.after(answer, book));
-        if kinds_met(made, &looks, &moves) > kinds {
+        faults += usize::from(!shorts.after(answer, book));
+        if kinds_met(made, &looks, &moves, &shorts) > kinds {
             stops.push(read);
         }
         if checked && !(book.is_sound() && book.uses_agree()) {
@@ -268,6 +276,7 @@ fn own_answer(made: &Made, tally: &mut Tally) -> Result<Own, String> {
     tally.holds.add(&holds.met);
     tally.margins.add(&margins.met);
     tally.tenths.add(&tenths.met);
+    tally.shorts.add(&shorts.met);
     tally.refusals[Refusal::Cut as usize] += u64::from(day.closing == Closing::Cut);
     Ok(Own { out, book, stops })
 }
@@ -290,8 +299,15 @@ fn one_close_out(
         Losses::Folder => (Some(programs.folder.clone()), None),
         Losses::NoArgument => (None, None),
     };
-    if let Some(Err(refusal)) = given.map(|bytes| close_out_bytes(book, bytes)) {
-        tally.refusals[refusal as usize] += 1;
+    match given.map(|bytes| close_out_bytes(book, bytes)) {
+        Some(Err(refusal)) => tally.refusals[refusal as usize] += 1,
+        Some(Ok(closed)) if !tally.count_closed(book, &closed) => {
+            return Err(format!(
+                "own close-out: kind {} seed {}",
+                made.kind, made.seed
+            ));
+        }
+        _ => {}
     }
     let want = given.map_or(Vec::new(), |bytes| print::closeouts(&made.bytes, bytes));
     let words: Vec<&Path> = argument.as_deref().into_iter().collect();

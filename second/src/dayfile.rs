@@ -23,6 +23,12 @@ pub const PLEDGE: u8 = 8;
 pub const UNPLEDGE: u8 = 9;
 pub const SET_MARGIN: u8 = 10;
 pub const RETIRE: u8 = 11;
+/// K8: "sets pledged to a new value".
+pub const REVALUE: u8 = 12;
+/// K8: "sets a margin".
+pub const REVISE: u8 = 13;
+/// "4 is given for codes outside 1 to 13."
+pub const LAST_CODE: u8 = REVISE;
 
 /// A record handed over as values: the second mark byte and six amounts.
 #[derive(Clone, Copy, PartialEq, Eq, Default, Debug)]
@@ -114,8 +120,8 @@ pub fn suits(code: u8, mark: u8) -> Option<bool> {
     match code {
         OPEN_TM | OPEN_CLIENT | OPEN_CP | RETIRE => Some(mark == 0),
         RECEIVE | HAND_BACK | ALLOCATE | RELEASE => Some(mark != 0 && mark & 0xF0 == 0),
-        PLEDGE | UNPLEDGE => Some(mark == 1 << PLEDGED),
-        SET_MARGIN => Some(mark == 1 << MARGIN),
+        PLEDGE | UNPLEDGE | REVALUE => Some(mark == 1 << PLEDGED),
+        SET_MARGIN | REVISE => Some(mark == 1 << MARGIN),
         _ => None,
     }
 }
@@ -129,7 +135,8 @@ impl Values {
             Some(false) => return Some(Refusal::UnsuitedMark),
             Some(true) => {}
         }
-        let least = if self.code == SET_MARGIN { 0 } else { 1 };
+        let may_be_nothing = matches!(self.code, SET_MARGIN | REVALUE | REVISE);
+        let least = u64::from(!may_be_nothing);
         let in_range = self.amounts.iter().enumerate().all(|(bit, amount)| {
             if self.mark & (1 << bit) != 0 {
                 (least..=CEILING).contains(amount)

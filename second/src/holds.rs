@@ -90,11 +90,11 @@ impl Taking {
     }
 
     /// The collateral that would be left of what is there.
-    fn left(&self, rule: Rule) -> u64 {
+    fn left(&self) -> u64 {
         let each = self.there.iter().zip(&self.amounts);
         let face: u64 = each.map(|(there, amount)| there - amount).sum();
         let securities = self.there[SECURITIES] - self.amounts[SECURITIES];
-        face - securities + rule.counted(securities)
+        face - securities + Rule::New.counted(securities)
     }
 }
 
@@ -143,7 +143,7 @@ impl<'a> Holds<'a> {
             11
         } else if is_members && self.before.modes[taking.account] == Mode::On {
             17
-        } else if taking.left(self.before.rule) < self.standing(taking.account).blocked {
+        } else if taking.left() < self.standing(taking.account).blocked {
             12
         } else {
             0
@@ -176,7 +176,7 @@ impl<'a> Holds<'a> {
             .and_then(|there| Amount::of(taking.sum(), free, there));
         let mut kinds = Vec::new();
         kinds.extend(amount.map(|amount| Kind::Asked(sort, way, mode, amount)));
-        if taking.is_there() && taking.left(self.before.rule) >= blocked {
+        if taking.is_there() && taking.left() >= blocked {
             if self.others_mode(member) != mode {
                 kinds.push(Kind::Beside(sort, way, mode));
             }

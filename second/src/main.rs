@@ -26,6 +26,7 @@ mod programs;
 mod refusal;
 mod rng;
 mod rule;
+mod shorts;
 mod story;
 mod table;
 mod tally;
@@ -41,7 +42,7 @@ use std::process::ExitCode;
 const USAGE: &str = "\
 second day [--check] [FROM [TO]] < DAYFILE
                                          a line per record, then end, cut or long
-second standings [FROM] < DAYFILE        the closing line, then every account's five figures and mode
+second standings [FROM] < DAYFILE        the closing line, then every account's five figures, mode and shortfall
 second needs [FROM] < DAYFILE            the closing line, then every account's need
 second closeouts LOSSFILE [FROM] < DAYFILE
                                          the closing line, then what each loss is paid from
@@ -53,7 +54,7 @@ second calls < CALLS                     a line per library call, `bad N` at wha
 second make KIND SEED > DAYFILE          a made-up day: busy hostile bent bounds cuts serials
                                          openings retire shared spent warned wavering
                                          moved moving held withheld mixed haircut
-                                         tens million
+                                         tens valued short wanting falling million
 second losses SEED < DAYFILE > LOSSFILE  made-up losses for the book at that day's end
 second make-calls SEED > CALLS           made-up calls
 second compare [--day P] [--standings P] [--closeouts P] [--needs P] [--take-over P] [--calls P]
@@ -68,12 +69,11 @@ second write-calls < STORY > CALLS       calls from their readable form
 second read-calls < CALLS > STORY        and back
 
 A story has one book, fresh at first. Lines that change it:
-  fresh   do RECORD   set PLACE WORD VALUE   count N   serial N   settle   byte AT VALUE
+  fresh   do RECORD   set PLACE WORD VALUE   count N   serial N   settle   settle old   byte AT VALUE
 Calls, each handed the book as it is then:
   is_sound   standing ACCOUNT   carry_out RECORD   carry_out_next PLACE PIECE
   day NUMBER PIECE   read_at PLACE PIECE   write RECORD room N
   close_out room N losses LOSS ..   needs room N   take_over
-  old CALL, for those that take a book: under the old rule; so are `old do RECORD`, `old settle`
 Other bytes:
   bytes HEX   cut N   # a comment
 WORD: sort live tm received.KIND allocated.KIND pledged margin mode need, KIND one of cash deposits

@@ -11,6 +11,7 @@ pub mod losses;
 mod maker;
 mod mixed;
 mod moved;
+mod short;
 mod steer;
 mod uses;
 mod warned;
@@ -23,7 +24,7 @@ pub type Kind = (&'static str, fn(&mut Maker));
 /// The kinds that a comparison goes round. `million` stands apart for its size.
 /// An odd number, so that days fed in small pieces (one in four) are of every
 /// kind.
-pub const ROUND: [Kind; 19] = [
+pub const ROUND: [Kind; 23] = [
     ("busy", steer::busy),
     ("hostile", bend::hostile),
     ("bent", bend::bent),
@@ -43,6 +44,10 @@ pub const ROUND: [Kind; 19] = [
     ("mixed", mixed::mixed),
     ("haircut", haircut::haircut),
     ("tens", haircut::tens),
+    ("valued", short::valued),
+    ("short", short::short),
+    ("wanting", short::wanting),
+    ("falling", short::falling),
 ];
 
 pub const MILLION_KIND: Kind = ("million", lengths::million);

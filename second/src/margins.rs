@@ -1,6 +1,7 @@
 //! K6 of document 02: 13 is for "a rising margin" alone. After every margin of
-//! one day the line as document 01 first had it, for any new margin, is held
-//! against the answer given. Counts the margins set at full use.
+//! one day the line is held against the answer given, and where there was no
+//! shortfall also as document 01 first had it, for any new margin. Counts the
+//! margins set at full use.
 
 use crate::book::{Book, Sort, MOST_ACCOUNTS};
 use crate::carry::Answer;
@@ -68,6 +69,7 @@ pub struct Margins<'a> {
     /// and nothing of it free.
     margins: [u64; MOST_ACCOUNTS],
     is_full: bool,
+    is_short: bool,
     pub met: Met,
 }
 
@@ -78,12 +80,12 @@ impl<'a> Margins<'a> {
             reader: Reader::new(piece),
             margins: book.rows.map(|row| row.margin),
             is_full: is_full(book),
+            is_short: is_short(book),
             met: Met::default(),
         }
     }
 
-    /// Whether the old line, for any new margin, gives the same answer, and
-    /// 13 is given to rising margins alone.
+    /// Whether 13 is given to rising margins alone, and by its old line too.
     pub fn after(&mut self, answer: &Answer, book: &Book) -> bool {
         let Next::Record(record) = self.reader.next() else {
             return false;
@@ -95,6 +97,7 @@ impl<'a> Margins<'a> {
         if answer.refusal() == 0 {
             self.margins = book.rows.map(|row| row.margin);
             self.is_full = is_full(book);
+            self.is_short = is_short(book);
         }
         fits
     }
@@ -113,13 +116,18 @@ impl<'a> Margins<'a> {
         if let (Some(slot), true) = (slot, self.is_full) {
             self.met.0[slot] += 1;
         }
-        is_refused == passes_cover(book, account, margin) && (margin > before || !is_refused)
+        let passes = passes_cover(book, account, margin);
+        is_refused == (margin > before && passes) && (self.is_short || is_refused == passes)
     }
 }
 
 fn is_full(book: &Book) -> bool {
     let cm = book.standings()[0];
-    cm.collateral > 0 && cm.free == 0
+    cm.collateral > 0 && cm.free == 0 && cm.shortfall == 0
+}
+
+fn is_short(book: &Book) -> bool {
+    book.standings()[0].shortfall > 0
 }
 
 /// The margin of a record that comes as far as 13.
@@ -135,5 +143,5 @@ fn new_margin(record: &Record, answer: &Answer) -> Option<u64> {
 fn passes_cover(book: &Book, account: usize, margin: u64) -> bool {
     let mut with = book.clone();
     with.rows[account].margin = margin;
-    with.standings()[0].deemed > 0
+    with.standings()[0].shortfall > 0
 }

@@ -101,6 +101,7 @@ impl Moves {
 
     /// A margin is part of the need of the account named, whoever that is.
     fn deed(&self, answer: &Answer, now: &[Standing]) -> Deed {
+        let account = usize::from(answer.account);
         match answer.code {
             OPEN_TM | OPEN_CLIENT | OPEN_CP => Deed::Opened,
             RECEIVE => Deed::Received,
@@ -110,16 +111,26 @@ impl Moves {
             PLEDGE => Deed::Pledged,
             UNPLEDGE => Deed::Unpledged,
             RETIRE => Deed::Retired,
-            _ => {
-                let account = usize::from(answer.account);
-                match now[account].need.cmp(&self.before[account].need) {
-                    Ordering::Less => Deed::Fallen,
-                    Ordering::Equal => Deed::Same,
-                    Ordering::Greater => Deed::Risen,
+            REVALUE => {
+                let turn = now[account]
+                    .collateral
+                    .cmp(&self.before[account].collateral);
+                [Deed::ValueDown, Deed::ValueSame, Deed::ValueUp][by(turn)]
+            }
+            code => {
+                let turn = now[account].need.cmp(&self.before[account].need);
+                match code {
+                    REVISE => [Deed::RevisedDown, Deed::RevisedSame, Deed::RevisedUp][by(turn)],
+                    _ => [Deed::Fallen, Deed::Same, Deed::Risen][by(turn)],
                 }
             }
         }
     }
+}
+
+/// Less, equal, more: 0, 1, 2.
+fn by(turn: Ordering) -> usize {
+    (turn as i8 + 1) as usize
 }
 
 /// None where a need moved that has nothing to do with the account.

@@ -118,12 +118,11 @@ fn push_standing(out: &mut Vec<u8>, book: &Book, account: usize, standing: &Stan
         deemed,
         free,
         mode,
+        shortfall,
     } = *standing;
     let mode = mode.word();
-    let line = format!(
-        "{account} {sort} {state} {tm} {collateral} {need} {blocked} {deemed} {free} {mode}\n"
-    );
-    out.extend_from_slice(line.as_bytes());
+    let figures = format!("{collateral} {need} {blocked} {deemed} {free} {mode} {shortfall}");
+    out.extend_from_slice(format!("{account} {sort} {state} {tm} {figures}\n").as_bytes());
 }
 
 /// The lines of `standings` without the closing line.

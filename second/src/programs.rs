@@ -8,6 +8,7 @@ use crate::holds::Holds;
 use crate::looks::Looks;
 use crate::margins::Margins;
 use crate::moves::Moves;
+use crate::shorts::Shorts;
 use crate::table::Table;
 use crate::tenths::Tenths;
 use crate::{bookfile, print, put_out, usage, Output};
@@ -98,11 +99,12 @@ fn checked_day(book: Book, piece: &[u8]) -> Result<(Vec<u8>, Vec<u8>, Book), Str
     let mut holds = Holds::from(&book, piece);
     let mut margins = Margins::from(&book, piece);
     let mut tenths = Tenths::from(&book, piece);
+    let mut shorts = Shorts::from(&book, piece);
     let parts = print::day_parts(book, piece, |answer, book| {
         seen += 1;
         let agrees = looks.after(answer, book) & moves.after(answer, book);
         let agrees = agrees & holds.after(answer, book) & margins.after(answer, book);
-        let agrees = agrees & tenths.after(answer, book);
+        let agrees = agrees & tenths.after(answer, book) & shorts.after(answer, book);
         let is_sound = book.is_sound() && book.uses_agree() && Table::of(book).is_sound();
         if first_fault.is_none() && !(agrees && is_sound) {
             first_fault = Some(seen);

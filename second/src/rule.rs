@@ -1,7 +1,6 @@
-//! What government securities count as: K7 of document 02.
+//! What government securities count as: K7 of document 02. K8: the old rule
+//! is left for books that are to be taken over.
 
-/// "A book no longer covered stays under the old rule, at its own call, until
-/// it is."
 #[derive(Clone, Copy, PartialEq, Eq, PartialOrd, Ord, Debug)]
 pub enum Rule {
     /// "Until now we counted them in full."

@@ -10,6 +10,7 @@
 //!                                   (and so on) pledged margin mode need
 //!     count N, serial N             the number of accounts, the next serial
 //!     settle                        kept needs worked out afresh
+//!     settle old                    the same by the old rule, for a book to be taken over
 //!     byte AT VALUE                 one byte of the written form, counted from 0
 //!
 //!     is_sound
@@ -22,8 +23,6 @@
 //!     close_out room N losses LOSS ..
 //!     needs room N
 //!     take_over
-//!     old CALL                      a call that takes a book, under the old rule; so are
-//!                                   `old do RECORD` and `old settle`
 //!
 //!     bytes HEX                     bytes as they stand, for what is no call
 //!     cut N                         takes the last N bytes off again
@@ -81,21 +80,11 @@ impl Story {
             }
             ("cut", [many]) => self.cut(parsed(many, "number of bytes")?),
             ("fresh" | "set" | "count" | "serial" | "byte", words) => self.change(word, words),
-            ("old", _) => self.work(rest.trim_start(), Rule::Old),
-            _ => self.work(said, Rule::New),
-        }
-    }
-
-    /// What goes by a rule: a record done, needs settled, a call.
-    fn work(&mut self, said: &str, rule: Rule) -> Done {
-        let (word, rest) = said.split_once(char::is_whitespace).unwrap_or((said, ""));
-        let words: Vec<&str> = rest.split_whitespace().collect();
-        match (word, words.as_slice()) {
-            ("do", _) => self.carry_out(rest, rule),
-            ("settle", []) => self.settle(rule),
+            ("do", _) => self.carry_out(rest),
+            ("settle", []) => self.settle(Rule::New),
+            ("settle", ["old"]) => self.settle(Rule::Old),
             (_, words) => {
-                let call = self.call(word, rest, words)?.under(rule);
-                let call = call.ok_or_else(|| format!("`{word}` has no old rule"))?;
+                let call = self.call(word, rest, words)?;
                 let book = call.book().map_or(&[][..], |_| &self.book);
                 call.lay_over(&mut self.out, book);
                 Ok(())
@@ -150,9 +139,9 @@ impl Story {
     }
 
     /// "The book isn't sound" is no part of a story that goes on.
-    fn carry_out(&mut self, said: &str, rule: Rule) -> Done {
+    fn carry_out(&mut self, said: &str) -> Done {
         let record = self.record(said)?;
-        let book = self.table()?.book_by(rule);
+        let book = self.table()?.book();
         let mut book = book.ok_or("the book isn't sound")?;
         match carry_values(&mut book, &record).refusal() {
             0 => {

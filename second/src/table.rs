@@ -83,11 +83,7 @@ impl Table {
 
     /// The book to work with, or None where it isn't sound.
     pub fn book(&self) -> Option<Book> {
-        self.book_by(Rule::New)
-    }
-
-    pub fn book_by(&self, rule: Rule) -> Option<Book> {
-        if !self.is_sound_by(rule) {
+        if !self.is_sound() {
             return None;
         }
         let count = usize::from(self.count);
@@ -101,14 +97,7 @@ impl Table {
         };
         let modes = std::array::from_fn(|account| mode(&self.places[account]));
         let needs = std::array::from_fn(|account| self.places[account][NEED]);
-        Some(Book::handed_over(
-            rule,
-            rows,
-            count,
-            self.serial,
-            modes,
-            needs,
-        ))
+        Some(Book::handed_over(rows, count, self.serial, modes, needs))
     }
 }
 

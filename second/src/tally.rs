@@ -1,10 +1,19 @@
 //! What a comparison has met, and how it says so.
 
-use crate::book::Sort;
+use crate::book::{Book, Sort};
 use crate::carry::Answer;
+use crate::closeout::CloseOut;
 use crate::holds;
 use crate::looks::{self, KINDS};
-use crate::{margins, moves, tenths};
+use crate::{margins, moves, shorts, tenths};
+
+/// Kinds of close-outs under a shortfall.
+const CLOSED: [&str; 4] = [
+    "all at the margins",
+    "within the margins, some uncovered",
+    "within the margins, none uncovered",
+    "beyond the margins",
+];
 
 /// Slots 0 to 17 count answers by refusal.
 #[derive(Default)]
@@ -17,6 +26,9 @@ pub struct Tally {
     pub holds: holds::Met,
     pub margins: margins::Met,
     pub tenths: tenths::Met,
+    pub shorts: shorts::Met,
+    /// Close-outs under a shortfall, by kind.
+    pub closed: [u64; CLOSED.len()],
     /// How often a day was stopped on the way to ask for standings and needs.
     pub stops: u64,
 }
@@ -25,6 +37,40 @@ impl Tally {
     pub fn count(&mut self, answer: &Answer) {
         self.records += 1;
         self.refusals[usize::from(answer.refusal())] += 1;
+    }
+
+    /// A close-out that was not refused. Whether its total is right: "at most
+    /// the shortfall plus the losses beyond margins".
+    pub fn count_closed(&mut self, book: &Book, closed: &CloseOut) -> bool {
+        let short = book.standings()[0].shortfall;
+        let margins = book.rows.iter().map(|row| row.margin);
+        let each: Vec<(u64, u64)> = closed.losses.iter().copied().zip(margins).collect();
+        let beyond: u64 = each
+            .iter()
+            .map(|(loss, margin)| loss.saturating_sub(*margin))
+            .sum();
+        let at_margins = each.iter().all(|(loss, margin)| loss == margin);
+        if short > 0 {
+            let kind = match (at_margins, beyond, closed.total) {
+                (true, ..) => 0,
+                (_, 0, 1..) => 1,
+                (_, 0, 0) => 2,
+                _ => 3,
+            };
+            self.closed[kind] += 1;
+        }
+        closed.total <= short + beyond && (!at_margins || closed.total == short)
+    }
+
+    /// Close-outs that were to be met where any was asked for.
+    pub fn missed_closed(&self) -> Vec<String> {
+        let kinds = CLOSED
+            .iter()
+            .zip(self.closed)
+            .filter(|(_, many)| *many == 0);
+        kinds
+            .map(|(kind, _)| format!("close-out under a shortfall: {kind}"))
+            .collect()
     }
 
     pub fn summary(&self) -> String {
@@ -53,12 +99,14 @@ impl Tally {
             holds("CPs", &self.holds, Sort::Cp),
             margins(&self.margins),
             tenths(&self.tenths),
+            shorts(&self.shorts),
+            closed(&self.closed),
         ];
         lines.join("\n")
     }
 
-    /// The kinds of looks, moves, takings out, margins and turns on the tenth
-    /// that weren't met.
+    /// The kinds of looks, moves, takings out, margins, turns on the tenth and
+    /// shortfalls that weren't met.
     pub fn missed(&self) -> Vec<String> {
         let looks = [("TMs", &self.looks.tms[..]), ("the CM", &self.looks.cm)];
         let looks = looks.into_iter().flat_map(|(whose, met)| {
@@ -69,6 +117,8 @@ impl Tally {
         moves.retain(|kind| self.moves.times(kind) == 0);
         let mut holds = holds::Kind::all();
         holds.retain(|kind| self.holds.times(kind) == 0);
+        let mut shorts = shorts::Kind::all();
+        shorts.retain(|kind| self.shorts.times(kind) == 0);
         let mut tenths = tenths::Kind::all();
         tenths.retain(|kind| self.tenths.times(kind) == 0);
         let margins = margins::KINDS.iter().zip(self.margins.0);
@@ -78,6 +128,7 @@ impl Tally {
             .chain(moves.iter().map(|kind| format!("{kind:?}")))
             .chain(holds.iter().map(|kind| format!("{kind:?}")))
             .chain(tenths.iter().map(|kind| format!("{kind:?}")))
+            .chain(shorts.iter().map(|kind| format!("{kind:?}")))
             .collect()
     }
 }
@@ -115,6 +166,20 @@ fn tenths(met: &tenths::Met) -> String {
         .iter()
         .map(|kind| (format!("{kind:?}"), met.times(kind)));
     format!("tenths of securities, {}", counted(kinds.collect()))
+}
+
+fn shorts(met: &shorts::Met) -> String {
+    let kinds = shorts::Kind::all();
+    let kinds = kinds
+        .iter()
+        .map(|kind| (format!("{kind:?}"), met.times(kind)));
+    format!("shortfalls, {}", counted(kinds.collect()))
+}
+
+fn closed(met: &[u64]) -> String {
+    let kinds = CLOSED.iter().zip(met);
+    let kinds = kinds.map(|(kind, &many)| (kind.to_string(), many));
+    format!("close-outs under a shortfall, {}", counted(kinds.collect()))
 }
 
 fn counted(kinds: Vec<(String, u64)>) -> String {

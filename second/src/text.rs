@@ -8,10 +8,10 @@ use std::str::FromStr;
 
 const KIND_WORDS: [&str; 4] = ["cash", "deposits", "guarantees", "securities"];
 
-/// The words of codes 1 to 11, in that order.
-const CODE_WORDS: [&str; 11] = [
+/// The words of codes 1 to 13, in that order.
+const CODE_WORDS: [&str; 13] = [
     "tm", "client", "cp", "receive", "handback", "allocate", "release", "pledge", "unpledge",
-    "margin", "retire",
+    "margin", "retire", "revalue", "revise",
 ];
 
 /// The running serial after these bytes.
@@ -62,8 +62,8 @@ fn record_bytes(words: &[&str], serial: u16) -> Result<Vec<u8>, String> {
     let (account, rest) = account_of(code, rest)?;
     let (mark, amounts) = match code {
         RECEIVE | HAND_BACK | ALLOCATE | RELEASE => kind_amounts(rest)?,
-        PLEDGE | UNPLEDGE => (1 << PLEDGED, vec![only_amount(rest)?]),
-        SET_MARGIN => (1 << MARGIN, vec![only_amount(rest)?]),
+        PLEDGE | UNPLEDGE | REVALUE => (1 << PLEDGED, vec![only_amount(rest)?]),
+        SET_MARGIN | REVISE => (1 << MARGIN, vec![only_amount(rest)?]),
         _ if rest.is_empty() => (0, Vec::new()),
         _ => {
             return Err(format!(

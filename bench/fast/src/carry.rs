@@ -37,6 +37,8 @@ const RELEASE: u16 = way(7, false);
 const PLEDGE: u16 = way(8, true);
 const UNPLEDGE: u16 = way(9, true);
 const SET_MARGIN: u16 = way(10, true);
+const REVALUE: u16 = way(12, true);
+const REVISE: u16 = way(13, true);
 
 fn by_code(book: &mut Book, record: &Record) -> Carried {
     match way(record.code(), record.has_one_amount()) {
@@ -51,6 +53,8 @@ fn by_code(book: &mut Book, record: &Record) -> Carried {
         PLEDGE => book.pledge(record, record.amount(PLEDGED, 1)?),
         UNPLEDGE => book.unpledge(record, record.amount(PLEDGED, 1)?),
         SET_MARGIN => book.set_margin(record, record.amount(MARGIN, 0)?),
+        REVALUE => book.revalue(record, record.amount(PLEDGED, 0)?),
+        REVISE => book.revise(record, record.amount(MARGIN, 0)?),
         _ => without_amounts(book, record),
     }
 }
@@ -61,7 +65,7 @@ fn without_amounts(book: &mut Book, record: &Record) -> Carried {
         (2, 0) => book.open(record, Sort::Client, Sort::Tm),
         (3, 0) => book.open(record, Sort::Cp, Sort::Cm),
         (11, 0) => book.retire(record),
-        (1..=11, _) => Err(Refusal::UnsuitedMark),
+        (1..=13, _) => Err(Refusal::UnsuitedMark),
         _ => Err(Refusal::UnknownCode),
     }
 }

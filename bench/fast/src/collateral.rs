@@ -1,4 +1,4 @@
-//! Codes 4 to 10: amounts that come and go, refusals 10 to 13 and 17.
+//! Codes 4 to 10, 12 and 13: amounts that come and go, refusals 10 to 13 and 17.
 
 use crate::book::{Book, CEILING};
 use crate::carry::Carried;
@@ -88,21 +88,41 @@ impl Book {
         Ok(0)
     }
 
-    /// Only "a rising margin" may meet 13 (K6); any other has a rise of 0 here,
-    /// which spares a branch that is hard to foresee.
+    /// Only "a rising margin" may meet 13 (K6), under a shortfall too. Without a
+    /// branch for it, which is hard to foresee: any other has a rise of 0 here.
     pub fn set_margin(&mut self, record: &Record, margin: u64) -> Carried {
         let number = self.live(record)?;
-        let was = self.row(number).margin;
-        let rise = margin.saturating_sub(was);
-        if self.cm_need_with(number, rise) > self.row(0).collateral {
+        let rise = margin.saturating_sub(self.row(number).margin);
+        let is_past = self.cm_need_with(number, rise) > self.row(0).collateral;
+        if is_past & (rise != 0) {
             return Err(Refusal::MarginUncovered);
         }
+        Ok(self.put_margin(number, margin))
+    }
+
+    /// K8: it "can't be refused for want of cover", nor can a value.
+    pub fn revise(&mut self, record: &Record, margin: u64) -> Carried {
+        let number = self.live(record)?;
+        Ok(self.put_margin(number, margin))
+    }
+
+    pub fn revalue(&mut self, record: &Record, value: u64) -> Carried {
+        let number = self.live(record)?;
+        self.change(number, |row| {
+            row.collateral = row.collateral - row.pledged + value;
+            row.pledged = value;
+        });
+        Ok(0)
+    }
+
+    fn put_margin(&mut self, number: u8, margin: u64) -> u8 {
+        let was = self.row(number).margin;
         self.change(number, |row| {
             row.need = row.need - was + margin;
             row.used = row.used - 10 * was + 10 * margin;
             row.margin = margin;
         });
-        Ok(0)
+        0
     }
 }
 

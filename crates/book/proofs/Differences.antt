@@ -45,7 +45,7 @@ row-changed b k r l m ec et = record {
   sort = same-sort b k r l ec et;
   tm = same-tm b k r l ec et;
   margin = at-all (λ j x y. (j ≡ k → ⊥) → x .margin ≡ y .margin) b k r l (λ ne. absurd (ne refl)) (λ j ne. refl);
-  collateral = at-all (λ j x y. (j ≡ k → ⊥) → collateral (b .rule) x ≡ collateral (b .rule) y) b k r l (λ ne. absurd (ne refl)) (λ j ne. refl);
+  collateral = at-all (λ j x y. (j ≡ k → ⊥) → collateral x ≡ collateral y) b k r l (λ ne. absurd (ne refl)) (λ j ne. refl);
 }
 
 -- what account i counts in t's need, and in the CM's

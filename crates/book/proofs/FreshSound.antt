@@ -7,10 +7,8 @@ use native.Mathlib.Decide.{ℕ-discrete}
 use lib.Dec.{eqb}
 use Rattle.sums.specs.Choice.{pick}
 use Rattle.sums.specs.Sum.{sum}
-use Rattle.rows.specs.declared.Rule.{Rule}
-use Rattle.rows.specs.declared.Rule.the-variants.{New}
 use Rattle.rows.specs.View.{needCM}
-use Rattle.rows.specs.Rows.{noRow, rowAt, view, byRule, freshBook}
+use Rattle.rows.specs.Rows.{noRow, rowAt, view, freshBook}
 use Rattle.rows.specs.KeptNeeds.{keptNeed}
 use Rattle.rows.proofs.KeptNeeds.{kept-none}
 use Rattle.rows.specs.Ranges.{noAmounts}
@@ -26,10 +24,9 @@ alone : (P : ℕ → Type 0) → P 0 → (i : ℕ) → i < 1 → P i
 alone P p zero l = p
 alone P p (suc i) l = absurd (omega arith)
 
--- by either rule (K7)
-pub fresh-sound-by : (rule : Rule) → Sound (byRule rule freshBook)
+pub fresh-sound : Sound freshBook
 unfolding sum needCM freshBook pick
-fresh-sound-by rule = record {
+fresh-sound = record {
   table = refl;
   most = omega arith;
   top-live = refl;
@@ -44,7 +41,6 @@ fresh-sound-by rule = record {
   tm-live = alone (λ i. rowAt freshBook i .sort ≡ 2 → rowAt freshBook i .live ≡ true → rowAt freshBook (rowAt freshBook i .tm) .live ≡ true) (λ e p. refl);
   retired = alone (λ i. rowAt freshBook i .live ≡ false → noAmounts (rowAt freshBook i) ≡ true) (λ e. refl);
   ranges = alone (λ i. InRange (rowAt freshBook i)) (omega arith);
-  covered = omega arith;
   modes = λ i l e. test-clash e (getD-same 256 i false);
   kept = λ i l. getD-same {A = ℕ} 256 i 0 ∙ sym (none i (ℕ-discrete i 0));
 }
@@ -54,13 +50,9 @@ fresh-sound-by rule = record {
     blank (suc i) h = getD-same 255 i noRow
 
     -- nothing is needed
-    none : (i : ℕ) → Dec (i ≡ 0) → keptNeed (view (byRule rule freshBook)) i ≡ 0
+    none : (i : ℕ) → Dec (i ≡ 0) → keptNeed (view freshBook) i ≡ 0
     none i (yes e) = rw e refl
-    none i (no n) = kept-none (view (byRule rule freshBook)) i n (ap (λ r. eqb (r .sort) 1) (blank i (omega arith)))
-
-pub fresh-sound : Sound freshBook
-unfolding freshBook
-fresh-sound = fresh-sound-by New
+    none i (no n) = kept-none (view freshBook) i n (ap (λ r. eqb (r .sort) 1) (blank i (omega arith)))
 
 pub fresh-test : soundB freshBook ≡ true
 fresh-test = sound← freshBook fresh-sound

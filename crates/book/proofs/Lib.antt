@@ -19,4 +19,5 @@ pub mod SoundInPlace
 pub mod SoundTest
 pub mod StandingRefusals
 pub mod NeedsAnswers
+pub mod ByRule
 pub mod TakeOver

@@ -1,4 +1,4 @@
--- What keeps a book covered: margins that don't rise and collateral that stays at least what was blocked. Most codes are shown sound by it.
+-- What never raises the shortfall (K8): margins that don't rise and collateral that stays at least what was blocked. Most codes are shown to keep to it.
 use mathlib.Core.Path.{_≡_, ap}
 use Prim.Native.Nat.{ℕ, _≤_}
 use native.Mathlib.Omega.{arith}
@@ -6,6 +6,7 @@ use Rattle.sums.specs.Sum.{sum, only}
 use Rattle.sums.proofs.Sums.{sum-le, only-le}
 use Rattle.rows.specs.View.{View, isClientOf, members, ownDeemed, needTM, deemedTM, needCM, blocked}
 use Rattle.rows.specs.Facts.{Covered}
+use Rattle.book.specs.Asked.{shortfall}
 use Rattle.rows.proofs.BySort.{need-CM, need-TM, need-client, need-CP, client-sort, members-le}
 
 -- the same accounts; margins did not rise, and no collateral fell below what was blocked of it
@@ -53,5 +54,8 @@ module _ (v w : View) (k : NoWorse v w) where
       )
 
   -- allocate, pledge, release or unpledge of at most free, a margin that doesn't rise, receive, hand back, retire
+  pub no-worse-shortfall : v .sort 0 ≡ 0 → shortfall w ≤ shortfall v
+  no-worse-shortfall e = omega (arith, needCM-falls, k .collateral 0, need-CM v 0 e)
+
   pub no-worse-covered : v .sort 0 ≡ 0 → Covered v → Covered w
-  no-worse-covered e c = omega (arith, needCM-falls, k .collateral 0, need-CM v 0 e)
+  no-worse-covered e c = omega (arith, no-worse-shortfall e)

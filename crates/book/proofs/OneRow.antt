@@ -30,13 +30,13 @@ module _ (b : Book) (i : ℕ) (r : Row) (l : i < places b) (ec : r .sort ≡ row
   same-tm = at-all (λ j x y. x .tm ≡ y .tm) b i r l et (λ j. refl)
 
   -- the margin doesn't rise, and collateral stays no lower than blocked
-  pub row-no-worse : r .margin ≤ rowAt b i .margin → blocked (view b) i ≤ collateral (b .rule) r → NoWorse (view b) (view (withRow b i r))
+  pub row-no-worse : r .margin ≤ rowAt b i .margin → blocked (view b) i ≤ collateral r → NoWorse (view b) (view (withRow b i r))
   row-no-worse m c = record {
     count = refl;
     sort = same-sort;
     tm = same-tm;
     margin = at-all (λ j x y. x .margin ≤ y .margin) b i r l m (λ j. omega arith);
-    collateral = at-all (λ j x y. blocked (view b) j ≤ collateral (b .rule) x) b i r l c (λ j. omega arith);
+    collateral = at-all (λ j x y. blocked (view b) j ≤ collateral x) b i r l c (λ j. omega arith);
   }
 
   -- the shape goes by sort and TM alone
@@ -57,7 +57,7 @@ module _ (b : Book) (r : Row) (room : b .count < places b) where
     sort = λ i q. ap (λ x. x .sort) (opened-below b r room i q);
     tm = λ i q. ap (λ x. x .tm) (opened-below b r room i q);
     margin = λ i q. ap (λ x. x .margin) (opened-below b r room i q);
-    collateral = λ i q. ap (collateral (b .rule)) (opened-below b r room i q);
+    collateral = λ i q. ap collateral (opened-below b r room i q);
     no-margin = rw (opened-new b r room) m;
     new-sort = rw (opened-new b r room) k;
     its-tm = rw (opened-new b r room) t;

@@ -1,4 +1,4 @@
--- A new account with all amounts 0 changes no need, and keeps the book shaped and covered.
+-- A new account with all amounts 0 changes no need, keeps the book shaped, and moves no shortfall.
 use mathlib.Core.Bool.{Bool, true, false}
 use mathlib.Core.Path.{_≡_, refl, sym, _∙_, ap}
 use mathlib.Core.Logic.{_⊎_}
@@ -8,8 +8,9 @@ use native.Mathlib.Decide.{ℕ-discrete}
 use Rattle.sums.specs.Sum.{sum, only}
 use Rattle.sums.proofs.Sums.{sum-step, sum-eq, sum-zero, only-zero}
 use Rattle.rows.specs.View.{View, isTM, isCP, isClientOf, members, ofClients, ownDeemed, needTM, deemedTM, needCM}
-use Rattle.rows.specs.Facts.{Shaped, Covered}
+use Rattle.rows.specs.Facts.{Shaped}
 use Rattle.rows.specs.Inner.{times, viewAs}
+use Rattle.book.specs.Asked.{shortfall}
 use Rattle.rows.proofs.BySort.{client-sort, client-tm}
 
 -- w is v with one account more, whose margin is 0 and which is a TM, a CP or a client of one of v's TMs
@@ -97,8 +98,8 @@ module _ (v w : View) (o : Opened v w) (s : Shaped v) where
         new-member,
       )
 
-  pub opened-covered : Covered v → Covered w
-  opened-covered c = omega (arith, needCM-same, o .collateral 0 (s .some))
+  pub opened-shortfall : shortfall w ≡ shortfall v
+  opened-shortfall = omega (arith, needCM-same, o .collateral 0 (s .some))
 
   pub opened-shaped : Shaped w
   opened-shaped = record {

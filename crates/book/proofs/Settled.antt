@@ -37,12 +37,11 @@ sound-rows b s = record {
   tm-live = s .tm-live;
   retired = s .retired;
   ranges = s .ranges;
-  covered = s .covered;
 }
 
 -- what the list says of rows looks neither at the serial nor at modes and kept needs
 pub rows-alone : (b : Book) (n : ℕ) (modes : List Bool) (needs : List ℕ) → SoundRows b
-    → SoundRows (record { rule = b .rule; count = b .count; serial = n; rows = b .rows; modes = modes; needs = needs })
+    → SoundRows (record { count = b .count; serial = n; rows = b .rows; modes = modes; needs = needs })
 rows-alone b n modes needs s = record {
   table = s .table;
   most = s .most;
@@ -53,7 +52,6 @@ rows-alone b n modes needs s = record {
   tm-live = s .tm-live;
   retired = s .retired;
   ranges = s .ranges;
-  covered = s .covered;
 }
 
 pub with-rest : (b : Book) → SoundRows b → ((i : ℕ) → i < 256 → modeAt b i ≡ true → MayBeOn b i) → NeedsKept (view b) (b .needs) → Sound b
@@ -67,7 +65,6 @@ with-rest b s modes kept = record {
   tm-live = s .tm-live;
   retired = s .retired;
   ranges = s .ranges;
-  covered = s .covered;
   modes = modes;
   kept = kept;
 }

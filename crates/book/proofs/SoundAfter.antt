@@ -10,17 +10,14 @@ use Rattle.sums.proofs.Choices.{test-clash}
 use Rattle.rows.specs.declared.Kinds.{Kinds}
 use Rattle.rows.specs.declared.Row.{Row}
 use Rattle.rows.specs.declared.Book.{Book}
-use Rattle.rows.specs.View.{blocked}
-use Rattle.rows.specs.Facts.{Covered, KindsWithin, InRange}
+use Rattle.rows.specs.Facts.{KindsWithin, InRange}
 use Rattle.rows.specs.Ranges.{ceilings, noAmounts}
-use Rattle.rows.specs.Rows.{ceiling, rowAt, collateral, view, openedRow, plusKinds, lessKinds, withReceived, withAllocated, withPledged, withMargin, withLive, places, withSerial, withRow, withNew}
+use Rattle.rows.specs.Rows.{ceiling, rowAt, view, openedRow, plusKinds, lessKinds, withReceived, withAllocated, withPledged, withMargin, withLive, places, withSerial, withRow, withNew}
 use Rattle.book.specs.Facts.{SoundRows, Sound}
 use Rattle.book.proofs.Settled.{sound-rows, rows-alone, with-rest}
-use Rattle.rows.proofs.Counted.{counted-rises}
 use Rattle.rows.proofs.RowPut.{row-other, row-places, new-places, opened-new, opened-below, opened-above}
-use Rattle.book.proofs.NoWorse.{no-worse-covered}
-use Rattle.book.proofs.Opens.{Opened, opened-covered, opened-shaped}
-use Rattle.book.proofs.OneRow.{at-all, same-sort, same-tm, row-no-worse, row-shaped, row-opened}
+use Rattle.book.proofs.Opens.{Opened, opened-shaped}
+use Rattle.book.proofs.OneRow.{at-all, same-sort, same-tm, row-shaped, row-opened}
 
 -- soundness doesn't look at the serial
 pub serial-rows : (b : Book) (n : ℕ) → SoundRows b → SoundRows (withSerial b n)
@@ -37,8 +34,8 @@ in-table b s i m = omega (arith, s .table, s .most)
 module _ (b : Book) (s : Sound b) (i : ℕ) (m : i < b .count) (r : Row) (ec : r .sort ≡ rowAt b i .sort) (et : r .tm ≡ rowAt b i .tm) where
   row-sound : InRange r → (r .live ≡ false → noAmounts r ≡ true) → rowAt (withRow b i r) 0 .live ≡ true
       → ((j : ℕ) → j < b .count → rowAt b j .sort ≡ 2 → rowAt (withRow b i r) j .live ≡ true → rowAt (withRow b i r) (rowAt b j .tm) .live ≡ true)
-      → Covered (view (withRow b i r)) → SoundRows (withRow b i r)
-  row-sound ranges retired top tms c = record {
+      → SoundRows (withRow b i r)
+  row-sound ranges retired top tms = record {
     table = row-places b i r ∙ s .table;
     most = s .most;
     top-live = top;
@@ -49,7 +46,6 @@ module _ (b : Book) (s : Sound b) (i : ℕ) (m : i < b .count) (r : Row) (ec : r
     retired = λ j h. at-all (λ k x y. (y .live ≡ false → noAmounts y ≡ true) → x .live ≡ false → noAmounts x ≡ true) b i r l
         (λ q. retired) (λ k q. q) j (s .retired j h);
     ranges = λ j h. at-all (λ k x y. InRange y → InRange x) b i r l (λ q. ranges) (λ k q. q) j (s .ranges j h);
-    covered = c;
   }
     where
       l : i < places b
@@ -62,61 +58,47 @@ module _ (b : Book) (s : Sound b) (i : ℕ) (m : i < b .count) (r : Row) (ec : r
       tm = same-tm b i r l ec et
 
 module _ (b : Book) (s : Sound b) (i : ℕ) (m : i < b .count) (live : rowAt b i .live ≡ true) where
-  -- a live row's amounts change within the ranges, and the CM stays covered
-  pub amounts-sound : (r : Row) → r .sort ≡ rowAt b i .sort → r .tm ≡ rowAt b i .tm → r .live ≡ true → InRange r
-      → Covered (view (withRow b i r)) → SoundRows (withRow b i r)
-  amounts-sound r ec et el f c =
+  -- a live row's amounts change within the ranges
+  amounts-sound : (r : Row) → r .sort ≡ rowAt b i .sort → r .tm ≡ rowAt b i .tm → r .live ≡ true → InRange r → SoundRows (withRow b i r)
+  amounts-sound r ec et el f =
       row-sound b s i m r ec et f (test-clash el) (lives 0 ∙ s .top-live)
-      (λ j h e p. lives (rowAt b j .tm) ∙ s .tm-live j h e (sym (lives j) ∙ p)) c
+      (λ j h e p. lives (rowAt b j .tm) ∙ s .tm-live j h e (sym (lives j) ∙ p))
     where
       lives : (j : ℕ) → rowAt (withRow b i r) j .live ≡ rowAt b j .live
       lives = at-all (λ j x y. x .live ≡ y .live) b i r (in-table b s i m) (el ∙ sym live) (λ j. refl)
 
-  -- the margin doesn't rise, and collateral stays no lower than blocked
-  pub no-worse-sound : (r : Row) → r .sort ≡ rowAt b i .sort → r .tm ≡ rowAt b i .tm → r .live ≡ true → InRange r
-      → r .margin ≤ rowAt b i .margin → blocked (view b) i ≤ collateral (b .rule) r → SoundRows (withRow b i r)
-  no-worse-sound r ec et el f hm hb =
-      amounts-sound r ec et el f
-      (no-worse-covered (view b) (view (withRow b i r)) (row-no-worse b i r (in-table b s i m) ec et hm hb) (s .shaped .top) (s .covered))
-
   -- 10 does not apply
   pub receive-sound : (k : Kinds) → KindsWithin (plusKinds (rowAt b i .received) k) ceilings
       → SoundRows (withRow b i (withReceived (rowAt b i) (plusKinds (rowAt b i .received) k)))
-  receive-sound k h = no-worse-sound _ refl refl live (omega (arith, s .ranges i m)) (omega arith) (omega arith)
+  receive-sound k h = amounts-sound _ refl refl live (omega (arith, s .ranges i m))
 
   -- 11 does not apply
   pub hand-back-sound : (k : Kinds) → KindsWithin k (lessKinds (rowAt b i .received) (rowAt b i .allocated))
       → SoundRows (withRow b i (withReceived (rowAt b i) (lessKinds (rowAt b i .received) k)))
-  hand-back-sound k h = no-worse-sound _ refl refl live (omega (arith, s .ranges i m)) (omega arith) (omega arith)
+  hand-back-sound k h = amounts-sound _ refl refl live (omega (arith, s .ranges i m))
 
   pub allocate-sound : (k : Kinds) → KindsWithin k (lessKinds (rowAt b i .received) (rowAt b i .allocated))
       → SoundRows (withRow b i (withAllocated (rowAt b i) (plusKinds (rowAt b i .allocated) k)))
-  allocate-sound k h =
-      no-worse-sound _ refl refl live (omega (arith, s .ranges i m)) (omega arith)
-      (omega (arith, counted-rises (b .rule) (rowAt b i .allocated .securities) (rowAt b i .allocated .securities + k .securities) (omega arith)))
+  allocate-sound k h = amounts-sound _ refl refl live (omega (arith, s .ranges i m))
 
-  -- 11 and 12 do not apply
   pub release-sound : (k : Kinds) → KindsWithin k (rowAt b i .allocated)
-      → blocked (view b) i ≤ collateral (b .rule) (withAllocated (rowAt b i) (lessKinds (rowAt b i .allocated) k))
       → SoundRows (withRow b i (withAllocated (rowAt b i) (lessKinds (rowAt b i .allocated) k)))
-  release-sound k h f = no-worse-sound _ refl refl live (omega (arith, s .ranges i m)) (omega arith) f
+  release-sound k h = amounts-sound _ refl refl live (omega (arith, s .ranges i m))
 
   -- 10 does not apply
   pub pledge-sound : (y : ℕ) → rowAt b i .pledged + y ≤ ceiling → SoundRows (withRow b i (withPledged (rowAt b i) (rowAt b i .pledged + y)))
-  pledge-sound y h = no-worse-sound _ refl refl live (omega (arith, s .ranges i m)) (omega arith) (omega arith)
+  pledge-sound y h = amounts-sound _ refl refl live (omega (arith, s .ranges i m))
 
-  -- 11 and 12 do not apply
-  pub unpledge-sound : (y : ℕ) → y ≤ rowAt b i .pledged → blocked (view b) i ≤ collateral (b .rule) (withPledged (rowAt b i) (rowAt b i .pledged - y))
-      → SoundRows (withRow b i (withPledged (rowAt b i) (rowAt b i .pledged - y)))
-  unpledge-sound y h f = no-worse-sound _ refl refl live (omega (arith, s .ranges i m)) (omega arith) f
+  -- 11 does not apply
+  pub unpledge-sound : (y : ℕ) → y ≤ rowAt b i .pledged → SoundRows (withRow b i (withPledged (rowAt b i) (rowAt b i .pledged - y)))
+  unpledge-sound y h = amounts-sound _ refl refl live (omega (arith, s .ranges i m))
 
-  -- 13 does not apply
-  pub margin-sound : (y : ℕ) → y ≤ ceiling → Covered (view (withRow b i (withMargin (rowAt b i) y))) → SoundRows (withRow b i (withMargin (rowAt b i) y))
-  margin-sound y h c = amounts-sound _ refl refl live (omega (arith, s .ranges i m)) c
+  -- what is pledged, and the margin, may be set to any amount within the ceiling (K8)
+  pub set-pledged-sound : (y : ℕ) → y ≤ ceiling → SoundRows (withRow b i (withPledged (rowAt b i) y))
+  set-pledged-sound y h = amounts-sound _ refl refl live (omega (arith, s .ranges i m))
 
-  -- 13 never applies to a margin that doesn't rise
-  pub margin-falls : (y : ℕ) → y ≤ rowAt b i .margin → SoundRows (withRow b i (withMargin (rowAt b i) y))
-  margin-falls y h = no-worse-sound _ refl refl live (omega (arith, s .ranges i m)) h (omega arith)
+  pub margin-sound : (y : ℕ) → y ≤ ceiling → SoundRows (withRow b i (withMargin (rowAt b i) y))
+  margin-sound y h = amounts-sound _ refl refl live (omega (arith, s .ranges i m))
 
 -- 7, 8 and 14 do not apply
 module _ (b : Book) (s : Sound b) (i : ℕ) (m : i < b .count) (ne : i ≡ 0 → ⊥) (none : noAmounts (rowAt b i) ≡ true)
@@ -130,7 +112,6 @@ module _ (b : Book) (s : Sound b) (i : ℕ) (m : i < b .count) (ne : i ≡ 0 →
       (ap (λ r. r .live) (row-other b i 0 gone (λ e. ne (sym e))) ∙ s .top-live)
       (λ j h e p. tms j h e (at-all (λ j x y. x .live ≡ true → y .live ≡ true) b i gone (in-table b s i m) (λ q. test-clash q refl) (λ j q. q) j p)
       (ℕ-discrete (rowAt b j .tm) i))
-      (no-worse-covered (view b) (view (withRow b i gone)) (row-no-worse b i gone (in-table b s i m) refl refl (omega arith) (omega arith)) (s .shaped .top) (s .covered))
     where
       same-range : InRange (rowAt b i) → InRange gone
       same-range f = record { received = f .received; allocated = f .allocated; pledged = f .pledged; margin = f .margin }
@@ -175,5 +156,4 @@ module _ (b : Book) (s : Sound b) (c t : ℕ) (room : b .count < 256) (sort : (c
         (λ j l e p. still-live (rowAt b j .tm) (omega (arith, s .shaped .tms j l e .0)) (s .tm-live j l e p));
     retired = each (λ r. r .live ≡ false → noAmounts r ≡ true) (λ q. refl) (s .retired);
     ranges = each InRange (omega arith) (s .ranges);
-    covered = opened-covered (view b) (view opened) one-more (s .shaped) (s .covered);
   }

@@ -13,15 +13,17 @@ use Rattle.sums.specs.Choice.{pick}
 use Rattle.sums.proofs.Sums.{all-at, all-from}
 use Rattle.sums.proofs.Choices.{pick-yes, pick-no, and-left, and-right, and-join, or-split, or-else, or-from, or-left, or-right}
 use Rattle.rows.specs.declared.Row.{Row}
+use Rattle.rows.specs.declared.Rule.the-variants.{New}
 use Rattle.rows.specs.declared.Book.{Book}
 use Rattle.rows.specs.View.{View}
-use Rattle.rows.specs.Rows.{noRow, rowAt, places, view}
+use Rattle.rows.specs.Rows.{noRow, rowAt, modeAt, places, view}
 use Rattle.rows.specs.Ranges.{noAmounts, inRange}
 use Rattle.rows.specs.Facts.{Shaped, InRange, NeedsKept}
 use Rattle.rows.specs.KeptNeeds.{keptNeed, allKept}
-use Rattle.book.specs.Sound.{isBlank, isTop, goodClient, goodSort, goodRetired, goodRow, rowSound, modeSound, formedB, coveredB, soundB}
-use Rattle.book.specs.Facts.{Sound}
+use Rattle.book.specs.Sound.{isBlank, isTop, goodClient, goodSort, goodRetired, goodRow, rowSound, modeSound, formedB, keptBy, soundB}
+use Rattle.book.specs.Facts.{SoundRows, MayBeOn, Sound}
 use Rattle.rows.proofs.RowPut.{row-far}
+use Rattle.book.proofs.Settled.{with-rest}
 use Rattle.book.proofs.RowFacts.{range→, range←, blank→, blank←, mode→, mode←}
 
 -- "a client whose TM is a lower-numbered TM row. A live client's TM is live."
@@ -178,41 +180,50 @@ kept← : (v : View) (needs : List ℕ) → NeedsKept v needs → allKept v need
 unfolding allKept
 kept← v needs h = all-from 256 (λ j. eqb (getD needs j 0) (keptNeed v j)) (λ i l. eq-eqb _ _ (h i l))
 
+-- well formed: the rows, and the modes
+module _ (b : Book) (e : formedB b ≡ true) where
+  table-long : places b ≡ 256
+  unfolding formedB
+  table-long = search (and-left, and-right, eqb-true)
+
+  most-rows : b .count ≤ 256
+  unfolding formedB
+  most-rows = search (and-left, and-right, leb-true)
+
+  some-row : 0 < b .count
+  unfolding formedB
+  some-row = search (and-left, and-right, leb-true)
+
+  each-row : (i : ℕ) → i < 256 → rowSound b i ≡ true
+  unfolding formedB
+  each-row = all-at 256 (rowSound b) (search (and-left, and-right))
+
+  pub formed→ : SoundRows b
+  formed→ = record {
+    table = table-long;
+    most = most-rows;
+    top-live = top b some-row most-rows table-long each-row .1;
+    blank = blank-beyond b some-row most-rows table-long each-row;
+    shaped = shaped-rows b some-row most-rows table-long each-row;
+    no-tm = λ i l ne. no-tm-rows b some-row most-rows table-long each-row i l ne (ℕ-discrete i 0);
+    tm-live = λ i l c. as-client b some-row most-rows table-long each-row i l c .tm-live;
+    retired = λ i l. row-retired b i (each-row i (omega (arith, most-rows))) l;
+    ranges = λ i l. row-ranges b i (each-row i (omega (arith, most-rows))) l;
+  }
+
+  pub formed-modes : (i : ℕ) → i < 256 → modeAt b i ≡ true → MayBeOn b i
+  unfolding formedB
+  formed-modes i l = mode→ b i (all-at 256 (modeSound b) (search (and-left, and-right)) i l)
+
 pub sound→ : (b : Book) → soundB b ≡ true → Sound b
-unfolding soundB formedB coveredB
-sound→ b e = record {
-  table = table;
-  most = most;
-  top-live = top b some most table row .1;
-  blank = blank-beyond b some most table row;
-  shaped = shaped-rows b some most table row;
-  no-tm = λ i l ne. no-tm-rows b some most table row i l ne (ℕ-discrete i 0);
-  tm-live = λ i l c. as-client b some most table row i l c .tm-live;
-  retired = λ i l. row-retired b i (row i (omega (arith, most))) l;
-  ranges = λ i l. row-ranges b i (row i (omega (arith, most))) l;
-  covered = search (and-left, and-right, leb-true);
-  modes = λ i l. mode→ b i (mode i l);
-  kept = kept→ (view b) (b .needs) (search (and-left, and-right));
-}
-  where
-    mode : (i : ℕ) → i < 256 → modeSound b i ≡ true
-    mode = all-at 256 (modeSound b) (search (and-left, and-right))
-
-    table : places b ≡ 256
-    table = search (and-left, and-right, eqb-true)
-
-    most : b .count ≤ 256
-    most = search (and-left, and-right, leb-true)
-
-    some : 0 < b .count
-    some = search (and-left, and-right, leb-true)
-
-    row : (i : ℕ) → i < 256 → rowSound b i ≡ true
-    row = all-at 256 (rowSound b) (search (and-left, and-right))
+unfolding soundB
+sound→ b e =
+    let h = and-left (formedB b) (keptBy New b) e in
+    with-rest b (formed→ b h) (formed-modes b h) (kept→ (view b) (b .needs) (and-right (formedB b) (keptBy New b) e))
 
 pub sound← : (b : Book) → Sound b → soundB b ≡ true
-unfolding soundB formedB coveredB
+unfolding soundB formedB
 sound← b s =
-    and-join (and-join (and-join (and-join (and-join (and-join (le-leb _ _ (s .shaped .some)) (le-leb _ _ (s .most)))
+    and-join (and-join (and-join (and-join (and-join (le-leb _ _ (s .shaped .some)) (le-leb _ _ (s .most)))
     (all-from 256 (rowSound b) (λ i l. row← b i s))) (eq-eqb _ _ (s .table))) (all-from 256 (modeSound b) (λ i l. mode← b i (s .modes i l))))
-    (kept← (view b) (b .needs) (s .kept))) (le-leb _ _ (s .covered))
+    (kept← (view b) (b .needs) (s .kept))

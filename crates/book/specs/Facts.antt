@@ -7,9 +7,9 @@ use Prim.Native.Nat.{ℕ, _≤_, _<_}
 use Rattle.rows.specs.declared.Book.{Book}
 use Rattle.rows.specs.Rows.{noRow, rowAt, modeAt, places, view}
 use Rattle.rows.specs.Ranges.{noAmounts}
-use Rattle.rows.specs.Facts.{Shaped, NoTM, Covered, InRange, NeedsKept}
+use Rattle.rows.specs.Facts.{Shaped, NoTM, InRange, NeedsKept}
 
--- all that document 01's list says
+-- all that document 01's list says, but that the CM is covered: document 02, K8, "A sound book no longer has to be covered"
 pub record SoundRows (b : Book) : Type 0 where
   -- a value of the type has 256 rows
   pub table : places b ≡ 256
@@ -29,8 +29,6 @@ pub record SoundRows (b : Book) : Type 0 where
   pub retired : (i : ℕ) → i < b .count → rowAt b i .live ≡ false → noAmounts (rowAt b i) ≡ true
   -- "Received (each kind), pledged and margin are at most the ceiling. Allocated is at most received in each kind"
   pub ranges : (i : ℕ) → i < b .count → InRange (rowAt b i)
-  -- "The CM's need, defined below, is at most the CM's collateral."
-  pub covered : Covered (view b)
 
 -- the account at place i may be in the mode: it is the CM or a live TM
 abbrev pub MayBeOn : Book → ℕ → Type 0
@@ -47,7 +45,6 @@ pub record Sound (b : Book) : Type 0 where
   pub tm-live : (i : ℕ) → i < b .count → rowAt b i .sort ≡ 2 → rowAt b i .live ≡ true → rowAt b (rowAt b i .tm) .live ≡ true
   pub retired : (i : ℕ) → i < b .count → rowAt b i .live ≡ false → noAmounts (rowAt b i) ≡ true
   pub ranges : (i : ℕ) → i < b .count → InRange (rowAt b i)
-  pub covered : Covered (view b)
   -- document 02, K2: "In a sound book only a live TM or the CM can be in the mode."
   pub modes : (i : ℕ) → i < 256 → modeAt b i ≡ true → MayBeOn b i
   -- document 02, K3: "each kept need equals the need worked out afresh"

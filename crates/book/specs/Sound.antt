@@ -1,4 +1,4 @@
--- Document 01, 'A sound book', with document 02, K2 and K3: as the test that refusal 1 is about (as facts: Facts.antt).
+-- Document 01, 'A sound book', with document 02, K2, K3 and K8: as the test that refusal 1 is about (as facts: Facts.antt).
 use mathlib.Core.Bool.{Bool, not, _&&_, _||_}
 use Prim.Native.Nat.{ℕ}
 use lib.Dec.{eqb, ltb, leb}
@@ -6,8 +6,10 @@ use Rattle.sums.specs.Sum.{all}
 use Rattle.sums.specs.Choice.{pick}
 use Rattle.rows.specs.declared.Row.{Row}
 use Rattle.rows.specs.declared.Book.{Book}
+use Rattle.rows.specs.declared.Rule.{Rule}
+use Rattle.rows.specs.declared.Rule.the-variants.{New}
 use Rattle.rows.specs.View.{needCM}
-use Rattle.rows.specs.Rows.{rowAt, modeAt, places, collateral, view}
+use Rattle.rows.specs.Rows.{rowAt, modeAt, places, collateralBy, viewBy}
 use Rattle.rows.specs.Ranges.{noAmounts, inRange}
 use Rattle.rows.specs.KeptNeeds.{allKept}
 
@@ -52,14 +54,14 @@ modeSound b i = goodMode i (rowAt b i .sort) (rowAt b i .live) (modeAt b i)
 unfoldable pub formedB : Book → Bool
 formedB b = leb 1 (b .count) && leb (b .count) 256 && all 256 (rowSound b) && eqb (places b) 256 && all 256 (modeSound b)
 
--- "The CM's need, defined below, is at most the CM's collateral."
-unfoldable pub coveredB : Book → Bool
-coveredB b = leb (needCM (view b)) (collateral (b .rule) (rowAt b 0))
+-- document 02, K3: "A sound book now includes that each kept need equals the need worked out afresh", by a rule (K7)
+abbrev pub keptBy : Rule → Book → Bool
+keptBy rule b = allKept (viewBy rule b) (b .needs)
 
--- document 02, K3: "A sound book now includes that each kept need equals the need worked out afresh"
-abbrev pub keptB : Book → Bool
-keptB b = allKept (view b) (b .needs)
-
--- 'A sound book': well formed, its needs kept, and covered
+-- 'A sound book': well formed, and its needs kept. Document 02, K8: "A sound book no longer has to be covered"
 unfoldable pub soundB : Book → Bool
-soundB b = formedB b && keptB b && coveredB b
+soundB b = formedB b && keptBy New b
+
+-- document 01's "The CM's need, defined below, is at most the CM's collateral.", by a rule: asked where a book is taken over
+unfoldable pub coveredBy : Rule → Book → Bool
+coveredBy rule b = leb (needCM (viewBy rule b)) (collateralBy rule (rowAt b 0))

@@ -14,6 +14,7 @@ use super::Figures;
 use rows::Rule;
 use rows::deemed::need_by;
 use rows::needs::blocked_of;
+use rows::needs::only_if;
 use table::needs::account_at;
 
 pub(crate) fn figures<'a>(
@@ -24,12 +25,11 @@ pub(crate) fn figures<'a>(
     i: usize,
     kept: u64,
     mode: bool,
-    rule: Rule,
 ) -> Figures
-    requires { ⌜ Ranged (seenBook rule count (now sort) (now tm) (now w)) × Shaped (view (seenBook rule count (now sort) (now tm) (now w))) × (i < count) × (kept ≡ keptNeed (view (seenBook rule count (now sort) (now tm) (now w))) i) ⌝ }
-    ensures { λ x. ⌜ x ≡ figuresOf (view (seenBook rule count (now (sort .entry)) (now (tm .entry)) (now (w .entry)))) mode i ⌝ }
+    requires { ⌜ Ranged (seenBook count (now sort) (now tm) (now w)) × Shaped (view (seenBook count (now sort) (now tm) (now w))) × (i < count) × (kept ≡ keptNeed (view (seenBook count (now sort) (now tm) (now w))) i) ⌝ }
+    ensures { λ x. ⌜ x ≡ figuresOf (view (seenBook count (now (sort .entry)) (now (tm .entry)) (now (w .entry)))) mode i ⌝ }
 {
-    let a = account_at(sort, tm, w, i, rule);
+    let a = account_at(sort, tm, w, i, Rule::New);
     let n = need_by(a, kept);
     let c = a.collateral;
     let k = blocked_of(n, c);
@@ -41,6 +41,7 @@ pub(crate) fn figures<'a>(
         deemed: n - k,
         free: c - k,
         mode,
+        shortfall: only_if(i == 0, n - k),
     }
 }
 
@@ -55,6 +56,7 @@ pub(crate) fn refused(n: u8) -> Figures
         deemed: 0,
         free: 0,
         mode: false,
+        shortfall: 0,
     }
 }
 
@@ -65,16 +67,15 @@ pub(crate) fn put_needs<'a>(
     needs: &'a [u64; 256],
     count: u16,
     room: &mut [u64],
-    rule: Rule,
 )
-    requires { ⌜ Ranged (seenBook rule count (now sort) (now tm) (now w)) × Shaped (view (seenBook rule count (now sort) (now tm) (now w))) ⌝ }
-    requires { ⌜ NeedsKept (view (seenBook rule count (now sort) (now tm) (now w))) (now needs) × (length (now room) ≡ count) ⌝ }
-    ensures { λ _. ⌜ now (room .exit) ≡ listTo (need (view (seenBook rule count (now (sort .entry)) (now (tm .entry)) (now (w .entry))))) count ⌝ }
+    requires { ⌜ Ranged (seenBook count (now sort) (now tm) (now w)) × Shaped (view (seenBook count (now sort) (now tm) (now w))) ⌝ }
+    requires { ⌜ NeedsKept (view (seenBook count (now sort) (now tm) (now w))) (now needs) × (length (now room) ≡ count) ⌝ }
+    ensures { λ _. ⌜ now (room .exit) ≡ listTo (need (view (seenBook count (now (sort .entry)) (now (tm .entry)) (now (w .entry))))) count ⌝ }
 {
     let n = count as usize;
     let mut i: usize = 0;
     while i < n {
-        let a = account_at(sort, tm, w, i, rule);
+        let a = account_at(sort, tm, w, i, Rule::New);
         room[i] = need_by(a, needs[i]);
         i += 1;
     }

@@ -9,18 +9,18 @@ ghost use Rattle.book.specs.Evening.{eveningOf};
 ghost use Rattle.book.specs.TakeOver.{takeOverRefusal, takenOver};
 
 mod blocking;
-pub mod by_rule;
 mod evening;
 pub mod sound;
 
 pub use rows::CEILING;
 use rows::Rule;
+use sound::table_kept;
 use sound::table_sound;
 pub use table::Table;
 use table::needs::account_at;
 use table::needs::needs_afresh;
 
-// A standing's five figures and the account's mode, behind the refusal number or 0.
+// A standing's five figures, the account's mode and, of account 0, the shortfall (K8), behind the refusal number or 0.
 pub struct Figures {
     pub refusal: u8,
     pub collateral: u64,
@@ -29,6 +29,7 @@ pub struct Figures {
     pub deemed: u64,
     pub free: u64,
     pub mode: bool,
+    pub shortfall: u64,
 }
 
 // An amount that every account has.
@@ -77,13 +78,43 @@ pub fn fresh() -> Table
 pub fn is_sound(t: Table) -> bool
     ensures { λ r. ⌜ r ≡ soundB (turnedBack t) ⌝ }
 {
-    by_rule::is_sound(t, Rule::New)
+    let count = t.count;
+    table_sound(
+        &t.sort,
+        &t.live,
+        &t.tm,
+        &t.amounts,
+        &t.modes,
+        &t.needs,
+        count,
+    )
 }
 
 pub fn standing(t: Table, account: u16) -> Figures
     ensures { λ r. ⌜ r ≡ standingOf (turnedBack t) account ⌝ }
 {
-    by_rule::standing(t, account, Rule::New)
+    let count = t.count;
+    if !table_sound(
+        &t.sort,
+        &t.live,
+        &t.tm,
+        &t.amounts,
+        &t.modes,
+        &t.needs,
+        count,
+    ) {
+        return blocking::refused(1);
+    }
+    if account >= count {
+        return blocking::refused(7);
+    }
+    let i = account as usize;
+    if !t.live[i] {
+        return blocking::refused(7);
+    }
+    let mode = t.modes[i];
+    let kept = t.needs[i];
+    blocking::figures(&t.sort, &t.tm, &t.amounts, count, i, kept, mode)
 }
 
 // The needs of all accounts, one for each place of the room: the refusal, or 0 (K3).
@@ -91,7 +122,23 @@ pub fn needs(t: Table, room: &mut [u64]) -> u8
     ensures { λ r. ⌜ r ≡ needsRefusal (turnedBack t) (now (room .entry)) ⌝ }
     ensures { λ _. ⌜ now (room .exit) ≡ needsRoom (turnedBack t) (now (room .entry)) ⌝ }
 {
-    by_rule::needs(t, room, Rule::New)
+    let count = t.count;
+    if !table_sound(
+        &t.sort,
+        &t.live,
+        &t.tm,
+        &t.amounts,
+        &t.modes,
+        &t.needs,
+        count,
+    ) {
+        return 1;
+    }
+    if room.len() != count as usize {
+        return 15;
+    }
+    blocking::put_needs(&t.sort, &t.tm, &t.amounts, &t.needs, count, room);
+    0
 }
 
 // The evening sums: an amount of all accounts, out of its own run of words.
@@ -107,7 +154,6 @@ pub fn amount_sum(t: Table, amount: Amount) -> Summed
         &t.modes,
         &t.needs,
         count,
-        Rule::New,
     ) {
         return Summed {
             refusal: 1,
@@ -120,7 +166,8 @@ pub fn amount_sum(t: Table, amount: Amount) -> Summed
     Summed { refusal: 0, total }
 }
 
-// Takes a book over to the new rule (K7): 1 and the same book, or 0 and the book with its kept needs worked out afresh.
+// Takes a book over to the rule by which government securities count less a tenth (K7): 1 and the same book, or 0 and the book with its kept needs worked out afresh. Where it is
+// sound by the old rule, the need kept at place 0 is the CM's by that rule.
 pub fn take_over(t: Table) -> Taken
     ensures { λ r. ⌜ r ≡ record { refusal = takeOverRefusal (turnedBack t); table = turned (takenOver (turnedBack t)) } ⌝ }
 {
@@ -130,7 +177,7 @@ pub fn take_over(t: Table) -> Taken
     let amounts = t.amounts;
     table::sizes(sort, live, tm, amounts);
     let count = t.count;
-    if !table_sound(
+    if !table_kept(
         &sort,
         &live,
         &tm,
@@ -145,15 +192,15 @@ pub fn take_over(t: Table) -> Taken
             table: t,
         };
     }
-    let mut needs = [0u64; 256];
-    needs_afresh(&sort, &tm, &amounts, count, &mut needs, Rule::New);
-    let cm = account_at(&sort, &tm, &amounts, 0, Rule::New);
-    if cm.collateral < needs[0] {
+    let cm = account_at(&sort, &tm, &amounts, 0, Rule::Old);
+    if cm.collateral < t.needs[0] {
         return Taken {
             refusal: 1,
             table: t,
         };
     }
+    let mut needs = [0u64; 256];
+    needs_afresh(&sort, &tm, &amounts, count, &mut needs, Rule::New);
     let mut after = t;
     after.needs = needs;
     Taken {

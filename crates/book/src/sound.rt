@@ -1,23 +1,21 @@
 // The test of a sound book's rows, modes and kept needs, a sentence of 'A sound book' each, on the words in their places.
 ghost use mathlib.Core.Path.{_≡_};
-ghost use mathlib.Core.Bool.{false};
+ghost use mathlib.Core.Bool.{false, _&&_};
 ghost use mathlib.Core.List.{[]};
 ghost use Prim.Native.Nat.{_<_};
 ghost use lib.Dec.{eqb};
 ghost use lib.ListN.{getD};
 ghost use Rattle.sums.specs.Sum.{all};
 ghost use Rattle.sums.specs.Choice.{pick};
-ghost use Rattle.rows.specs.declared.Rule.the-variants.{New};
 ghost use Rattle.rows.specs.Ranges.{noAmounts, inRange};
 ghost use Rattle.table.specs.Words.{marksFrom, bookFrom};
-ghost use Rattle.book.specs.Sound.{isTop, goodSort, rowSound, soundB};
+ghost use Rattle.book.specs.Sound.{isTop, goodSort, rowSound, formedB, keptBy, soundB};
 ghost use Rattle.book.specs.Inner.{marked, amountsAt, modesAt};
 use rows::CEILING;
 use rows::Rule;
 use rows::needs::slot;
 use rows::ranges::kinds_capped;
 use rows::ranges::kinds_within;
-use table::needs::account_at;
 use table::needs::needs_kept;
 use table::places::kinds_at;
 use table::places::word_at;
@@ -98,7 +96,7 @@ fn good_row<'a>(
     i: usize,
 ) -> bool
     requires { ⌜ i < 256 ⌝ }
-    ensures { λ x. ⌜ x ≡ rowSound (bookFrom New n 0 (marksFrom (now (sort .entry)) (now (live .entry)) (now (tm .entry))) (now (w .entry)) [] []) i ⌝ }
+    ensures { λ x. ⌜ x ≡ rowSound (bookFrom n 0 (marksFrom (now (sort .entry)) (now (live .entry)) (now (tm .entry))) (now (w .entry)) [] []) i ⌝ }
 {
     let own = mark_at(sort, live, tm, i);
     let its = mark_at(sort, live, tm, slot(own.tm));
@@ -116,7 +114,7 @@ fn rows_sound<'a>(
     w: &'a [u64; 2560],
     count: u16,
 ) -> bool
-    ensures { λ x. ⌜ x ≡ all 256 (rowSound (bookFrom New count 0 (marksFrom (now (sort .entry)) (now (live .entry)) (now (tm .entry))) (now (w .entry)) [] [])) ⌝ }
+    ensures { λ x. ⌜ x ≡ all 256 (rowSound (bookFrom count 0 (marksFrom (now (sort .entry)) (now (live .entry)) (now (tm .entry))) (now (w .entry)) [] [])) ⌝ }
 {
     let n = count as usize;
     let mut ok = true;
@@ -141,9 +139,8 @@ fn modes_sound<'a>(sort: &'a [u8; 256], live: &'a [bool; 256], modes: &'a [bool;
     ok
 }
 
-// The test of a table's arrays where they are. Ranges are tested before anything is added, so that no sum can pass a word. The kept
-// needs are right before the CM's is held against its collateral.
-pub fn table_sound<'a>(
+// The test of a table's arrays where they are, with kept needs by a rule. Ranges are tested before anything is added, so that no sum can pass a word.
+pub(crate) fn table_kept<'a>(
     sort: &'a [u8; 256],
     live: &'a [bool; 256],
     tm: &'a [u16; 256],
@@ -153,7 +150,7 @@ pub fn table_sound<'a>(
     count: u16,
     rule: Rule,
 ) -> bool
-    ensures { λ x. ⌜ x ≡ soundB (bookFrom rule count 0 (marksFrom (now (sort .entry)) (now (live .entry)) (now (tm .entry))) (now (w .entry)) (now (modes .entry)) (now (needs .entry))) ⌝ }
+    ensures { λ x. ⌜ x ≡ (formedB (bookFrom count 0 (marksFrom (now (sort .entry)) (now (live .entry)) (now (tm .entry))) (now (w .entry)) (now (modes .entry)) (now (needs .entry))) && keptBy rule (bookFrom count 0 (marksFrom (now (sort .entry)) (now (live .entry)) (now (tm .entry))) (now (w .entry)) (now (modes .entry)) (now (needs .entry)))) ⌝ }
 {
     if count < 1 {
         return false;
@@ -167,9 +164,20 @@ pub fn table_sound<'a>(
     if !modes_sound(sort, live, modes) {
         return false;
     }
-    if !needs_kept(sort, tm, w, count, needs, rule) {
-        return false;
-    }
-    let cm = account_at(sort, tm, w, 0, rule);
-    needs[0] <= cm.collateral
+    needs_kept(sort, tm, w, count, needs, rule)
+}
+
+// The test that refusal 1 is about.
+pub fn table_sound<'a>(
+    sort: &'a [u8; 256],
+    live: &'a [bool; 256],
+    tm: &'a [u16; 256],
+    w: &'a [u64; 2560],
+    modes: &'a [bool; 256],
+    needs: &'a [u64; 256],
+    count: u16,
+) -> bool
+    ensures { λ x. ⌜ x ≡ soundB (bookFrom count 0 (marksFrom (now (sort .entry)) (now (live .entry)) (now (tm .entry))) (now (w .entry)) (now (modes .entry)) (now (needs .entry))) ⌝ }
+{
+    table_kept(sort, live, tm, w, modes, needs, count, Rule::New)
 }

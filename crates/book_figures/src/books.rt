@@ -45,8 +45,8 @@ pub fn p4() -> Table {
     annexure(90_000, 90_000, 40_000)
 }
 
-// B's margin 1500.01: the CM needs a paisa more than its collateral. Nothing else is wrong with it.
-pub fn uncovered() -> Table {
+// B's margin 1500.01: the CM needs a paisa more than its collateral, a shortfall (K8).
+pub fn short() -> Table {
     annexure(150_001, 150_001, 100_001)
 }
 

@@ -1,4 +1,4 @@
-// Evening sums: of Annexure 4's book, of one with another number in each amount, and of books that are not sound.
+// Evening sums: of Annexure 4's book, of one with another number in each amount, of one with a shortfall, and of books that are not sound.
 use crate::books;
 use crate::print;
 use book::Amount;
@@ -87,6 +87,13 @@ fn wrong(t: Table) {
     kept(t, 255, 1);
 }
 
+// Document 02, K8: "A sound book no longer has to be covered".
+fn kept_short(t: Table) {
+    print::text(b"-- with a shortfall\n");
+    kept(t, 0, 100_001);
+    kept(t, 0, 100_000);
+}
+
 // A CP's need isn't kept, at place 3, nor a retired TM's, at place 4.
 fn kept_mixed(t: Table) {
     print::text(b"-- with a CP at place 3 and a retired TM at 4\n");
@@ -98,10 +105,7 @@ fn kept_mixed(t: Table) {
 pub fn all() {
     ten(books::p4());
     ten(two());
-    print::text(b"margins of a book that is not sound");
-    margins(books::uncovered());
     wrong(books::p4());
-    print::text(b"-- not covered, and the CM's need within its collateral\n");
-    kept(books::uncovered(), 0, 100_000);
+    kept_short(books::short());
     kept_mixed(books::mixed());
 }

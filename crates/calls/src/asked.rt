@@ -1,4 +1,4 @@
-// Calls 1, 2 and 9, 21, 22 and 29 by the old rule: what the book is asked.
+// Calls 1, 2 and 9: what the book is asked.
 ghost use Prim.Native.Nat.{_≤_};
 ghost use lib.ListN.{length};
 use crate::call::Told;
@@ -6,7 +6,6 @@ use crate::call::none;
 use crate::changed::one_if;
 use crate::rooms::numbers;
 use crate::rooms::put_line;
-use crate::ruled;
 use crate::taken::AFTER_BOOK;
 use crate::taken::LIST;
 use crate::taken::number4;
@@ -16,11 +15,11 @@ use numbers::number2;
 use text::put_number;
 use text::put_spaced;
 
-pub(crate) fn is_sound(table: Table, room: &mut [u8], by_old: bool) -> Told
+pub(crate) fn is_sound(table: Table, room: &mut [u8]) -> Told
     requires { ⌜ 87000 ≤ length (now room) ⌝ }
     ensures { λ t. ⌜ (t .size ≤ 23817) × (t .text ≤ length (now (room .exit))) ⌝ }
 {
-    let sound = ruled::is_sound(table, by_old);
+    let sound = book::is_sound(table);
     Told {
         is_call: true,
         size: AFTER_BOOK,
@@ -40,18 +39,19 @@ fn put_figures(room: &mut [u8], f: Figures) -> usize
         f.deemed,
         f.free,
         one_if(f.mode),
+        f.shortfall,
     ];
     put_spaced(room, 0, &list)
 }
 
-pub(crate) fn standing(bytes: &[u8], table: Table, room: &mut [u8], by_old: bool) -> Told
+pub(crate) fn standing(bytes: &[u8], table: Table, room: &mut [u8]) -> Told
     requires { ⌜ 87000 ≤ length (now room) ⌝ }
     ensures { λ t. ⌜ (t .size ≤ length (now (bytes .entry))) × (t .text ≤ length (now (room .exit))) ⌝ }
 {
     if bytes.len() < AFTER_BOOK + 2 {
         return none();
     }
-    let figures = ruled::standing(table, number2(bytes, AFTER_BOOK), by_old);
+    let figures = book::standing(table, number2(bytes, AFTER_BOOK));
     Told {
         is_call: true,
         size: AFTER_BOOK + 2,
@@ -60,18 +60,18 @@ pub(crate) fn standing(bytes: &[u8], table: Table, room: &mut [u8], by_old: bool
 }
 
 // Asks for all needs with a room of n, and puts the line.
-fn put_needs(room: &mut [u8], table: Table, n: usize, by_old: bool) -> usize
+fn put_needs(room: &mut [u8], table: Table, n: usize) -> usize
     requires { ⌜ (n ≤ 4096) × (87000 ≤ length (now room)) ⌝ }
     ensures { λ after. ⌜ after ≤ length (now (room .exit)) ⌝ }
 {
     let end = n + 2;
     let mut line = numbers(n);
-    let refusal = ruled::needs(table, &mut line[2..end], by_old);
+    let refusal = book::needs(table, &mut line[2..end]);
     line[1] = refusal as u64;
     put_line(room, 0, line, 1, end)
 }
 
-pub(crate) fn needs(bytes: &[u8], table: Table, room: &mut [u8], by_old: bool) -> Told
+pub(crate) fn needs(bytes: &[u8], table: Table, room: &mut [u8]) -> Told
     requires { ⌜ 87000 ≤ length (now room) ⌝ }
     ensures { λ t. ⌜ (t .size ≤ length (now (bytes .entry))) × (t .text ≤ length (now (room .exit))) ⌝ }
 {
@@ -85,6 +85,6 @@ pub(crate) fn needs(bytes: &[u8], table: Table, room: &mut [u8], by_old: bool) -
     Told {
         is_call: true,
         size: AFTER_BOOK + 4,
-        text: put_needs(room, table, n, by_old),
+        text: put_needs(room, table, n),
     }
 }

@@ -26,20 +26,18 @@ pub(crate) fn none() -> Told
     }
 }
 
-// The calls that take a book in front; 21 to 29 are 1 to 9 by the old rule (K7).
+// The calls that take a book in front.
 fn of_book(bytes: &[u8], table: Table, room: &mut [u8]) -> Told
     requires { ⌜ (23817 ≤ length (now bytes)) × (87000 ≤ length (now room)) ⌝ }
     ensures { λ t. ⌜ (t .size ≤ length (now (bytes .entry))) × (t .text ≤ length (now (room .exit))) ⌝ }
 {
-    let by_old = 20 < bytes[0];
-    let call = bytes[0] % 20;
-    match call {
-        1 => asked::is_sound(table, room, by_old),
-        2 => asked::standing(bytes, table, room, by_old),
-        3 => carried::carry_out(bytes, table, room, by_old),
-        4 | 5 => carried::of_piece(bytes, call, table, room, by_old),
-        8 => closed::close_out(bytes, table, room, by_old),
-        9 => asked::needs(bytes, table, room, by_old),
+    match bytes[0] {
+        1 => asked::is_sound(table, room),
+        2 => asked::standing(bytes, table, room),
+        3 => carried::carry_out(bytes, table, room),
+        4 | 5 => carried::of_piece(bytes, table, room),
+        8 => closed::close_out(bytes, table, room),
+        9 => asked::needs(bytes, table, room),
         10 => carried::take_over(table, room),
         _ => none(),
     }
@@ -66,7 +64,7 @@ fn answer_first(bytes: &[u8], room: &mut [u8]) -> Told
     ensures { λ t. ⌜ (t .size ≤ length (now (bytes .entry))) × (t .text ≤ length (now (room .exit))) ⌝ }
 {
     match bytes[0] {
-        1..=5 | 8..=10 | 21..=25 | 28 | 29 => with_book(bytes, room),
+        1..=5 | 8..=10 => with_book(bytes, room),
         6 => pieces::read_at(bytes, room),
         7 => pieces::write(bytes, room),
         _ => none(),

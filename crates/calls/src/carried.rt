@@ -1,10 +1,9 @@
-// Calls 3, 4 and 5, 23 to 25 by the old rule: records carried out. Call 10: a book taken over.
+// Calls 3, 4 and 5: records carried out. Call 10: a book taken over.
 ghost use Prim.Native.Nat.{_+_, _≤_};
 ghost use lib.ListN.{length};
 use crate::call::Told;
 use crate::call::none;
 use crate::changed::put_book;
-use crate::ruled;
 use crate::taken::AFTER_BOOK;
 use crate::taken::PIECE;
 use crate::taken::number4;
@@ -51,18 +50,18 @@ fn put_answer(room: &mut [u8], a: Answer) -> usize
 }
 
 // Carries out a record handed over as values, and puts the line.
-fn put_carried(room: &mut [u8], before: Table, r: Record, by_old: bool) -> usize
+fn put_carried(room: &mut [u8], before: Table, r: Record) -> usize
     requires { ⌜ 87000 ≤ length (now room) ⌝ }
     ensures { λ n. ⌜ n ≤ length (now (room .exit)) ⌝ }
 {
-    let done = ruled::carry_out(before, r, by_old);
+    let done = desk::carry_out(before, r);
     let answer = done.answer;
     let after = done.table;
     let at = put_answer(room, answer);
     put_book(room, at, before, after)
 }
 
-pub(crate) fn carry_out(bytes: &[u8], table: Table, room: &mut [u8], by_old: bool) -> Told
+pub(crate) fn carry_out(bytes: &[u8], table: Table, room: &mut [u8]) -> Told
     requires { ⌜ 87000 ≤ length (now room) ⌝ }
     ensures { λ t. ⌜ (t .size ≤ length (now (bytes .entry))) × (t .text ≤ length (now (room .exit))) ⌝ }
 {
@@ -73,16 +72,16 @@ pub(crate) fn carry_out(bytes: &[u8], table: Table, room: &mut [u8], by_old: boo
     Told {
         is_call: true,
         size: AFTER_BOOK + 54,
-        text: put_carried(room, table, r, by_old),
+        text: put_carried(room, table, r),
     }
 }
 
 // Carries out the record at a place of a piece, and puts the line.
-fn put_next(room: &mut [u8], before: Table, piece: &[u8], place: usize, by_old: bool) -> usize
+fn put_next(room: &mut [u8], before: Table, piece: &[u8], place: usize) -> usize
     requires { ⌜ 87000 ≤ length (now room) ⌝ }
     ensures { λ n. ⌜ n ≤ length (now (room .exit)) ⌝ }
 {
-    let next = ruled::carry_out_next(before, piece, place, by_old);
+    let next = desk::carry_out_next(before, piece, place);
     let answer = next.answer;
     let after = next.table;
     let p = put_answer(room, answer);
@@ -103,11 +102,11 @@ fn put_word(room: &mut [u8], word: Closing) -> usize
 }
 
 // Carries out the records of a piece, and puts the line.
-fn put_day(room: &mut [u8], before: Table, piece: &[u8], most: u64, by_old: bool) -> usize
+fn put_day(room: &mut [u8], before: Table, piece: &[u8], most: u64) -> usize
     requires { ⌜ 87000 ≤ length (now room) ⌝ }
     ensures { λ n. ⌜ n ≤ length (now (room .exit)) ⌝ }
 {
-    let ended = ruled::day(before, piece, most, by_old);
+    let ended = run::day(before, piece, most);
     let word = ended.closing;
     let after = ended.table;
     let p = put_word(room, word);
@@ -116,20 +115,20 @@ fn put_day(room: &mut [u8], before: Table, piece: &[u8], most: u64, by_old: bool
     put_book(room, at, before, after)
 }
 
-fn put_either(room: &mut [u8], call: u8, t: Table, piece: &[u8], number: u64, by_old: bool) -> usize
+fn put_either(room: &mut [u8], call: u8, t: Table, piece: &[u8], number: u64) -> usize
     requires { ⌜ 87000 ≤ length (now room) ⌝ }
     ensures { λ n. ⌜ n ≤ length (now (room .exit)) ⌝ }
 {
     if call == 4 {
-        put_next(room, t, piece, number as usize, by_old)
+        put_next(room, t, piece, number as usize)
     } else {
-        put_day(room, t, piece, number, by_old)
+        put_day(room, t, piece, number)
     }
 }
 
 // Calls 4 and 5: a piece, and a place or a number.
-pub(crate) fn of_piece(bytes: &[u8], call: u8, table: Table, room: &mut [u8], by_old: bool) -> Told
-    requires { ⌜ 87000 ≤ length (now room) ⌝ }
+pub(crate) fn of_piece(bytes: &[u8], table: Table, room: &mut [u8]) -> Told
+    requires { ⌜ (1 ≤ length (now bytes)) × (87000 ≤ length (now room)) ⌝ }
     ensures { λ t. ⌜ (t .size ≤ length (now (bytes .entry))) × (t .text ≤ length (now (room .exit))) ⌝ }
 {
     let from = AFTER_BOOK + 4;
@@ -148,11 +147,11 @@ pub(crate) fn of_piece(bytes: &[u8], call: u8, table: Table, room: &mut [u8], by
     Told {
         is_call: true,
         size: to + 8,
-        text: put_either(room, call, table, &bytes[from..to], number, by_old),
+        text: put_either(room, bytes[0], table, &bytes[from..to], number),
     }
 }
 
-// Takes a book over to the new rule, and puts the line.
+// Takes a book over to the rule of K7, and puts the line.
 pub(crate) fn take_over(before: Table, room: &mut [u8]) -> Told
     requires { ⌜ 87000 ≤ length (now room) ⌝ }
     ensures { λ t. ⌜ (t .size ≤ 23817) × (t .text ≤ length (now (room .exit))) ⌝ }

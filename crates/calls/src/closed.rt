@@ -1,11 +1,10 @@
-// Calls 8 and, by the old rule, 28: the close-out.
+// Call 8: the close-out.
 ghost use Prim.Native.Nat.{_+_, _*_, _≤_};
 ghost use lib.ListN.{length};
 use crate::call::Told;
 use crate::call::none;
 use crate::rooms::numbers;
 use crate::rooms::put_line;
-use crate::ruled;
 use crate::taken::AFTER_BOOK;
 use crate::taken::LIST;
 use crate::taken::list;
@@ -13,13 +12,13 @@ use crate::taken::number4;
 use closeout::Table;
 
 // Closes out a book with losses and a room of n, and puts the line.
-fn put_closed(room: &mut [u8], t: Table, losses: &[u64], n: usize, by_old: bool) -> usize
+fn put_closed(room: &mut [u8], t: Table, losses: &[u64], n: usize) -> usize
     requires { ⌜ (n ≤ 4096) × (87000 ≤ length (now room)) ⌝ }
     ensures { λ after. ⌜ after ≤ length (now (room .exit)) ⌝ }
 {
     let end = n + 2;
     let mut line = numbers(n);
-    let closed = ruled::close_out(t, losses, &mut line[2..end], by_old);
+    let closed = closeout::close_out(t, losses, &mut line[2..end]);
     line[0] = closed.refusal as u64;
     line[1] = closed.total;
     put_line(room, 0, line, 0, end)
@@ -70,7 +69,7 @@ fn lengths(bytes: &[u8]) -> Asked
     }
 }
 
-pub(crate) fn close_out(bytes: &[u8], table: Table, room: &mut [u8], by_old: bool) -> Told
+pub(crate) fn close_out(bytes: &[u8], table: Table, room: &mut [u8]) -> Told
     requires { ⌜ 87000 ≤ length (now room) ⌝ }
     ensures { λ t. ⌜ (t .size ≤ length (now (bytes .entry))) × (t .text ≤ length (now (room .exit))) ⌝ }
 {
@@ -83,6 +82,6 @@ pub(crate) fn close_out(bytes: &[u8], table: Table, room: &mut [u8], by_old: boo
     Told {
         is_call: true,
         size: asked.end,
-        text: put_closed(room, table, &losses[0..n], asked.room, by_old),
+        text: put_closed(room, table, &losses[0..n], asked.room),
     }
 }

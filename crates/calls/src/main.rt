@@ -12,7 +12,6 @@ mod held;
 mod lines;
 mod pieces;
 mod rooms;
-mod ruled;
 mod taken;
 
 // More calls than any input holds: the loop must have an end.

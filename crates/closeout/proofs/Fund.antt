@@ -96,10 +96,3 @@ module _ (v : View) (s : Shaped v) (l : ℕ → ℕ) where
 
   pub fund : sum (v .count) (unpaid v l) ≤ (needCM v - v .collateral 0) + sum (v .count) (beyond v l)
   fund = omega (arith, total-asked v l, asked-le)
-
-  pub fund-covered : Covered v → sum (v .count) (unpaid v l) ≤ sum (v .count) (beyond v l)
-  fund-covered c = omega (arith, total-asked v l, asked-le)
-
-  -- where no loss passes its margin, nothing is left uncovered
-  pub fund-within : Covered v → ((i : ℕ) → i < v .count → l i ≤ v .margin i) → sum (v .count) (unpaid v l) ≡ 0
-  fund-within c h = omega (arith, fund-covered c, sum-zero (v .count) (beyond v l) (λ i m. omega (arith, h i m)))

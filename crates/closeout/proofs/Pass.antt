@@ -88,7 +88,7 @@ pass-start b losses room left more under h n n₂ is-need e = record {
   tms = λ k d. absurd (omega arith);
   tms₂ = λ k d. absurd (omega arith);
   cm-left = ap (λ x. x .left) e ∙ sym (start-first (view b) (lossAt losses) (h .shaped .top));
-  cm-left₂ = ap (λ x. x .free) e ∙ sym (start-second (view b) (lossAt losses) (h .shaped .top) ∙ ap (λ m. freeOf m (collateral (b .rule) (rowAt b 0)) - min (lossAt losses 0 - min (min (lossAt losses 0) (rowAt b 0 .margin)) (collateral (b .rule) (rowAt b 0))) (freeOf m (collateral (b .rule) (rowAt b 0)))) is-need);
+  cm-left₂ = ap (λ x. x .free) e ∙ sym (start-second (view b) (lossAt losses) (h .shaped .top) ∙ ap (λ m. freeOf m (collateral (rowAt b 0)) - min (lossAt losses 0 - min (min (lossAt losses 0) (rowAt b 0 .margin)) (collateral (rowAt b 0))) (freeOf m (collateral (rowAt b 0)))) is-need);
   open-is = refl;
 }
 

@@ -1,5 +1,5 @@
--- K1's round one pays what closeout's columns say of the losses within the margins; so a covered book pays all of it, and nobody
--- pays more than is blocked.
+-- K1's round one pays what closeout's columns say of the losses within the margins; so a covered book pays all of it, any other
+-- all but what the CM lacks, and nobody pays more than is blocked.
 use mathlib.Core.Path.{_≡_, refl, sym, _∙_, ap}
 use mathlib.Core.Bool.{Bool, true, false, not, _||_}
 use mathlib.Core.Logic.{⊎-elim}
@@ -16,7 +16,7 @@ use Rattle.closeout.specs.Round.{own, short, leftTM, fromTM, askedOfCM, 
 use Rattle.closeout.specs.Bound.{beyond}
 use Rattle.closeout.proofs.Payments.{amounts-add-up, fromTM-client, fromTM-other}
 use Rattle.closeout.proofs.Limits.{TM-pays, CM-pays}
-use Rattle.closeout.proofs.Fund.{asked-le, fund-within}
+use Rattle.closeout.proofs.Fund.{asked-le, fund}
 use Rattle.closeout.specs.Columns.{isClientOrCP, ownPayment, withPurses, purses₁, part₁, paid₁}
 
 -- a loss a of margin m and collateral c: what is left within the margin once own collateral has paid what it can of the loss
@@ -124,15 +124,18 @@ module _ (v : View) (s : Shaped v) (l : ℕ → ℕ) where
   unfolding unpaid
   same-uncovered i m = less-one (same-asked i m) (same-leftCM i (omega arith))
 
+  none-beyond : sum (v .count) (beyond v (within v l)) ≡ 0
+  none-beyond = sum-zero (v .count) (beyond v (within v l)) (λ i m. omega arith)
+
+  -- round one leaves open at most what the CM lacks
+  pub round-one-open : sum (v .count) (unpaid (purses₁ v) (part₁ v l)) ≤ needCM v - v .collateral 0
+  round-one-open =
+      rw (sum-eq (v .count) (unpaid (purses₁ v) (part₁ v l)) (unpaid v (within v l)) same-uncovered)
+      (omega (arith, fund v s (within v l), none-beyond))
+
   -- a covered book leaves nothing of round one unpaid
-  pub nothing-open : Covered v → (i : ℕ) → i < v .count → unpaid (purses₁ v) (part₁ v l) i ≡ 0
-  nothing-open c i m =
-      omega (
-        arith,
-        same-uncovered i m,
-        sum-term (v .count) (unpaid v (within v l)) i m,
-        fund-within v s (within v l) c (λ j d. omega arith),
-      )
+  nothing-open : Covered v → (i : ℕ) → i < v .count → unpaid (purses₁ v) (part₁ v l) i ≡ 0
+  nothing-open c i m = omega (arith, sum-term (v .count) (unpaid (purses₁ v) (part₁ v l)) i m, round-one-open)
 
   -- so it pays all that it is asked
   pub pays-all : Covered v → (i : ℕ) → i < v .count → paid₁ v l i ≡ part₁ v l i
@@ -172,13 +175,10 @@ module _ (v : View) (s : Shaped v) (l : ℕ → ℕ) where
   CM-blocked =
       rw (need-CM v 0 (s .top), own-member v l 0 cm-member, all-same)
       (in-need (own v (within v l) 0 + sum (v .count) (fromCM v (within v l))) (needCM v) (v .collateral 0)
-      (omega (arith, asked-le v s (within v l), nothing-beyond, all-le)) (CM-pays v (within v l)))
+      (omega (arith, asked-le v s (within v l), none-beyond, all-le)) (CM-pays v (within v l)))
     where
       all-same : sum (v .count) (fromCM (purses₁ v) (part₁ v l)) ≡ sum (v .count) (fromCM v (within v l))
       all-same = sum-eq (v .count) (fromCM (purses₁ v) (part₁ v l)) (fromCM v (within v l)) same-fromCM
 
       all-le : sum (v .count) (fromCM v (within v l)) ≤ sum (v .count) (askedOfCM v (within v l))
       all-le = sum-le (v .count) (fromCM v (within v l)) (askedOfCM v (within v l)) (λ i m. fromCM-le i)
-
-      nothing-beyond : sum (v .count) (beyond v (within v l)) ≡ 0
-      nothing-beyond = sum-zero (v .count) (beyond v (within v l)) (λ i m. omega arith)

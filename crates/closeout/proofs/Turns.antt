@@ -146,7 +146,7 @@ module _ (b : Book) (l : ℕ → ℕ) (i under tm tm₂ : ℕ) (need-is : need (
   asks-second = refl
 
   free-is : freeBy (accountAt (view b) i) under ≡ purses₂ (view b) .collateral i
-  free-is = ap (λ n. only (not (clientOrCPBy (accountAt (view b) i))) (freeOf n (collateral (b .rule) (rowAt b i)))) (sym need-is)
+  free-is = ap (λ n. only (not (clientOrCPBy (accountAt (view b) i))) (freeOf n (collateral (rowAt b i)))) (sym need-is)
 
   second-is : (p : Paid) → p ≡ one
       → paidBy (rowAt b i .sort) (freeBy (accountAt (view b) i) under) (part₂By (accountAt (view b) i) (l i) p) tm₂ (leftCM (purses₂ (view b)) (part₂ (view b) l) i) ≡ two

@@ -1,12 +1,12 @@
--- K1's two rounds together: the columns add up, nobody pays more than there is, and what is left open of an account's loss is at
--- most its part beyond its margin.
+-- K1's two rounds together: the columns add up, nobody pays more than there is, what is left open in all is at most the shortfall
+-- and the losses beyond the margins, and where there is no shortfall an account's is at most its own part beyond its margin.
 use mathlib.Core.Path.{_≡_, refl, sym, _∙_, ap}
 use mathlib.Core.Bool.{Bool, true, false, not, _||_}
 use Prim.Native.Nat.{ℕ, _+_, _-_, _*_, _≤_, _<_, min}
 use native.Mathlib.Omega.{arith}
 use Rattle.sums.specs.Sum.{sum, only}
 use Rattle.sums.proofs.Sums.{sum-le, sum-add, sum-eq, sum-zero, sum-most, only-add}
-use Rattle.rows.specs.View.{View, isClient, isClientOf, ofClients, need, free, blocked}
+use Rattle.rows.specs.View.{View, isClient, isClientOf, ofClients, needCM, need, free, blocked}
 use Rattle.rows.specs.Facts.{Shaped, Covered}
 use Rattle.closeout.specs.Round.{own, fromTM, fromCM, unpaid}
 use Rattle.closeout.specs.Bound.{beyond}
@@ -14,13 +14,20 @@ use Rattle.closeout.proofs.Payments.{amounts-add-up, fromTM-other}
 use Rattle.closeout.proofs.Limits.{TM-pays, CM-pays}
 use Rattle.closeout.proofs.ZeroColumns.{CM-third-is-0}
 use Rattle.closeout.specs.Columns.{isClientOrCP, ownPayment, withPurses, purses₁, part₁, paid₁, purses₂, part₂, ownColumn, tmColumn, cmColumn, uncovered}
-use Rattle.closeout.proofs.RoundOne.{nothing-open, pays-all, TM-blocked, CM-blocked}
+use Rattle.closeout.proofs.RoundOne.{round-one-open, pays-all, TM-blocked, CM-blocked}
 
 rest-of : (a b c u n : ℕ) → a + b + c + u ≡ n → n - a - b - c ≡ u
 rest-of a b c u n e = omega arith
 
 own-alone : (a x y : ℕ) → a + min x 0 + min y 0 ≡ a
 own-alone a x y = omega arith
+
+-- a loss a of margin m, of which o is paid before the rounds: round one pays p of its part within the margin and leaves u
+asked-again : (a m o p u : ℕ) → p + u ≡ min a m - o → a - o - p ≤ (a - m) + u
+asked-again a m o p u e = omega arith
+
+at-most-rest : (u p r : ℕ) → u ≤ p → p ≤ r → u ≤ r
+at-most-rest u p r h k = omega arith
 
 -- what is taken within the blocked part of c, and then within the free part
 both-rounds : (a o₁ s₁ o₂ s₂ f s n c : ℕ) → a ≡ 0 → o₁ + s₁ ≤ min n c → o₂ + s₂ ≤ f → f ≡ c - min n c → s ≡ s₁ + s₂ → (a + o₁ + o₂) + s ≤ c
@@ -104,9 +111,23 @@ module _ (v : View) (s : Shaped v) (l : ℕ → ℕ) where
   unfolding part₂
   each-own c i m = omega (arith, the-rest v l i, amounts-add-up (purses₂ v) (part₂ v l) i, pays-all v s l c i m, own-payment-le v l i)
 
-  -- demand 3 as it was
-  pub in-all : Covered v → sum (v .count) (uncovered v l) ≤ sum (v .count) (beyond v l)
-  in-all c = sum-le (v .count) (uncovered v l) (beyond v l) (each-own c)
+  -- what round one leaves open is asked again in round two, with the part beyond the margin
+  still-open : (i : ℕ) → uncovered v l i ≤ beyond v l i + unpaid (purses₁ v) (part₁ v l) i
+  unfolding part₂ paid₁
+  still-open i = at-most-rest _ (part₂ v l i) _ round-two (asked-again (l i) (v .margin i) (ownPayment v l i) _ _ (amounts-add-up (purses₁ v) (part₁ v l) i))
+    where
+      round-two : uncovered v l i ≤ part₂ v l i
+      round-two = omega (arith, the-rest v l i, amounts-add-up (purses₂ v) (part₂ v l) i)
+
+  -- K8: "the total uncovered is at most the shortfall plus the losses beyond margins"
+  pub in-all : sum (v .count) (uncovered v l) ≤ (needCM v - v .collateral 0) + sum (v .count) (beyond v l)
+  in-all =
+      omega (
+        arith,
+        sum-le (v .count) (uncovered v l) (λ i. beyond v l i + unpaid (purses₁ v) (part₁ v l) i) (λ i m. still-open i),
+        sum-add (v .count) (beyond v l) (unpaid (purses₁ v) (part₁ v l)),
+        round-one-open v s l,
+      )
 
   pub none-within : Covered v → ((i : ℕ) → i < v .count → l i ≤ v .margin i) → sum (v .count) (uncovered v l) ≡ 0
-  none-within c h = omega (arith, in-all c, sum-zero (v .count) (beyond v l) (λ i m. omega (arith, h i m)))
+  none-within c h = omega (arith, in-all, sum-zero (v .count) (beyond v l) (λ i m. omega (arith, h i m)))

@@ -8,11 +8,10 @@ ghost use Rattle.book.specs.Facts.{Sound};
 ghost use Rattle.table.specs.Words.{marksFrom, bookFrom, turnedBack};
 ghost use Rattle.closeout.specs.Closing.{noTotal, closedOf, roomOf};
 ghost use Rattle.closeout.specs.Inner.{goodIn};
+use book::sound::table_sound;
 pub use rows::CEILING;
-use rows::Rule;
 pub use table::Table;
 
-pub mod by_rule;
 mod pays;
 
 // The refusal number or 0, and the total left uncovered.
@@ -55,11 +54,10 @@ fn close_out_at<'a>(
     count: u16,
     losses: &[u64],
     room: &mut [u64],
-    rule: Rule,
 ) -> Closed
-    requires { ⌜ Sound (bookFrom rule count 0 (marksFrom (now sort) (now live) (now tm)) (now w) [] (now needs)) ⌝ }
-    ensures { λ x. ⌜ x ≡ closedOf (bookFrom rule count 0 (marksFrom (now (sort .entry)) (now (live .entry)) (now (tm .entry))) (now (w .entry)) [] (now (needs .entry))) (now (losses .entry)) (now (room .entry)) ⌝ }
-    ensures { λ _. ⌜ now (room .exit) ≡ roomOf (bookFrom rule count 0 (marksFrom (now (sort .entry)) (now (live .entry)) (now (tm .entry))) (now (w .entry)) [] (now (needs .entry))) (now (losses .entry)) (now (room .entry)) ⌝ }
+    requires { ⌜ Sound (bookFrom count 0 (marksFrom (now sort) (now live) (now tm)) (now w) [] (now needs)) ⌝ }
+    ensures { λ x. ⌜ x ≡ closedOf (bookFrom count 0 (marksFrom (now (sort .entry)) (now (live .entry)) (now (tm .entry))) (now (w .entry)) [] (now (needs .entry))) (now (losses .entry)) (now (room .entry)) ⌝ }
+    ensures { λ _. ⌜ now (room .exit) ≡ roomOf (bookFrom count 0 (marksFrom (now (sort .entry)) (now (live .entry)) (now (tm .entry))) (now (w .entry)) [] (now (needs .entry))) (now (losses .entry)) (now (room .entry)) ⌝ }
 {
     let n = count as usize;
     if losses.len() != n {
@@ -73,7 +71,7 @@ fn close_out_at<'a>(
     }
     Closed {
         refusal: 0,
-        total: pays::fill(sort, live, tm, w, needs, count, losses, room, rule),
+        total: pays::fill(sort, live, tm, w, needs, count, losses, room),
     }
 }
 
@@ -82,5 +80,26 @@ pub fn close_out(t: Table, losses: &[u64], room: &mut [u64]) -> Closed
     ensures answer { λ x. ⌜ x ≡ closedOf (turnedBack t) (now (losses .entry)) (now (room .entry)) ⌝ }
     ensures rows { λ _. ⌜ now (room .exit) ≡ roomOf (turnedBack t) (now (losses .entry)) (now (room .entry)) ⌝ }
 {
-    by_rule::close_out(t, losses, room, Rule::New)
+    let count = t.count;
+    if !table_sound(
+        &t.sort,
+        &t.live,
+        &t.tm,
+        &t.amounts,
+        &t.modes,
+        &t.needs,
+        count,
+    ) {
+        return refused(1);
+    }
+    close_out_at(
+        &t.sort,
+        &t.live,
+        &t.tm,
+        &t.amounts,
+        &t.needs,
+        count,
+        losses,
+        room,
+    )
 }

@@ -10,7 +10,6 @@ ghost use Rattle.closeout.specs.Columns.{four, rowsTo, total};
 ghost use Rattle.closeout.specs.Closing.{lossAt};
 ghost use Rattle.closeout.specs.Inner.{paidBy, roundsBy, afterOwn, fourOf, putAt, Checked};
 use rows::Row;
-use rows::Rule;
 use rows::deemed::free_with;
 use rows::deemed::less;
 use rows::needs::account_of;
@@ -68,11 +67,11 @@ fn pay(sort: u8, purse: u64, ask: u64, tm: u64, cm: u64) -> Paid
 
 // Both rounds of one account: its TM's purse has `tm` left in round one and `tm2` in round two, and the CM's `cm` and `cm2`. A client
 // or CP has paid from its own before them, and has nothing more to pay with.
-fn rounds(r: Row, loss: u64, under: u64, tm: u64, cm: u64, tm2: u64, cm2: u64, rule: Rule) -> Both
+fn rounds(r: Row, loss: u64, under: u64, tm: u64, cm: u64, tm2: u64, cm2: u64) -> Both
     requires { ⌜ InRange r × (under ≤ 2_560_000_000_000_000) ⌝ }
-    ensures { λ p. ⌜ p ≡ roundsBy (accountOf rule r) loss under tm cm tm2 cm2 ⌝ }
+    ensures { λ p. ⌜ p ≡ roundsBy (accountOf r) loss under tm cm tm2 cm2 ⌝ }
 {
-    let a = account_of(r, rule);
+    let a = account_of(r);
     let free = free_with(a, under);
     let client_or_cp = (a.sort == 2) | (a.sort == 3);
     let own = only_if(client_or_cp, lesser(loss, a.collateral));
@@ -91,11 +90,11 @@ fn rounds(r: Row, loss: u64, under: u64, tm: u64, cm: u64, tm2: u64, cm2: u64, r
 }
 
 // What the CM's collateral has left in round one, and its free part in round two, once its own parts are paid.
-fn after_own(top: Row, loss: u64, under: u64, rule: Rule) -> Purses
+fn after_own(top: Row, loss: u64, under: u64) -> Purses
     requires { ⌜ InRange top × (under ≤ 2_560_000_000_000_000) ⌝ }
-    ensures { λ x. ⌜ x ≡ afterOwn (accountOf rule top) loss under ⌝ }
+    ensures { λ x. ⌜ x ≡ afterOwn (accountOf top) loss under ⌝ }
 {
-    let a = account_of(top, rule);
+    let a = account_of(top);
     let c = a.collateral;
     let f = free_with(a, under);
     let own = lesser(lesser(loss, a.margin), c);
@@ -128,15 +127,14 @@ pub(crate) fn fill<'a>(
     count: u16,
     losses: &[u64],
     room: &mut [u64],
-    rule: Rule,
 ) -> u64
-    requires { ⌜ Checked (bookFrom rule count 0 (marksFrom (now sort) (now live) (now tm)) (now w) [] (now needs)) (now losses) (now room) ⌝ }
-    ensures { λ x. ⌜ (now (room .exit) ≡ rowsTo (four (view (bookFrom rule count 0 (marksFrom (now (sort .entry)) (now (live .entry)) (now (tm .entry))) (now (w .entry)) [] (now (needs .entry)))) (lossAt (now (losses .entry)))) count) × (x ≡ total (view (bookFrom rule count 0 (marksFrom (now (sort .entry)) (now (live .entry)) (now (tm .entry))) (now (w .entry)) [] (now (needs .entry)))) (lossAt (now (losses .entry)))) ⌝ }
+    requires { ⌜ Checked (bookFrom count 0 (marksFrom (now sort) (now live) (now tm)) (now w) [] (now needs)) (now losses) (now room) ⌝ }
+    ensures { λ x. ⌜ (now (room .exit) ≡ rowsTo (four (view (bookFrom count 0 (marksFrom (now (sort .entry)) (now (live .entry)) (now (tm .entry))) (now (w .entry)) [] (now (needs .entry)))) (lossAt (now (losses .entry)))) count) × (x ≡ total (view (bookFrom count 0 (marksFrom (now (sort .entry)) (now (live .entry)) (now (tm .entry))) (now (w .entry)) [] (now (needs .entry)))) (lossAt (now (losses .entry)))) ⌝ }
 {
     let mut left = zeros();
     let mut free = zeros();
     let top = row_of(sort, live, tm, w, 0);
-    let start = after_own(top, losses[0], less(needs[0], top.margin), rule);
+    let start = after_own(top, losses[0], less(needs[0], top.margin));
     let mut cm = start.left;
     let mut cm_free = start.free;
     let mut uncovered: u64 = 0;
@@ -146,7 +144,7 @@ pub(crate) fn fill<'a>(
         let r = row_of(sort, live, tm, w, i);
         let under = less(needs[i], r.margin);
         let t = r.tm as usize;
-        let p = rounds(r, losses[i], under, left[t], cm, free[t], cm_free, rule);
+        let p = rounds(r, losses[i], under, left[t], cm, free[t], cm_free);
         put(room, 4 * i, p);
         let first = p.first;
         let second = p.second;

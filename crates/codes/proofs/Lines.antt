@@ -65,6 +65,11 @@ module _ (row : Row) (count : ℕ) (beside : Beside) (r : Record) where
   unfolding first pick
   margin-own e = own 10 e
 
+  pub none-own : (r .code ≡ 12) ⊎ (r .code ≡ 13) → first (from8 row count beside r) ≡ first []
+  unfolding first pick
+  none-own (inl e) = own 12 e
+  none-own (inr e) = own 13 e
+
   pub retire-own : r .code ≡ 11 → first (from8 row count beside r) ≡ first (retireLines row (r .account) (beside .client))
   unfolding first pick
   retire-own e = own 11 e

@@ -12,7 +12,6 @@ use Rattle.sums.proofs.Lists.{at-listTo}
 use Rattle.rows.specs.declared.Kinds.{Kinds}
 use Rattle.rows.specs.declared.Row.{Row}
 use Rattle.rows.specs.declared.Account.{Account}
-use Rattle.rows.specs.declared.Rule.{Rule}
 use Rattle.rows.specs.Rows.{ceiling, lessKinds, accountOf, withReceived, withAllocated, withPledged, withMargin}
 use Rattle.rows.specs.Facts.{InRange}
 use Rattle.table.specs.Words.{Marks, rowIn}
@@ -54,9 +53,9 @@ module _ {m : Marks} {w : List ℕ} {i : ℕ} where
   put-answers own row er e h = record { number = e ∙ ap (λ q. first (own q)) er; puts = λ z. h; stays = λ ne. absurd (ne refl) }
 
   -- what the sum after a change asks of the two accounts
-  pub change-in-range : (rule : Rule) {under : List ℕ} (row new : Row) (a b : Account) → Held m w under i → row ≡ rowIn m w i → a ≡ accountOf rule row → b ≡ accountOf rule new → InRange new
+  pub change-in-range : {under : List ℕ} (row new : Row) (a b : Account) → Held m w under i → row ≡ rowIn m w i → a ≡ accountOf row → b ≡ accountOf new → InRange new
       → Held m w under i × (a .tm < 256) × (a .margin ≤ ceiling) × (b .margin ≤ ceiling)
-  change-in-range rule row new a b h er ea eb g =
+  change-in-range row new a b h er ea eb g =
       (h, rw (ea, er) (h .tm), rw (ea, er) (h .ranges i (h .inside) .margin), rw eb (g .margin))
 
   pub held-in-range : {under : List ℕ} (row : Row) → Held m w under i → row ≡ rowIn m w i → InRange row
@@ -86,18 +85,18 @@ pub deemed-under-eq : {own own′ clients clients′ all all′ : ℕ} {its its�
 deemed-under-eq old new e₁ e₂ e₃ e₄ = rw (e₁, e₂, e₃, e₄)
 
 -- the cover test of a new margin, part by part
-pub need-passes-is : (rule : Rule) (m : Marks) (w under : List ℕ) (i y : ℕ) (row new : Row) (a b top : Account) (d : DeemedUnderAfter) (t : Bool) → row ≡ rowIn m w i → new ≡ withMargin row y
-    → a ≡ accountOf rule row → b ≡ accountOf rule new → top ≡ accountIn rule m w 0 → d ≡ deemedUnderAfterIn rule m w under i a b → t ≡ ltb (top .collateral) (topMargin a top y + d .cm)
-    → needPassesIn rule m w under i y ≡ t
-need-passes-is rule m w under i y row new a b top d t er en ea eb ep ed et = rw (et, ed, ep, eb, ea, en, er)
+pub need-passes-is : (m : Marks) (w under : List ℕ) (i y : ℕ) (row new : Row) (a b top : Account) (d : DeemedUnderAfter) (t : Bool) → row ≡ rowIn m w i → new ≡ withMargin row y
+    → a ≡ accountOf row → b ≡ accountOf new → top ≡ accountIn m w 0 → d ≡ deemedUnderAfterIn m w under i a b → t ≡ ltb (top .collateral) (topMargin a top y + d .cm)
+    → needPassesIn m w under i y ≡ t
+need-passes-is m w under i y row new a b top d t er en ea eb ep ed et = rw (et, ed, ep, eb, ea, en, er)
 
 -- no word passes
-pub deemed-under-most : (rule : Rule) {m : Marks} {w under : List ℕ} {i : ℕ} (a b : Account) (d : DeemedUnderAfter) → Held m w under i → a .tm < 256 → b .margin ≤ ceiling → d ≡ deemedUnderAfterIn rule m w under i a b
+pub deemed-under-most : {m : Marks} {w under : List ℕ} {i : ℕ} (a b : Account) (d : DeemedUnderAfter) → Held m w under i → a .tm < 256 → b .margin ≤ ceiling → d ≡ deemedUnderAfterIn m w under i a b
     → (d .tm ≤ 10_000_000_000_000_000_000) × (d .cm ≤ 10_000_000_000_000_000_000)
-deemed-under-most rule {m} {w} {under} {i} a b d h l g e =
+deemed-under-most {m} {w} {under} {i} a b d h l g e =
     rw e (
       omega (arith, due-most b, h .most (a .tm)),
-      omega (arith, deemed-under-cm-most a b (accountIn rule m w (a .tm)) (getD under i 0) (getD under (a .tm) 0) (getD under 0 0), h .most i, h .most (a .tm), h .most 0, h .ranges (a .tm) l .margin),
+      omega (arith, deemed-under-cm-most a b (accountIn m w (a .tm)) (getD under i 0) (getD under (a .tm) 0) (getD under 0 0), h .most i, h .most (a .tm), h .most 0, h .ranges (a .tm) l .margin),
     )
 
 -- a row after a release, after an unpledge, with a new margin is in range

@@ -11,7 +11,6 @@ use Rattle.sums.specs.Table.{Line, _when_, first}
 use Rattle.rows.specs.declared.Kinds.{Kinds}
 use Rattle.rows.specs.declared.Row.{Row}
 use Rattle.rows.specs.declared.Account.{Account}
-use Rattle.rows.specs.declared.Rule.{Rule}
 use Rattle.rows.specs.Rows.{ceiling, collateral, plusKinds, lessKinds, accountOf, openedRow, withLive, withReceived, withAllocated, withPledged, withMargin}
 use Rattle.rows.specs.Ranges.{kindsCapped, kindsWithin, noAmounts}
 use Rattle.rows.specs.Facts.{InRange}
@@ -56,8 +55,8 @@ abbrev pub leftLines : Row → Kinds → List Line
 leftLines row k = (11 when not (kindsWithin k (lessKinds (row .received) (row .allocated)))) ∷ []
 
 -- the collateral of the row put anew would be below what was blocked of the row, so much being deemed under the account
-abbrev pub leavesBelow : Rule → Row → Row → ℕ → Bool
-leavesBelow rule row new under = ltb (collateral rule new) (blockedOf (row .margin + under) (collateral rule row))
+abbrev pub leavesBelow : Row → Row → ℕ → Bool
+leavesBelow row new under = ltb (collateral new) (blockedOf (row .margin + under) (collateral row))
 
 -- what release and unpledge share: K5's "17 .. whose mode is on, after 11 and before 12"; K7's "12 .. when the collateral left after a release or
 -- unpledge would be below what was blocked"
@@ -93,8 +92,8 @@ unfoldable pub hasLiveClientIn : Marks → ℕ → ℕ → Bool
 hasLiveClientIn m count a = pick (eqb (getD (m .sort) a 0) 1) (any count (clientIn m a)) false
 
 -- the account at place i
-abbrev pub accountIn : Rule → Marks → List ℕ → ℕ → Account
-accountIn rule m w i = accountOf rule (rowIn m w i)
+abbrev pub accountIn : Marks → List ℕ → ℕ → Account
+accountIn m w i = accountOf (rowIn m w i)
 
 -- what is deemed under the account at place j: its kept need less its margin (K3)
 abbrev pub deemedUnderAt : List ℕ → List ℕ → ℕ → ℕ
@@ -107,22 +106,22 @@ deemedUnderIn w needs = deemedUnderBy (wordAt w 9) needs
 abbrev pub deemedUnderAfter : ℕ → ℕ → ℕ → Account → Account → Account → DeemedUnderAfter
 deemedUnderAfter own clients all a x its = record { tm = deemedUnderTM a x clients; cm = deemedUnderCM a x own its clients all }
 
-abbrev pub deemedUnderAfterIn : Rule → Marks → List ℕ → List ℕ → ℕ → Account → Account → DeemedUnderAfter
-deemedUnderAfterIn rule m w under i a x = deemedUnderAfter (getD under i 0) (getD under (a .tm) 0) (getD under 0 0) a x (accountIn rule m w (a .tm))
+abbrev pub deemedUnderAfterIn : Marks → List ℕ → List ℕ → ℕ → Account → Account → DeemedUnderAfter
+deemedUnderAfterIn m w under i a x = deemedUnderAfter (getD under i 0) (getD under (a .tm) 0) (getD under 0 0) a x (accountIn m w (a .tm))
 
 -- the CM's need would pass its collateral after the margin x
-abbrev pub needPassesIn : Rule → Marks → List ℕ → List ℕ → ℕ → ℕ → Bool
-needPassesIn rule m w under i x =
-    let at = accountIn rule m w in
-    ltb (at 0 .collateral) (topMargin (at i) (at 0) x + deemedUnderAfterIn rule m w under i (at i) (atMargin (at i) x) .cm)
+abbrev pub needPassesIn : Marks → List ℕ → List ℕ → ℕ → ℕ → Bool
+needPassesIn m w under i x =
+    let at = accountIn m w in
+    ltb (at 0 .collateral) (topMargin (at i) (at 0) x + deemedUnderAfterIn m w under i (at i) (atMargin (at i) x) .cm)
 
 -- what stands beside the row
-abbrev pub besideIn : Rule → ℕ → Marks → List ℕ → List ℕ → Bool → Record → Beside
-besideIn rule count m w under on r =
+abbrev pub besideIn : ℕ → Marks → List ℕ → List ℕ → Bool → Record → Beside
+besideIn count m w under on r =
     let i = r .account in
     let p = getD (m .tm) i 0 in
-    let at = accountIn rule m w in
-    besideBy on (collateral rule (takenOut (rowIn m w i) r)) (at i) (getD under i 0) (at p) (getD under p 0) (at 0) (getD under 0 0) (hasLiveClientIn m count i) r
+    let at = accountIn m w in
+    besideBy on (collateral (takenOut (rowIn m w i) r)) (at i) (getD under i 0) (at p) (getD under p 0) (at 0) (getD under 0 0) (hasLiveClientIn m count i) r
 
 -- what a code's function needs of the words at account i
 pub record Held (m : Marks) (w under : List ℕ) (i : ℕ) : Type 0 where
@@ -151,31 +150,38 @@ HandsBack m w i k x = Answers m w i (withReceived (rowIn m w i) (lessKinds (rowI
 abbrev pub Allocates : Marks → List ℕ → ℕ → Kinds → ℕ → List ℕ → Type 0
 Allocates m w i k x = Answers m w i (withAllocated (rowIn m w i) (plusKinds (rowIn m w i .allocated) k)) (leftLines (rowIn m w i) k) x m
 
-abbrev pub Releases : Rule → Marks → List ℕ → List ℕ → Bool → ℕ → Kinds → ℕ → List ℕ → Type 0
-Releases rule m w under on i k x =
+abbrev pub Releases : Marks → List ℕ → List ℕ → Bool → ℕ → Kinds → ℕ → List ℕ → Type 0
+Releases m w under on i k x =
     let row = rowIn m w i in
     let new = withAllocated row (lessKinds (row .allocated) k) in
-    Answers m w i new (releaseLines row on (leavesBelow rule row new (getD under i 0)) k) x m
+    Answers m w i new (releaseLines row on (leavesBelow row new (getD under i 0)) k) x m
 
 abbrev pub Pledges : Marks → List ℕ → ℕ → ℕ → ℕ → List ℕ → Type 0
 Pledges m w i y x = Answers m w i (withPledged (rowIn m w i) (rowIn m w i .pledged + y)) (pledgeLines (rowIn m w i) y) x m
 
-abbrev pub Unpledges : Rule → Marks → List ℕ → List ℕ → Bool → ℕ → ℕ → ℕ → List ℕ → Type 0
-Unpledges rule m w under on i y x =
+abbrev pub Unpledges : Marks → List ℕ → List ℕ → Bool → ℕ → ℕ → ℕ → List ℕ → Type 0
+Unpledges m w under on i y x =
     let row = rowIn m w i in
     let new = withPledged row (row .pledged - y) in
-    Answers m w i new (unpledgeLines row on (leavesBelow rule row new (getD under i 0)) y) x m
+    Answers m w i new (unpledgeLines row on (leavesBelow row new (getD under i 0)) y) x m
 
-abbrev pub SetsMargin : Rule → Marks → List ℕ → List ℕ → ℕ → ℕ → ℕ → List ℕ → Type 0
-SetsMargin rule m w under i y x = Answers m w i (withMargin (rowIn m w i) y) (marginLines (rowIn m w i) y (needPassesIn rule m w under i y)) x m
+abbrev pub SetsMargin : Marks → List ℕ → List ℕ → ℕ → ℕ → ℕ → List ℕ → Type 0
+SetsMargin m w under i y x = Answers m w i (withMargin (rowIn m w i) y) (marginLines (rowIn m w i) y (needPassesIn m w under i y)) x m
+
+-- K8: "neither can be refused for want of cover"
+abbrev pub SetsPledged : Marks → List ℕ → ℕ → ℕ → ℕ → List ℕ → Type 0
+SetsPledged m w i y x = Answers m w i (withPledged (rowIn m w i) y) [] x m
+
+abbrev pub RevisesMargin : Marks → List ℕ → ℕ → ℕ → ℕ → List ℕ → Type 0
+RevisesMargin m w i y x = Answers m w i (withMargin (rowIn m w i) y) [] x m
 
 abbrev pub Retires : Marks → List ℕ → ℕ → ℕ → ℕ → Marks → Type 0
 Retires m w count i x n = Answers m w i (withLive (rowIn m w i) false) (retireLines (rowIn m w i) i (hasLiveClientIn m count i)) x n w
 
 -- the table's answer to a record that is no opening and passed the lines before 8, whichever its code, where the account's mode is on or off
-abbrev pub Answered : Rule → ℕ → Marks → List ℕ → List ℕ → Bool → Record → ℕ → Marks → List ℕ → Type 0
-Answered rule count m w under on r =
-    Answers m w (r .account) (amended (rowIn m w (r .account)) r) (from8 (rowIn m w (r .account)) count (besideIn rule count m w under on r) r)
+abbrev pub Answered : ℕ → Marks → List ℕ → List ℕ → Bool → Record → ℕ → Marks → List ℕ → Type 0
+Answered count m w under on r =
+    Answers m w (r .account) (amended (rowIn m w (r .account)) r) (from8 (rowIn m w (r .account)) count (besideIn count m w under on r) r)
 
 -- such a record
 pub record Amending (count : ℕ) (m : Marks) (w under : List ℕ) (r : Record) : Type 0 where

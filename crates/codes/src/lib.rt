@@ -10,9 +10,10 @@ use own::pledge;
 use own::receive;
 use own::release;
 use own::retire;
+use own::revise_margin;
 use own::set_margin;
+use own::set_pledged;
 use own::unpledge;
-use rows::Rule;
 
 pub mod own;
 pub mod settling;
@@ -43,7 +44,7 @@ pub fn early(live: &[bool; 256], count: u16, serial: u16, r: Record) -> u8
     if alive(live, count, r.account) { 0 } else { 7 }
 }
 
-// The codes that change a row, 4 to 11; `on` is the account's mode before the record, which K5 asks for.
+// The codes that change a row, 4 to 13; `on` is the account's mode before the record, which K5 asks for.
 pub fn amend(
     sort: &[u8; 256],
     live: &mut [bool; 256],
@@ -53,10 +54,9 @@ pub fn amend(
     on: bool,
     count: u16,
     r: Record,
-    rule: Rule,
 ) -> u8
     requires { ⌜ Amending count (marksFrom (now sort) (now live) (now tm)) (now w) (deemedUnderIn (now w) (now needs)) r ⌝ }
-    ensures { λ x. ⌜ Answered rule count (marksFrom (now (sort .entry)) (now (live .entry)) (now (tm .entry))) (now (w .entry)) (deemedUnderIn (now (w .entry)) (now (needs .entry))) on r x (marksFrom (now (sort .entry)) (now (live .exit)) (now (tm .entry))) (now (w .exit)) ⌝ }
+    ensures { λ x. ⌜ Answered count (marksFrom (now (sort .entry)) (now (live .entry)) (now (tm .entry))) (now (w .entry)) (deemedUnderIn (now (w .entry)) (now (needs .entry))) on r x (marksFrom (now (sort .entry)) (now (live .exit)) (now (tm .entry))) (now (w .exit)) ⌝ }
 {
     let i = r.account as usize;
     let code = r.code;
@@ -64,10 +64,12 @@ pub fn amend(
         4 => receive(sort, live, tm, w, i, r.kinds),
         5 => hand_back(sort, live, tm, w, i, r.kinds),
         6 => allocate(sort, live, tm, w, i, r.kinds),
-        7 => release(sort, live, tm, w, needs, on, i, r.kinds, rule),
+        7 => release(sort, live, tm, w, needs, on, i, r.kinds),
         8 => pledge(sort, live, tm, w, i, r.pledged),
-        9 => unpledge(sort, live, tm, w, needs, on, i, r.pledged, rule),
-        10 => set_margin(sort, live, tm, w, needs, i, r.margin, rule),
+        9 => unpledge(sort, live, tm, w, needs, on, i, r.pledged),
+        10 => set_margin(sort, live, tm, w, needs, i, r.margin),
+        12 => set_pledged(sort, live, tm, w, i, r.pledged),
+        13 => revise_margin(sort, live, tm, w, i, r.margin),
         _ => retire(sort, live, tm, w, count, r.account),
     }
 }

@@ -10,14 +10,13 @@ ghost use lib.ListN.{getD};
 ghost use Rattle.sums.specs.Table.{first};
 ghost use Rattle.table.specs.Words.{marksFrom, rowIn};
 ghost use Rattle.table.specs.Facts.{Sized};
-ghost use Rattle.codes.specs.Own.{leavesBelow, takingLines, hasLiveClientIn, deemedUnderIn, needPassesIn, Held, Opens, Receives, HandsBack, Allocates, Releases, Pledges, Unpledges, SetsMargin, Retires};
+ghost use Rattle.codes.specs.Own.{leavesBelow, takingLines, hasLiveClientIn, deemedUnderIn, needPassesIn, Held, Opens, Receives, HandsBack, Allocates, Releases, Pledges, Unpledges, SetsMargin, SetsPledged, RevisesMargin, Retires};
 use crate::settling::deemed_under_after_at;
 use crate::settling::deemed_under_at;
 use crate::settling::need_passes_with;
 use rows::CEILING;
 use rows::Kinds;
 use rows::Row;
-use rows::Rule;
 use rows::deemed::blocked_with;
 use rows::needs::account_of;
 use rows::needs::collateral_of;
@@ -140,20 +139,15 @@ fn taking<'a>(
     i: usize,
     row: Row,
     new: Row,
-    rule: Rule,
 ) -> u8
     requires { ⌜ (i < 256) × InRange row × InRange new × (getD (deemedUnderIn (now w) (now needs)) i 0 ≤ 2_560_000_000_000_000) ⌝ }
-    ensures { λ y. ⌜ y ≡ first (takingLines on (leavesBelow rule row new (getD (deemedUnderIn (now (w .entry)) (now (needs .entry))) i 0))) ⌝ }
+    ensures { λ y. ⌜ y ≡ first (takingLines on (leavesBelow row new (getD (deemedUnderIn (now (w .entry)) (now (needs .entry))) i 0))) ⌝ }
 {
     if on {
         return 17;
     }
-    let held = blocked_with(account_of(row, rule), deemed_under_at(w, needs, i));
-    if collateral_of(new, rule) < held {
-        12
-    } else {
-        0
-    }
+    let held = blocked_with(account_of(row), deemed_under_at(w, needs, i));
+    if collateral_of(new) < held { 12 } else { 0 }
 }
 
 // 7
@@ -166,17 +160,16 @@ pub(crate) fn release(
     on: bool,
     i: usize,
     k: Kinds,
-    rule: Rule,
 ) -> u8
     requires { ⌜ Held (marksFrom (now sort) (now live) (now tm)) (now w) (deemedUnderIn (now w) (now needs)) i × KindsWithin k ceilings ⌝ }
-    ensures { λ x. ⌜ Releases rule (marksFrom (now (sort .entry)) (now (live .entry)) (now (tm .entry))) (now (w .entry)) (deemedUnderIn (now (w .entry)) (now (needs .entry))) on i k x (now (w .exit)) ⌝ }
+    ensures { λ x. ⌜ Releases (marksFrom (now (sort .entry)) (now (live .entry)) (now (tm .entry))) (now (w .entry)) (deemedUnderIn (now (w .entry)) (now (needs .entry))) on i k x (now (w .exit)) ⌝ }
 {
     let row = row_at(sort, live, tm, w, i);
     if !kinds_within(k, row.allocated) {
         return 11;
     }
     let new = with_allocated(row, less_kinds(row.allocated, k));
-    let n = taking(w, needs, on, i, row, new, rule);
+    let n = taking(w, needs, on, i, row, new);
     if n != 0 {
         return n;
     }
@@ -216,17 +209,16 @@ pub(crate) fn unpledge(
     on: bool,
     i: usize,
     y: u64,
-    rule: Rule,
 ) -> u8
     requires { ⌜ Held (marksFrom (now sort) (now live) (now tm)) (now w) (deemedUnderIn (now w) (now needs)) i ⌝ }
-    ensures { λ x. ⌜ Unpledges rule (marksFrom (now (sort .entry)) (now (live .entry)) (now (tm .entry))) (now (w .entry)) (deemedUnderIn (now (w .entry)) (now (needs .entry))) on i y x (now (w .exit)) ⌝ }
+    ensures { λ x. ⌜ Unpledges (marksFrom (now (sort .entry)) (now (live .entry)) (now (tm .entry))) (now (w .entry)) (deemedUnderIn (now (w .entry)) (now (needs .entry))) on i y x (now (w .exit)) ⌝ }
 {
     let row = row_at(sort, live, tm, w, i);
     if row.pledged < y {
         return 11;
     }
     let new = with_pledged(row, row.pledged - y);
-    let n = taking(w, needs, on, i, row, new, rule);
+    let n = taking(w, needs, on, i, row, new);
     if n != 0 {
         return n;
     }
@@ -244,25 +236,14 @@ fn need_passes_after(
     i: usize,
     row: Row,
     y: u64,
-    rule: Rule,
 ) -> bool
     requires { ⌜ Held (marksFrom (now sort) (now live) (now tm)) (now w) (deemedUnderIn (now w) (now needs)) i × (y ≤ ceiling) × (row ≡ rowIn (marksFrom (now sort) (now live) (now tm)) (now w) i) ⌝ }
-    ensures { λ x. ⌜ x ≡ needPassesIn rule (marksFrom (now (sort .entry)) (now (live .entry)) (now (tm .entry))) (now (w .entry)) (deemedUnderIn (now (w .entry)) (now (needs .entry))) i y ⌝ }
+    ensures { λ x. ⌜ x ≡ needPassesIn (marksFrom (now (sort .entry)) (now (live .entry)) (now (tm .entry))) (now (w .entry)) (deemedUnderIn (now (w .entry)) (now (needs .entry))) i y ⌝ }
 {
-    let top = account_of(row_at(sort, live, tm, w, 0), rule);
+    let top = account_of(row_at(sort, live, tm, w, 0));
     let new = with_margin(row, y);
-    let old = account_of(row, rule);
-    let after = deemed_under_after_at(
-        sort,
-        live,
-        tm,
-        w,
-        needs,
-        i,
-        old,
-        account_of(new, rule),
-        rule,
-    );
+    let old = account_of(row);
+    let after = deemed_under_after_at(sort, live, tm, w, needs, i, old, account_of(new));
     need_passes_with(old, top, y, after.cm)
 }
 
@@ -275,17 +256,52 @@ pub(crate) fn set_margin(
     needs: &[u64; 256],
     i: usize,
     y: u64,
-    rule: Rule,
 ) -> u8
     requires { ⌜ Held (marksFrom (now sort) (now live) (now tm)) (now w) (deemedUnderIn (now w) (now needs)) i × (y ≤ ceiling) ⌝ }
-    ensures { λ x. ⌜ SetsMargin rule (marksFrom (now (sort .entry)) (now (live .entry)) (now (tm .entry))) (now (w .entry)) (deemedUnderIn (now (w .entry)) (now (needs .entry))) i y x (now (w .exit)) ⌝ }
+    ensures { λ x. ⌜ SetsMargin (marksFrom (now (sort .entry)) (now (live .entry)) (now (tm .entry))) (now (w .entry)) (deemedUnderIn (now (w .entry)) (now (needs .entry))) i y x (now (w .exit)) ⌝ }
 {
     let row = row_at(sort, live, tm, w, i);
     if row.margin < y {
-        if need_passes_after(sort, live, tm, w, needs, i, row, y, rule) {
+        if need_passes_after(sort, live, tm, w, needs, i, row, y) {
             return 13;
         }
     }
+    let new = with_margin(row, y);
+    w[256 * 9 + i] = new.margin;
+    0
+}
+
+// 12: a price moved, and nothing is asked of cover (K8).
+pub(crate) fn set_pledged(
+    sort: &[u8; 256],
+    live: &[bool; 256],
+    tm: &[u16; 256],
+    w: &mut [u64; 2560],
+    i: usize,
+    y: u64,
+) -> u8
+    requires { ⌜ Sized (marksFrom (now sort) (now live) (now tm)) (now w) × (i < 256) ⌝ }
+    ensures { λ x. ⌜ SetsPledged (marksFrom (now (sort .entry)) (now (live .entry)) (now (tm .entry))) (now (w .entry)) i y x (now (w .exit)) ⌝ }
+{
+    let row = row_at(sort, live, tm, w, i);
+    let new = with_pledged(row, y);
+    w[256 * 8 + i] = new.pledged;
+    0
+}
+
+// 13: a margin was revised, likewise.
+pub(crate) fn revise_margin(
+    sort: &[u8; 256],
+    live: &[bool; 256],
+    tm: &[u16; 256],
+    w: &mut [u64; 2560],
+    i: usize,
+    y: u64,
+) -> u8
+    requires { ⌜ Sized (marksFrom (now sort) (now live) (now tm)) (now w) × (i < 256) ⌝ }
+    ensures { λ x. ⌜ RevisesMargin (marksFrom (now (sort .entry)) (now (live .entry)) (now (tm .entry))) (now (w .entry)) i y x (now (w .exit)) ⌝ }
+{
+    let row = row_at(sort, live, tm, w, i);
     let new = with_margin(row, y);
     w[256 * 9 + i] = new.margin;
     0

@@ -7,7 +7,6 @@ ghost use Rattle.rules.specs.Inner.{topMargin};
 ghost use Rattle.table.specs.Words.{marksFrom};
 ghost use Rattle.codes.specs.Own.{deemedUnderAt, deemedUnderIn, deemedUnderAfter, deemedUnderAfterIn, Held};
 use rows::Account;
-use rows::Rule;
 use rows::deemed::deemed_under_cm;
 use rows::deemed::deemed_under_tm;
 use rows::deemed::less;
@@ -58,13 +57,12 @@ pub(crate) fn deemed_under_after_at(
     i: usize,
     old: Account,
     new: Account,
-    rule: Rule,
 ) -> DeemedUnderAfter
     requires { ⌜ Held (marksFrom (now sort) (now live) (now tm)) (now w) (deemedUnderIn (now w) (now needs)) i × (old .tm < 256) × (old .margin ≤ ceiling) × (new .margin ≤ ceiling) ⌝ }
-    ensures { λ x. ⌜ x ≡ deemedUnderAfterIn rule (marksFrom (now (sort .entry)) (now (live .entry)) (now (tm .entry))) (now (w .entry)) (deemedUnderIn (now (w .entry)) (now (needs .entry))) i old new ⌝ }
+    ensures { λ x. ⌜ x ≡ deemedUnderAfterIn (marksFrom (now (sort .entry)) (now (live .entry)) (now (tm .entry))) (now (w .entry)) (deemedUnderIn (now (w .entry)) (now (needs .entry))) i old new ⌝ }
 {
     let t = old.tm as usize;
-    let its = account_of(row_at(sort, live, tm, w, t), rule);
+    let its = account_of(row_at(sort, live, tm, w, t));
     let own = deemed_under_at(w, needs, i);
     let clients = deemed_under_at(w, needs, t);
     let all = deemed_under_at(w, needs, 0);

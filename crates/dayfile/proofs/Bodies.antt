@@ -10,7 +10,7 @@ use Rattle.numbers.specs.Bytes.{Bytes}
 use Rattle.numbers.proofs.Numbers.{number-bytesOf, drop-bytesOf, bytesOf-number, bytes-drop}
 use Rattle.dayfile.specs.declared.Record.{Record}
 use Rattle.dayfile.specs.Files.{WordsFit}
-use Rattle.dayfile.specs.Records.{bit}
+use Rattle.dayfile.specs.Records.{leastPledged, bit}
 use Rattle.dayfile.specs.Written.{bodyOf, writtenOf}
 use Rattle.dayfile.specs.Reading.{past, recordOf}
 use Rattle.dayfile.proofs.Marks.{ones-bits, ones-zero}
@@ -32,7 +32,7 @@ record-body r s w q =
       got-field (bit 1 (r .named)) 1 (r .kinds .deposits) (s .deposits),
       got-field (bit 2 (r .named)) 1 (r .kinds .guarantees) (s .guarantees),
       got-field (bit 3 (r .named)) 1 (r .kinds .securities) (s .securities),
-      got-field (bit 4 (r .named)) 1 (r .pledged) (s .pledged),
+      got-field (bit 4 (r .named)) (leastPledged (r .code)) (r .pledged) (s .pledged),
       got-field (bit 5 (r .named)) 0 (r .margin) (s .margin),
     )
 

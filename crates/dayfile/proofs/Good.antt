@@ -12,7 +12,7 @@ use Rattle.sums.specs.Table.{Line, first}
 use Rattle.sums.proofs.Tables.{Numbered, first-none, first-fails}
 use Rattle.rows.specs.Rows.{ceiling}
 use Rattle.dayfile.specs.declared.Record.{Record}
-use Rattle.dayfile.specs.Records.{bit, knownCode, suits, goodAmount, goodAmounts, faults, faultOf}
+use Rattle.dayfile.specs.Records.{bit, knownCode, suits, leastPledged, goodAmount, goodAmounts, faults, faultOf}
 
 pub three-numbered : (r : Record) → Numbered (faults r)
 three-numbered r = (lit< tt, (lit< tt, (lit< tt, tt)))
@@ -30,7 +30,7 @@ pub record Good (r : Record) : Type 0 where
   pub deposits : goodAmount (bit 1 (r .named)) 1 (r .kinds .deposits) ≡ true
   pub guarantees : goodAmount (bit 2 (r .named)) 1 (r .kinds .guarantees) ≡ true
   pub securities : goodAmount (bit 3 (r .named)) 1 (r .kinds .securities) ≡ true
-  pub pledged : goodAmount (bit 4 (r .named)) 1 (r .pledged) ≡ true
+  pub pledged : goodAmount (bit 4 (r .named)) (leastPledged (r .code)) (r .pledged) ≡ true
   pub margin : goodAmount (bit 5 (r .named)) 0 (r .margin) ≡ true
 
 pub no-fault-good : (r : Record) → faultOf r ≡ 0 → Good r
@@ -101,7 +101,11 @@ suits-lt c n =
     let b = a || leb 4 c && leb c 7 && leb 1 n && leb n 15 in
     let d = b || leb 8 c && leb c 9 && eqb n 16 in
     let e = d || eqb c 10 && eqb n 32 in
-    ends e (eqb c 11) (eqb n 0)
+    let f = e || eqb c 11 && eqb n 0 in
+    let g = f || eqb c 12 && eqb n 16 in
+    ends g (eqb c 13) (eqb n 32)
+    (ends f (eqb c 12) (eqb n 16)
+    (ends e (eqb c 11) (eqb n 0)
     (ends d (eqb c 10) (eqb n 32)
     (ends b (leb 8 c && leb c 9) (eqb n 16)
     (ends a (leb 4 c && leb c 7 && leb 1 n) (leb n 15)
@@ -109,4 +113,6 @@ suits-lt c n =
     (λ h. omega (arith, leb-true n 15 h)))
     (λ h. omega (arith, eqb-true n 16 h)))
     (λ h. omega (arith, eqb-true n 32 h)))
-    (λ h. omega (arith, eqb-true n 0 h))
+    (λ h. omega (arith, eqb-true n 0 h)))
+    (λ h. omega (arith, eqb-true n 16 h)))
+    (λ h. omega (arith, eqb-true n 32 h))

@@ -1,5 +1,5 @@
 -- A record judged by its code: which second mark bytes suit it, and of amounts that it can't name only that they are 0 is asked.
-use mathlib.Core.Bool.{Bool, true, false, _&&_, or-false}
+use mathlib.Core.Bool.{Bool, true, false, _&&_, _||_, or-false}
 use mathlib.Core.Logic.{_⊎_, inl, inr}
 use mathlib.Core.Path.{_≡_, refl, sym, _∙_}
 use Prim.Native.Nat.{ℕ, zero, suc, _*_, _≤_, _<_}
@@ -40,18 +40,19 @@ module _ (c n : ℕ) where
       let s = and-split (leb 4 c) (leb c 7) k in
       let p = leb-true 4 c (s .0) in
       let q = leb-true c 7 (s .1) in
-      rw (le-leb 1 c (omega arith), lt-leb c 3 (omega arith), s .0, s .1, lt-leb 8 c (omega arith), ne-eqb c 10 (λ e. omega arith), ne-eqb c 11 (λ e. omega arith))
+      rw (le-leb 1 c (omega arith), lt-leb c 3 (omega arith), s .0, s .1, lt-leb 8 c (omega arith), ne-eqb c 10 (λ e. omega arith), ne-eqb c 11 (λ e. omega arith), ne-eqb c 12 (λ e. omega arith), ne-eqb c 13 (λ e. omega arith))
       (simp or-false)
 
   opening-suits : 1 ≤ c → c ≤ 3 → eqb n (markOf c) ≡ suits c n
   unfolding pick
   opening-suits p q =
-      rw (ne-eqb c 10 (λ e. omega arith), lt-leb 8 c (omega arith), le-leb 1 c p, le-leb c 3 q, lt-leb 4 c (omega arith), ne-eqb c 11 (λ e. omega arith)) (simp or-false)
+      rw (ne-eqb c 10 (λ e. omega arith), lt-leb 8 c (omega arith), le-leb 1 c p, le-leb c 3 q, lt-leb 4 c (omega arith), ne-eqb c 11 (λ e. omega arith), ne-eqb c 12 (λ e. omega arith), ne-eqb c 13 (λ e. omega arith))
+      (simp or-false)
 
   pledge-suits : 8 ≤ c → c ≤ 9 → eqb n (markOf c) ≡ suits c n
   unfolding pick
   pledge-suits p q =
-      rw (ne-eqb c 10 (λ e. omega arith), le-leb 8 c p, le-leb c 9 q, lt-leb c 3 (omega arith), lt-leb c 7 (omega arith), ne-eqb c 11 (λ e. omega arith), le-leb 1 c (omega arith), le-leb 4 c (omega arith))
+      rw (ne-eqb c 10 (λ e. omega arith), le-leb 8 c p, le-leb c 9 q, lt-leb c 3 (omega arith), lt-leb c 7 (omega arith), ne-eqb c 11 (λ e. omega arith), ne-eqb c 12 (λ e. omega arith), ne-eqb c 13 (λ e. omega arith), le-leb 1 c (omega arith), le-leb 4 c (omega arith))
       (simp or-false)
 
   margin-suits : c ≡ 10 → eqb n (markOf c) ≡ suits c n
@@ -60,19 +61,27 @@ module _ (c n : ℕ) where
 
   retire-suits : c ≡ 11 → eqb n (markOf c) ≡ suits c n
   unfolding pick
-  retire-suits e = rw e
+  retire-suits e = rw e (simp or-false)
+
+  set-pledged-suits : c ≡ 12 → eqb n (markOf c) ≡ suits c n
+  unfolding pick
+  set-pledged-suits e = rw e (simp or-false)
+
+  set-margin-suits : c ≡ 13 → eqb n (markOf c) ≡ suits c n
+  unfolding pick
+  set-margin-suits e = rw e
 
   module _ (h : knownCode c ≡ true) (k : (leb 4 c && leb c 7) ≡ false) where
     pub one-suits : eqb n (markOf c) ≡ suits c n
     one-suits =
-        let s = and-split (leb 1 c) (leb c 11) h in
+        let s = and-split (leb 1 c) (leb c 13) h in
         let p = leb-true 1 c (s .0) in
-        let q = leb-true c 11 (s .1) in
-        by p q (decLe c 3) (decLe c 9) (ℕ-discrete c 10)
+        let q = leb-true c 13 (s .1) in
+        by p q (decLe c 3) (decLe c 9) (ℕ-discrete c 10) (ℕ-discrete c 11) (ℕ-discrete c 12)
       where
-        by : 1 ≤ c → c ≤ 11 → Dec (c ≤ 3) → Dec (c ≤ 9) → Dec (c ≡ 10) → eqb n (markOf c) ≡ suits c n
-        by p q (yes l) m e = opening-suits p l
-        by p q (no l) (yes m) e = pledge-suits (not-four (omega arith)) m
+        by : 1 ≤ c → c ≤ 13 → Dec (c ≤ 3) → Dec (c ≤ 9) → Dec (c ≡ 10) → Dec (c ≡ 11) → Dec (c ≡ 12) → eqb n (markOf c) ≡ suits c n
+        by p q (yes l) m e f g = opening-suits p l
+        by p q (no l) (yes m) e f g = pledge-suits (not-four (omega arith)) m
           where
             not-four : 4 ≤ c → 8 ≤ c
             not-four u = from-eight (decLe c 7)
@@ -80,8 +89,10 @@ module _ (c n : ℕ) where
                 from-eight : Dec (c ≤ 7) → 8 ≤ c
                 from-eight (yes w) = test-clash (and-join (le-leb 4 c u) (le-leb c 7 w)) k
                 from-eight (no w) = omega arith
-        by p q (no l) (no m) (yes e) = margin-suits e
-        by p q (no l) (no m) (no e) = retire-suits (omega arith)
+        by p q (no l) (no m) (yes e) f g = margin-suits e
+        by p q (no l) (no m) (no e) (yes f) g = retire-suits f
+        by p q (no l) (no m) (no e) (no f) (yes g) = set-pledged-suits g
+        by p q (no l) (no m) (no e) (no f) (no g) = set-margin-suits (omega arith)
 
 -- ---- amounts that a suiting second mark byte can't name
 
@@ -96,7 +107,7 @@ pub record NoKinds (n : ℕ) : Type 0 where
 
 mark-cases : (c : ℕ) → (markOf c ≡ 0) ⊎ ((markOf c ≡ 16) ⊎ (markOf c ≡ 32))
 unfolding pick
-mark-cases c = by (eqb c 10) (leb 8 c && leb c 9)
+mark-cases c = by (eqb c 10 || eqb c 13) (leb 8 c && leb c 9 || eqb c 12)
   where
     mark : Bool → Bool → ℕ
     mark t u = pick t 32 (pick u 16 0)

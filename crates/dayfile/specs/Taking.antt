@@ -1,6 +1,6 @@
 -- Only for internal functions: no promise of a public call cites it.
 use Prim.Native.Nat.{ℕ, _+_, _*_}
-use mathlib.Core.Bool.{_&&_}
+use mathlib.Core.Bool.{_&&_, _||_}
 use mathlib.Core.List.{List}
 use lib.Dec.{leb, eqb}
 use Rattle.sums.specs.Choice.{pick}
@@ -26,4 +26,4 @@ placesFrom place named = record {
 
 -- the one second mark byte that suits a code that names no kinds
 abbrev pub markOf : ℕ → ℕ
-markOf code = pick (eqb code 10) 32 (pick (leb 8 code && leb code 9) 16 0)
+markOf code = pick (eqb code 10 || eqb code 13) 32 (pick (leb 8 code && leb code 9 || eqb code 12) 16 0)

@@ -3,7 +3,7 @@ ghost use mathlib.Core.Bool.{true, _&&_};
 ghost use mathlib.Core.Path.{_≡_};
 ghost use Prim.Native.Nat.{_<_};
 ghost use lib.Dec.{leb, eqb};
-ghost use Rattle.dayfile.specs.Records.{knownCode, suits, goodAmount, goodAmounts, faultOf};
+ghost use Rattle.dayfile.specs.Records.{knownCode, suits, leastPledged, goodAmount, goodAmounts, faultOf};
 ghost use Rattle.dayfile.specs.Reading.{sizeOf};
 ghost use Rattle.dayfile.specs.Taking.{markOf};
 use crate::Record;
@@ -21,7 +21,7 @@ pub fn size(named: u8) -> usize
 fn known_code(code: u8) -> bool
     ensures { λ r. ⌜ r ≡ knownCode code ⌝ }
 {
-    (1 <= code) & (code <= 11)
+    (1 <= code) & (code <= 13)
 }
 
 // Codes 4 to 7 name kinds and nothing else.
@@ -35,10 +35,14 @@ fn names_kinds(code: u8) -> bool
 fn mark_of(code: u8) -> u8
     ensures { λ r. ⌜ r ≡ markOf code ⌝ }
 {
-    if code == 10 {
+    if (code == 10) | (code == 13) {
         return 32;
     }
-    if (8 <= code) & (code <= 9) { 16 } else { 0 }
+    if ((8 <= code) & (code <= 9)) | (code == 12) {
+        16
+    } else {
+        0
+    }
 }
 
 fn suits_code(code: u8, named: u8) -> bool
@@ -60,12 +64,22 @@ fn good_amount(bit: u8, x: u64) -> bool
     (least <= x) & (x <= least * CEILING)
 }
 
-// A margin may be 0.
-fn good_margin(bit: u8, x: u64) -> bool
+// What is set may be 0: a margin, and with code 12 what is pledged (K8).
+fn good_set(bit: u8, x: u64) -> bool
     requires { ⌜ bit < 2 ⌝ }
     ensures { λ r. ⌜ r ≡ goodAmount bit 0 x ⌝ }
 {
     x <= bit as u64 * CEILING
+}
+
+fn good_pledged(code: u8, bit: u8, x: u64) -> bool
+    requires { ⌜ bit < 2 ⌝ }
+    ensures { λ r. ⌜ r ≡ goodAmount bit (leastPledged code) x ⌝ }
+{
+    if code == 12 {
+        return good_set(bit, x);
+    }
+    good_amount(bit, x)
 }
 
 fn no_kinds(k: Kinds) -> bool
@@ -90,8 +104,8 @@ fn good_amounts(record: Record) -> bool
             & (record.margin == 0);
     }
     no_kinds(k)
-        & good_amount(named / 16 % 2, record.pledged)
-        & good_margin(named / 32 % 2, record.margin)
+        & good_pledged(record.code, named / 16 % 2, record.pledged)
+        & good_set(named / 32 % 2, record.margin)
 }
 
 // The first of 4, 5, 6 that applies, or 0.

@@ -41,7 +41,7 @@ fn unnamed() {
 // An unknown code, no amount named, another than the one held, and a good record.
 fn in_order() {
     shown::say(b"in their order:");
-    fault(12, 0, 0);
+    fault(14, 0, 0);
     fault(4, 0, 0);
     fault(4, 1, 1);
     fault(4, 1, 0);

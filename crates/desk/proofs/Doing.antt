@@ -11,9 +11,8 @@ use lib.Dec.{eqb}
 use Rattle.sums.proofs.Choices.{pick-first, pick-second, pick-no}
 use Rattle.sums.proofs.Tables.{first-here}
 use Rattle.rows.specs.declared.Row.{Row}
-use Rattle.rows.specs.declared.Rule.{Rule}
 use Rattle.rows.specs.declared.Book.{Book}
-use Rattle.rows.specs.Rows.{withSerial, withRow, withNew, byRule, placeOf}
+use Rattle.rows.specs.Rows.{withSerial, withRow, withNew, placeOf}
 use Rattle.book.specs.Sound.{soundB}
 use Rattle.book.specs.Facts.{Sound}
 use Rattle.dayfile.specs.declared.Record.{Record}
@@ -26,9 +25,9 @@ use Rattle.rules.specs.Effects.{effectOf, changeOf, bookAfter}
 use Rattle.rules.proofs.Deciding.{never-one, refuse-some, refuse-number}
 use Rattle.steps.specs.Steps.{refusalShown, givenShown}
 use Rattle.table.specs.declared.Table.{Table}
-use Rattle.table.specs.Words.{marksOf, turned, turnedBack}
+use Rattle.table.specs.Words.{marksOf, turnedBack}
 use Rattle.table.specs.Facts.{Sized}
-use Rattle.table.proofs.Turning.{turned-from, turned-by}
+use Rattle.table.proofs.Turning.{turned-from}
 use Rattle.desk.specs.declared.Outcome.{Outcome}
 use Rattle.desk.specs.declared.Outcome.the-variants.{CarriedOut, Opened, Refused}
 use Rattle.desk.specs.declared.Answer.{Answer}
@@ -56,21 +55,16 @@ answer-by b r s (Open x) e = ap (ofRecord r) (pick-no (eqb (b .count) 0) Carried
 
 -- one record on words in place is the old order's, turned over
 pub stepped-over : (b : Book) (r : Record) → Sound b → (n g : ℕ) (o : Outcome) (t : Table) → o ≡ outcomeBy n g → n ≡ refusalShown (changeOf b r) → g ≡ givenShown (b .count) (changeOf b r)
-    → Sized (marksOf t) (t .amounts) → byRule (b .rule) (turnedBack t) ≡ bookAfter b (r .account) (changeOf b r)
+    → Sized (marksOf t) (t .amounts) → turnedBack t ≡ bookAfter b (r .account) (changeOf b r)
     → _≡_ {A = Carried} (record { answer = ofRecord r o; table = t }) (overDone (stepOf b r))
 unfolding stepOf
 stepped-over b r s n g o t eo en eg h e =
     ap (λ o. record { answer = ofRecord r o; table = t }) (eo ∙ both en eg)
     ∙ ap (λ a. record { answer = a; table = t }) (answer-by b r s (changeOf b r) refl)
-    ∙ ap (λ x. record { answer = answerOf (b .count) r (changeOf b r); table = x }) (turned-from (b .rule) t _ h e)
+    ∙ ap (λ x. record { answer = answerOf (b .count) r (changeOf b r); table = x }) (turned-from t _ h e)
   where
     both : {n n′ g g′ : ℕ} → n ≡ n′ → g ≡ g′ → outcomeBy n g ≡ outcomeBy n′ g′
     both p q = cc
-
--- nobody is named and the table stays, by whichever rule
-pub stays-by : (rule : Rule) (t : Table) (o : Outcome) {d : Carried} → d ≡ record { answer = nobody o; table = turned (turnedBack t) }
-    → d ≡ overDone (record { answer = nobody o; book = byRule rule (turnedBack t) })
-stays-by rule t o e = e ∙ ap (λ x. record { answer = nobody o; table = x }) (sym (turned-by rule (turnedBack t)))
 
 -- "1: the book isn't sound"
 pub unsound-step : (b : Book) (r : Record) → soundB b ≡ false → _≡_ {A = Done} (record { answer = nobody (Refused 1); book = b }) (stepOf b r)

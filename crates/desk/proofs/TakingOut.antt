@@ -1,5 +1,5 @@
--- K5: while an account's mode is on no record takes anything out of its collateral. Release and unpledge are refused; no other code lowers an
--- allocated amount or what is pledged.
+-- K5 and K8: while an account's mode is on no record but code 12 takes anything out of its collateral. Release and unpledge are refused; no other code
+-- lowers an allocated amount or what is pledged.
 use mathlib.Core.Bool.{Bool, true, false}
 use mathlib.Core.Path.{_≡_, refl, sym, ap, _∙_}
 use Prim.Native.Nat.{ℕ, _≤_, _<_}
@@ -14,8 +14,8 @@ use Rattle.dayfile.specs.declared.Record.{Record}
 use Rattle.rules.specs.Refusals.{isOpening, namedRow, heldByMode, refusalOf}
 use Rattle.rules.specs.Effects.{amended}
 use Rattle.rules.proofs.Passing.{Passes, passes-all}
-use Rattle.rules.proofs.Codes.{Code, openTM, openClient, openCP, receive, handBack, allocate, release, pledge, unpledge, margin, retire, known-code-cases}
-use Rattle.rules.proofs.Amending.{by-receive, by-hand-back, by-allocate, by-pledge, by-margin, by-retire}
+use Rattle.rules.proofs.Codes.{Code, openTM, openClient, openCP, receive, handBack, allocate, release, pledge, unpledge, margin, retire, setPledged, setMargin, known-code-cases}
+use Rattle.rules.proofs.Amending.{by-receive, by-hand-back, by-allocate, by-pledge, by-margin, by-retire, by-set-margin}
 use Rattle.desk.specs.Steps.{stepOf}
 use Rattle.desk.proofs.Lasting.{refusal-keeps, others-stay}
 use Rattle.desk.proofs.Rows.{named-after, open-deemed}
@@ -30,7 +30,7 @@ alike x y a p = rw (a, p) ((omega arith, omega arith, omega arith, omega arith),
 same-row : {x y : Row} → y ≡ x → NoLess x y
 same-row {x} {y} e = alike x y (ap (λ q. q .allocated) e) (ap (λ q. q .pledged) e)
 
-module _ (b : Book) (r : Record) (on : modeAt b (r .account) ≡ true) (p : Passes b r) where
+module _ (b : Book) (r : Record) (n₁₂ : r .code ≡ 12 → ⊥) (on : modeAt b (r .account) ≡ true) (p : Passes b r) where
   abbrev row : Row
   row = namedRow b r
 
@@ -53,15 +53,17 @@ module _ (b : Book) (r : Record) (on : modeAt b (r .account) ≡ true) (p : Pass
       by (unpledge e) = held (rw (e, on))
       by (margin e) = rw (by-margin row r e) (alike row (withMargin row (r .margin)) refl refl)
       by (retire e) = rw (by-retire row r e) (alike row (withLive row false) refl refl)
+      by (setPledged e) = absurd (n₁₂ e)
+      by (setMargin e) = rw (by-set-margin row r e) (alike row (withMargin row (r .margin)) refl refl)
 
-module _ (b : Book) (r : Record) (i : ℕ) (l : i < b .count) (on : modeAt b i ≡ true) where
+module _ (b : Book) (r : Record) (n₁₂ : r .code ≡ 12 → ⊥) (i : ℕ) (l : i < b .count) (on : modeAt b i ≡ true) where
   pub nothing-out : KindsWithin (rowAt b i .allocated) (rowAt (stepOf b r .book) i .allocated) × (rowAt b i .pledged ≤ rowAt (stepOf b r .book) i .pledged)
   nothing-out = by (ℕ-discrete i (r .account)) (ℕ-discrete (refusalOf b r) 0)
     where
       passing : i ≡ r .account → refusalOf b r ≡ 0 → (t : Bool) → isOpening r ≡ t → NoLess (rowAt b i) (rowAt (stepOf b r .book) i)
       passing e z true o = same-row (open-deemed b r z o i l)
       passing e z false o =
-          let out = amends b r (ap (modeAt b) (sym e) ∙ on) (passes-all b r z) o in
+          let out = amends b r n₁₂ (ap (modeAt b) (sym e) ∙ on) (passes-all b r z) o in
           rw e (rw (named-after b r z o) out)
 
       by : Dec (i ≡ r .account) → Dec (refusalOf b r ≡ 0) → NoLess (rowAt b i) (rowAt (stepOf b r .book) i)

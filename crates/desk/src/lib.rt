@@ -1,22 +1,19 @@
 // The desk: a record is carried out or refused.
 ghost use mathlib.Core.Path.{_≡_};
-ghost use Rattle.rows.specs.Rows.{byRule};
 ghost use Rattle.book.specs.Facts.{Sound};
 ghost use Rattle.desk.specs.Answers.{nobody};
 ghost use Rattle.desk.specs.Steps.{stepOf, nextOf};
 ghost use Rattle.desk.specs.Over.{overDone, overNext};
 ghost use Rattle.desk.specs.Inner.{outcomeBy};
 ghost use Rattle.table.specs.Words.{turned, turnedBack};
+use dayfile::Found;
 pub use dayfile::Record;
 use rows::Book;
 pub use rows::Kinds;
-use rows::Rule;
 use steps::At;
 pub use table::Table;
 use table::modes::look_all;
 use table::needs::deemed_under;
-
-pub mod by_rule;
 
 // What became of a record; the end is no refusal.
 pub enum Outcome {
@@ -83,9 +80,9 @@ fn outcome_of(refusal: u8, given: u16) -> Outcome
 }
 
 // A record at a sound table.
-fn step_at(t: Table, r: Record, rule: Rule) -> Carried
-    requires { ⌜ Sound (byRule rule (turnedBack t)) ⌝ }
-    ensures { λ d. ⌜ d ≡ overDone (stepOf (byRule rule (turnedBack t)) r) ⌝ }
+fn step_at(t: Table, r: Record) -> Carried
+    requires { ⌜ Sound (turnedBack t) ⌝ }
+    ensures { λ d. ⌜ d ≡ overDone (stepOf (turnedBack t) r) ⌝ }
 {
     let mut sort = t.sort;
     let mut live = t.live;
@@ -98,10 +95,9 @@ fn step_at(t: Table, r: Record, rule: Rule) -> Carried
     table::needs::size(needs);
     let count = t.count;
     let mut excess = [0u64; 256];
-    deemed_under(&sort, &tm, &amounts, count, true, &mut excess, rule);
-    let mut modes = look_all(&sort, &tm, &amounts, count, &excess, &was, rule);
+    deemed_under(&sort, &tm, &amounts, count, true, &mut excess);
+    let mut modes = look_all(&sort, &tm, &amounts, count, &excess, &was);
     let at = At {
-        rule,
         count,
         serial: t.serial,
         waiting: true,
@@ -168,12 +164,23 @@ fn at(c: Carried, place: usize) -> CarriedNext
 pub fn carry_out(t: Table, record: Record) -> Carried
     ensures { λ d. ⌜ d ≡ overDone (stepOf (turnedBack t) «record») ⌝ }
 {
-    by_rule::carry_out(t, record, Rule::New)
+    if !book::is_sound(t) {
+        return stays(t, Outcome::Refused(1));
+    }
+    step_at(t, record)
 }
 
 // The record at a place of a piece of the day file.
 pub fn carry_out_next(t: Table, piece: &[u8], place: usize) -> CarriedNext
     ensures { λ n. ⌜ n ≡ overNext (nextOf (turnedBack t) (now (piece .entry)) place) ⌝ }
 {
-    by_rule::carry_out_next(t, piece, place, Rule::New)
+    if !book::is_sound(t) {
+        return at(stays(t, Outcome::Refused(1)), place);
+    }
+    let found = dayfile::found_at(piece, place);
+    match found {
+        Found::End => at(stays(t, Outcome::End), place),
+        Found::Cut => at(stays(t, Outcome::Refused(2)), place),
+        Found::Whole(record, next) => at(step_at(t, record), next),
+    }
 }

@@ -1,13 +1,11 @@
 // A day file from standard input, carried out in turns.
 ghost use mathlib.Core.Bool.{true};
 ghost use mathlib.Core.Path.{_≡_};
-ghost use Rattle.rows.specs.declared.Rule.the-variants.{New};
 ghost use Rattle.table.specs.Words.{turnedBack};
 ghost use Rattle.book.specs.Facts.{Sound};
 ghost use Rattle.records.specs.Runs.{endedWith};
 ghost use Rattle.feed.specs.Fed.{noDay, dayOf, Came};
 pub use records::Closing;
-use rows::Rule;
 use space::SPACE;
 use steps::At;
 use steps::modes_of;
@@ -38,10 +36,9 @@ pub struct Day {
 
 // Where a book stands that was handed over.
 fn starting(count: u16, serial: u16) -> At
-    ensures { λ x. ⌜ x ≡ record { rule = New; count = count; serial = serial; waiting = true } ⌝ }
+    ensures { λ x. ⌜ x ≡ record { count = count; serial = serial; waiting = true } ⌝ }
 {
     At {
-        rule: Rule::New,
         count,
         serial,
         waiting: true,
@@ -97,8 +94,8 @@ fn in_turns(program: &[u8], printing: bool, t: Table) -> Day
     table::modes::size(was);
     table::needs::size(needs);
     let mut excess = [0u64; 256];
-    deemed_under(&sort, &tm, &amounts, t.count, true, &mut excess, Rule::New);
-    let mut modes = look_all(&sort, &tm, &amounts, t.count, &excess, &was, Rule::New);
+    deemed_under(&sort, &tm, &amounts, t.count, true, &mut excess);
+    let mut modes = look_all(&sort, &tm, &amounts, t.count, &excess, &was);
     let mut at = starting(t.count, t.serial);
     let mut rest: usize = 0;
     let mut read: u64 = 0;

@@ -6,7 +6,7 @@ use Prim.Native.Nat.{ℕ}
 use Rattle.sums.specs.Room.{atStart}
 use Rattle.sums.proofs.Choices.{pick-no}
 use Rattle.rows.specs.declared.Book.{Book}
-use Rattle.rows.specs.Rows.{places, byRule}
+use Rattle.rows.specs.Rows.{places}
 use Rattle.table.specs.Words.{turned, turnedBack}
 use Rattle.table.proofs.Turning.{over-and-back}
 use Rattle.book.specs.Sound.{soundB}
@@ -34,5 +34,5 @@ unsound-leaves-room b piece most room e = ap (λ x. atStart x room) (pick-no (so
 
 -- K12: at a book of the old order, turned over, the call gives what it gives at the book
 pub lines-as : (b : Book) (piece : List ℕ) (most : ℕ) → places b ≡ 256
-    → (linedOf (byRule (b .rule) (turnedBack (turned b))) piece most ≡ linedOf b piece most) × (textOf (byRule (b .rule) (turnedBack (turned b))) piece most ≡ textOf b piece most)
+    → (linedOf (turnedBack (turned b)) piece most ≡ linedOf b piece most) × (textOf (turnedBack (turned b)) piece most ≡ textOf b piece most)
 lines-as b piece most h = (ap (λ c. linedOf c piece most) (over-and-back b h), ap (λ c. textOf c piece most) (over-and-back b h))

@@ -51,10 +51,12 @@ pub fn figures(account: u64, f: Figures) {
     told(b", deemed", f.deemed);
     told(b", free", f.free);
     if f.mode {
-        say(b", mode on\n");
+        say(b", mode on");
     } else {
-        say(b", mode off\n");
+        say(b", mode off");
     }
+    told(b", shortfall", f.shortfall);
+    say(b"\n");
 }
 
 // An account's four amounts of a close-out.

@@ -13,6 +13,7 @@ use Rattle.rows.specs.View.{isClientOf, ofClients, blocked}
 use Rattle.rows.specs.Rows.{rowAt, collateral, view, freshBook}
 use Rattle.book.specs.Sound.{soundB}
 use Rattle.book.specs.Facts.{Sound}
+use Rattle.book.specs.Asked.{shortfall}
 use Rattle.rows.proofs.BySort.{client-sort, client-tm}
 use Rattle.book.proofs.FreshSound.{fresh-sound}
 use Rattle.book.proofs.SoundTest.{sound→, sound←}
@@ -58,12 +59,12 @@ module _ (b : Book) (losses room : List ℕ) (carried : closeOutRefusal b losses
   -- A client (sort 2) and a CP (sort 3) pay for their own loss exactly the lesser of that loss and their own collateral (the first of their
   -- four amounts).
   pub pays-the-lesser : (i : ℕ) → i < b .count → (rowAt b i .sort ≡ 2) ⊎ (rowAt b i .sort ≡ 3)
-      → cellOf b losses room i 0 ≡ min (lossAt losses i) (collateral (b .rule) (rowAt b i))
+      → cellOf b losses room i 0 ≡ min (lossAt losses i) (collateral (rowAt b i))
   pays-the-lesser i m s = carried-own b losses room carried i m (client-or-CP b i s)
 
-  -- Each account's uncovered part (the fourth amount) is at most its own loss beyond its own margin.
-  pub each-at-most-its-own : (i : ℕ) → i < b .count → cellOf b losses room i 3 ≤ beyond (view b) (lossAt losses) i
-  each-at-most-its-own = carried-each b losses room carried
+  -- Where the shortfall is 0 each account's uncovered part (the fourth amount) is at most its own loss beyond its own margin.
+  pub each-at-most-its-own : shortfall (view b) ≡ 0 → (i : ℕ) → i < b .count → cellOf b losses room i 3 ≤ beyond (view b) (lossAt losses) i
+  each-at-most-its-own none = carried-each b losses room carried (omega arith)
 
   -- Nobody else's loss is paid from the collateral of a client (sort 2) or a CP (sort 3): losses of others are paid from a TM's,
   -- where they are its clients' (the second amount, stated here), and from the CM's. That a client or CP pays exactly that lesser and nothing else, added up
@@ -84,29 +85,28 @@ module _ (b : Book) (losses room : List ℕ) (carried : closeOutRefusal b losses
           none k (inl e) = omega arith
           none k (inr e) = omega arith
 
-  -- If no loss passes its margin, nothing is left uncovered, and the fund pays nothing.
-  pub within-margins-the-fund-pays-nothing : ((i : ℕ) → i < b .count → lossAt losses i ≤ rowAt b i .margin) → closedOf b losses room .total ≡ 0
-  within-margins-the-fund-pays-nothing h =
-      let s = carried-sound b losses room carried in
-      rw (carried-total b losses room carried) (none-within (view b) (s .shaped) (lossAt losses) (s .covered) h)
+  -- Where the shortfall is 0 and no loss passes its margin, nothing is left uncovered, and the fund pays nothing.
+  pub within-margins-the-fund-pays-nothing : shortfall (view b) ≡ 0 → ((i : ℕ) → i < b .count → lossAt losses i ≤ rowAt b i .margin) → closedOf b losses room .total ≡ 0
+  within-margins-the-fund-pays-nothing none h =
+      rw (carried-total b losses room carried) (none-within (view b) (carried-sound b losses room carried .shaped) (lossAt losses) (omega arith) h)
 
 -- However others stand: two close-outs that agree on one client's or CP's loss and collateral have it pay the same for its own loss (the
 -- first amount).
 pub however-others-stand : (b b′ : Book) (losses losses′ room room′ : List ℕ) → closeOutRefusal b losses room ≡ 0 → closeOutRefusal b′ losses′ room′ ≡ 0
     → (i : ℕ) → i < b .count → i < b′ .count → (rowAt b i .sort ≡ 2) ⊎ (rowAt b i .sort ≡ 3) → (rowAt b′ i .sort ≡ 2) ⊎ (rowAt b′ i .sort ≡ 3)
-    → lossAt losses i ≡ lossAt losses′ i → collateral (b .rule) (rowAt b i) ≡ collateral (b′ .rule) (rowAt b′ i)
+    → lossAt losses i ≡ lossAt losses′ i → collateral (rowAt b i) ≡ collateral (rowAt b′ i)
     → cellOf b losses room i 0 ≡ cellOf b′ losses′ room′ i 0
 however-others-stand b b′ losses losses′ room room′ p q i m n s s′ =
     own-paid-alone b b′ losses losses′ room room′ p q i m n (client-or-CP b i s) (client-or-CP b′ i s′)
 
 -- Nobody's collateral pays more than there is, whatever the losses: a TM's pays its own loss and its clients' in both rounds, ..
 pub TM-pays-what-it-has : (b : Book) (losses : List ℕ) → Sound b → (t : ℕ) → rowAt b t .sort ≡ 1
-    → ownColumn (view b) (lossAt losses) t + ofClients (view b) t (tmColumn (view b) (lossAt losses)) ≤ collateral (b .rule) (rowAt b t)
+    → ownColumn (view b) (lossAt losses) t + ofClients (view b) t (tmColumn (view b) (lossAt losses)) ≤ collateral (rowAt b t)
 TM-pays-what-it-has b losses s t e = TM-has (view b) (s .shaped) (lossAt losses) t e
 
 -- .. and the CM's pays its own loss and all others'.
 pub CM-pays-what-it-has : (b : Book) (losses : List ℕ) → Sound b
-    → ownColumn (view b) (lossAt losses) 0 + sum (b .count) (cmColumn (view b) (lossAt losses)) ≤ collateral (b .rule) (rowAt b 0)
+    → ownColumn (view b) (lossAt losses) 0 + sum (b .count) (cmColumn (view b) (lossAt losses)) ≤ collateral (rowAt b 0)
 CM-pays-what-it-has b losses s = CM-has (view b) (s .shaped) (lossAt losses)
 
 -- Round one takes no more than is blocked of a TM's collateral, so that what is free stays for round two, ..
@@ -119,6 +119,8 @@ pub round-one-within-the-CM's-blocked : (b : Book) (losses : List ℕ) → Sound
     → own (purses₁ (view b)) (part₁ (view b) (lossAt losses)) 0 + sum (b .count) (fromCM (purses₁ (view b)) (part₁ (view b) (lossAt losses))) ≤ blocked (view b) 0
 round-one-within-the-CM's-blocked b losses s = CM-blocked (view b) (s .shaped) (lossAt losses)
 
--- What is left uncovered, which the fund pays, is at most the losses beyond the margins, added up account by account.
-pub the-fund-pays-at-most : (b : Book) (losses room : List ℕ) → closedOf b losses room .total ≤ sum (b .count) (beyond (view b) (lossAt losses))
+-- What is left uncovered, which the fund pays, is at most the shortfall plus the losses beyond the margins, added up account by account: for every book
+-- and whatever was asked, since a refusal gives a total of 0.
+pub the-fund-pays-at-most : (b : Book) (losses room : List ℕ)
+    → closedOf b losses room .total ≤ shortfall (view b) + sum (b .count) (beyond (view b) (lossAt losses))
 the-fund-pays-at-most = total-bound

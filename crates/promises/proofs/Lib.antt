@@ -8,6 +8,7 @@ pub mod Modes
 pub mod NoTakingOut
 pub mod FallingMargins
 pub mod Haircut
+pub mod Shortfall
 pub mod Needs
 pub mod OneResult
 pub mod Quick

@@ -1,4 +1,4 @@
--- K5, no taking out under risk reduction: document 02's sentences as theorems. When 17 is given, exactly: `given-exactly-when` of DemandTwo.
+-- K5, no taking out under risk reduction: document 02's sentences as theorems. From K8 on code 12, which sets pledged to a new value, may lower it, and no other record does. When 17 is given, exactly: `given-exactly-when` of DemandTwo.
 use mathlib.Core.Bool.{true, _||_}
 use mathlib.Core.List.{List, [], _∷_}
 use mathlib.Core.Logic.{_⊎_, inl, inr}
@@ -8,6 +8,7 @@ use native.Mathlib.Omega.{arith}
 use lib.Dec.{eqb}
 use borrow.Author.Tests.{eqb-true}
 use Rattle.sums.proofs.Choices.{and-split, or-split}
+use Rattle.rows.specs.declared.Rule.the-variants.{New}
 use Rattle.rows.specs.declared.Book.{Book}
 use Rattle.rows.specs.Rows.{rowAt, modeAt, collateral}
 use Rattle.rows.proofs.Counted.{counted-rises}
@@ -19,7 +20,7 @@ use Rattle.desk.specs.Steps.{stepOf}
 use Rattle.desk.proofs.Lasting.{count-stays}
 use Rattle.desk.proofs.TakingOut.{nothing-out}
 use Rattle.promises.proofs.Modes.{only-a-live-TM-or-the-CM}
-use Rattle.promises.specs.Sequences.{afterAll, OnBeforeEach, NothingTakenOut}
+use Rattle.promises.specs.Sequences.{afterAll, EachCode, OnBeforeEach, NothingTakenOut}
 
 -- 17 is given for release (7) and unpledge (9) alone, from the account of the CM (0) or of a live TM (sort 1) whose mode is on before the record; so hand
 -- back never meets it.
@@ -46,21 +47,24 @@ clients'-and-CPs'-never-meet-17 b r c e = by c (seventeen-only-for b r e .2)
     by (inr q) (inl z) = omega (arith, q, top z)
     by (inr q) (inr z) = omega (arith, q, z .0)
 
--- "a TM or the CM that is in the mode .. keep its own proprietary collateral in": a record takes nothing out of an account whose mode is on before it, ..
-pub a-record-takes-nothing-out : (b : Book) (r : Record) (i : ℕ) → i < b .count → modeAt b i ≡ true → NothingTakenOut (rowAt b i) (rowAt (stepOf b r .book) i)
-a-record-takes-nothing-out = nothing-out
+-- "a TM or the CM that is in the mode .. keep its own proprietary collateral in": no record but code 12 takes anything out of an account whose mode is on before it, ..
+pub no-record-but-12-takes-anything-out : (b : Book) (r : Record) → (r .code ≡ 12 → ⊥) → (i : ℕ) → i < b .count → modeAt b i ≡ true
+    → NothingTakenOut (rowAt b i) (rowAt (stepOf b r .book) i)
+no-record-but-12-takes-anything-out = nothing-out
 
--- .. and while the mode stays on no sequence of records does, ..
-pub no-sequence-takes-anything-out : (b : Book) (rs : List Record) (i : ℕ) → i < b .count → OnBeforeEach b i rs → NothingTakenOut (rowAt b i) (rowAt (afterAll b rs) i)
-unfolding OnBeforeEach afterAll
-no-sequence-takes-anything-out b [] i l on = ((omega arith, omega arith, omega arith, omega arith), omega arith)
-no-sequence-takes-anything-out b (r ∷ rs) i l on =
-    let one = nothing-out b r i l (on .0) in
-    let more = no-sequence-takes-anything-out (stepOf b r .book) rs i (omega (arith, count-stays b r)) (on .1) in
+-- .. and while the mode stays on no sequence of them does, ..
+pub no-sequence-without-12-takes-anything-out : (b : Book) (rs : List Record) → EachCode (λ n. n ≡ 12 → ⊥) rs → (i : ℕ) → i < b .count → OnBeforeEach b i rs
+    → NothingTakenOut (rowAt b i) (rowAt (afterAll b rs) i)
+unfolding EachCode OnBeforeEach afterAll
+no-sequence-without-12-takes-anything-out b [] c i l on = ((omega arith, omega arith, omega arith, omega arith), omega arith)
+no-sequence-without-12-takes-anything-out b (r ∷ rs) c i l on =
+    let one = nothing-out b r (c .0) i l (on .0) in
+    let more = no-sequence-without-12-takes-anything-out (stepOf b r .book) rs (c .1) i (omega (arith, count-stays b r)) (on .1) in
     ((omega (arith, one, more), omega (arith, one, more), omega (arith, one, more), omega (arith, one, more)), omega (arith, one, more))
 
 -- .. so that its collateral never falls.
-pub its-collateral-never-falls : (b : Book) (rs : List Record) (i : ℕ) → i < b .count → OnBeforeEach b i rs → collateral (b .rule) (rowAt b i) ≤ collateral (b .rule) (rowAt (afterAll b rs) i)
-its-collateral-never-falls b rs i l on =
-    let out = no-sequence-takes-anything-out b rs i l on in
-    omega (arith, out, counted-rises (b .rule) (rowAt b i .allocated .securities) (rowAt (afterAll b rs) i .allocated .securities) (omega (arith, out)))
+pub its-collateral-falls-by-12-alone : (b : Book) (rs : List Record) → EachCode (λ n. n ≡ 12 → ⊥) rs → (i : ℕ) → i < b .count → OnBeforeEach b i rs
+    → collateral (rowAt b i) ≤ collateral (rowAt (afterAll b rs) i)
+its-collateral-falls-by-12-alone b rs c i l on =
+    let out = no-sequence-without-12-takes-anything-out b rs c i l on in
+    omega (arith, out, counted-rises New (rowAt b i .allocated .securities) (rowAt (afterAll b rs) i .allocated .securities) (omega (arith, out)))

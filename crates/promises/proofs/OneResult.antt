@@ -32,7 +32,6 @@ use Rattle.desk.proofs as desk
 use Rattle.run.proofs as run
 use Rattle.lines.proofs as lines
 use Rattle.closeout.proofs as closeout
-use Rattle.old.proofs as old
 use Rattle.feed.proofs as feed
 use Rattle.bookfile.proofs as bookfile
 use Rattle.report.proofs as report
@@ -92,18 +91,6 @@ of-book-amount-sum κs a x y u v p q = (one-result p q, refl)
 -- taking over: the refusal or 0, and the table
 pub of-book-take-over : OneResultOnly book.take_over.ended book.take_over.Reads.Learnt
 of-book-take-over κs a x y u v p q = (one-result p q, refl)
-
--- by either rule: whether a book is sound,
-pub of-book-by-rule-is-sound : OneResultOnly book.by_rule.is_sound.ended book.by_rule.is_sound.Reads.Learnt
-of-book-by-rule-is-sound κs a x y u v p q = (one-result p q, refl)
-
--- an account's standing,
-pub of-book-by-rule-standing : OneResultOnly book.by_rule.standing.ended book.by_rule.standing.Reads.Learnt
-of-book-by-rule-standing κs a x y u v p q = (one-result p q, refl)
-
--- and all needs
-pub of-book-by-rule-needs : OneResultOnly book.by_rule.needs.ended book.by_rule.needs.Reads.Learnt
-of-book-by-rule-needs κs a x y u v p q = (one-result (p .0) (q .0), ap (λ room. (tt, (room, (tt, tt)))) (one-result (p .1) (q .1)))
 
 -- ---- bookfile
 
@@ -195,14 +182,6 @@ of-desk-carry-out κs a x y u v p q = (one-result p q, refl)
 pub of-desk-carry-out-next : OneResultOnly desk.carry_out_next.ended desk.carry_out_next.Reads.Learnt
 of-desk-carry-out-next κs a x y u v p q = (one-result p q, refl)
 
--- by either rule: a record handed over,
-pub of-desk-by-rule-carry-out : OneResultOnly desk.by_rule.carry_out.ended desk.by_rule.carry_out.Reads.Learnt
-of-desk-by-rule-carry-out κs a x y u v p q = (one-result p q, refl)
-
--- and what stands at a place
-pub of-desk-by-rule-carry-out-next : OneResultOnly desk.by_rule.carry_out_next.ended desk.by_rule.carry_out_next.Reads.Learnt
-of-desk-by-rule-carry-out-next κs a x y u v p q = (one-result p q, refl)
-
 -- ---- run
 
 -- the book after a piece, the place, the closing word and the counts
@@ -212,10 +191,6 @@ of-run-day κs a x y u v p q = (one-result p q, refl)
 -- the same, and the room with each record's numbers
 pub of-run-day-with-numbers : OneResultOnly run.day_with_numbers.ended run.day_with_numbers.Reads.Learnt
 of-run-day-with-numbers κs a x y u v p q = (one-result (p .0) (q .0), ap (λ room. (tt, (tt, (tt, (room, tt))))) (one-result (p .1) (q .1)))
-
--- the first by either rule
-pub of-run-by-rule-day : OneResultOnly run.by_rule.day.ended run.by_rule.day.Reads.Learnt
-of-run-by-rule-day κs a x y u v p q = (one-result p q, refl)
 
 -- ---- lines
 
@@ -236,40 +211,6 @@ of-lines-closing-line κs a x y u v p q = (one-result (p .0) (q .0), ap (λ room
 -- the refusal or 0 with the total, and the room with each account's four amounts
 pub of-closeout-close-out : OneResultOnly closeout.close_out.ended closeout.close_out.Reads.Learnt
 of-closeout-close-out κs a x y u v p q = (one-result (p .0) (q .0), ap (λ room. (tt, (tt, (room, tt)))) (one-result (p .1) (q .1)))
-
--- the same by either rule
-pub of-closeout-by-rule-close-out : OneResultOnly closeout.by_rule.close_out.ended closeout.by_rule.close_out.Reads.Learnt
-of-closeout-by-rule-close-out κs a x y u v p q = (one-result (p .0) (q .0), ap (λ room. (tt, (tt, (room, (tt, tt))))) (one-result (p .1) (q .1)))
-
--- ---- old: the calls by the old rule (K7)
-
--- whether a book is sound
-pub of-old-is-sound : OneResultOnly old.is_sound.ended old.is_sound.Reads.Learnt
-of-old-is-sound κs a x y u v p q = (one-result p q, refl)
-
--- an account's standing
-pub of-old-standing : OneResultOnly old.standing.ended old.standing.Reads.Learnt
-of-old-standing κs a x y u v p q = (one-result p q, refl)
-
--- all needs
-pub of-old-needs : OneResultOnly old.needs.ended old.needs.Reads.Learnt
-of-old-needs κs a x y u v p q = (one-result (p .0) (q .0), ap (λ room. (tt, (room, tt))) (one-result (p .1) (q .1)))
-
--- the answer to a record
-pub of-old-carry-out : OneResultOnly old.carry_out.ended old.carry_out.Reads.Learnt
-of-old-carry-out κs a x y u v p q = (one-result p q, refl)
-
--- and to what stands at a place
-pub of-old-carry-out-next : OneResultOnly old.carry_out_next.ended old.carry_out_next.Reads.Learnt
-of-old-carry-out-next κs a x y u v p q = (one-result p q, refl)
-
--- the records of a piece
-pub of-old-day : OneResultOnly old.day.ended old.day.Reads.Learnt
-of-old-day κs a x y u v p q = (one-result p q, refl)
-
--- a close-out
-pub of-old-close-out : OneResultOnly old.close_out.ended old.close_out.Reads.Learnt
-of-old-close-out κs a x y u v p q = (one-result (p .0) (q .0), ap (λ room. (tt, (tt, (room, tt)))) (one-result (p .1) (q .1)))
 
 -- ---- report. The last three also print the text whose length they give: no promise can say what standard output holds.
 

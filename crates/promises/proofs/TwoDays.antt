@@ -6,9 +6,7 @@ use mathlib.Core.List.{List, _++_}
 use mathlib.Core.Path.{_≡_, refl, sym, ap, _∙_}
 use Prim.Native.Nat.{ℕ, _+_}
 use native.Mathlib.Omega.{arith}
-use Rattle.rows.specs.declared.Rule.the-variants.{New}
 use Rattle.rows.specs.declared.Book.{Book}
-use Rattle.rows.specs.Rows.{byRule}
 use Rattle.table.specs.Words.{turned, turnedBack}
 use Rattle.table.proofs.Turning.{over-and-back}
 use Rattle.book.specs.Sound.{soundB}
@@ -19,7 +17,7 @@ use Rattle.records.specs.declared.Ran.{Ran}
 use Rattle.records.specs.Runs.{ranOf}
 use Rattle.records.specs.LineNumbers.{answersOf}
 use Rattle.records.proofs.NumbersPut.{ran-unsound}
-use Rattle.records.proofs.SoundRun.{ran-keeps, ran-rule}
+use Rattle.records.proofs.SoundRun.{ran-keeps}
 use Rattle.records.proofs.Pieces.{onFrom, two-pieces}
 use Rattle.lines.specs.Lines.{linesOf}
 use Rattle.feed.specs.declared.Day.{Day}
@@ -29,7 +27,7 @@ use Rattle.feed.proofs.PieceLines.{lines-of-two}
 end-not-unsound : (r : Ran) → r .closing ≡ Unsound → r .closing ≡ End → ⊥
 end-not-unsound r u e = let z : _≡_ {A = ℕ} 0 1 = cc in omega arith
 
-module _ (b : Book) (new : b .rule ≡ New) (s x : List ℕ) (e : wholeDay b s .closing ≡ End) (w : wholeDay b (s ++ x) .closing ≡ Long → ⊥) where
+module _ (b : Book) (s x : List ℕ) (e : wholeDay b s .closing ≡ End) (w : wholeDay b (s ++ x) .closing ≡ Long → ⊥) where
   abbrev ran : Ran
   ran = ranOf b s 1_000_000
 
@@ -56,7 +54,7 @@ module _ (b : Book) (new : b .rule ≡ New) (s x : List ℕ) (e : wholeDay b s .
 
   same-book : turnedBack (first .table) ≡ ran .book
   unfolding wholeDay
-  same-book = ap (λ rule. byRule rule (turnedBack (turned (ran .book)))) (sym (ran-rule b s 1_000_000 sound ∙ new)) ∙ over-and-back (ran .book) (ran-keeps b s 1_000_000 sound .table)
+  same-book = over-and-back (ran .book) (ran-keeps b s 1_000_000 sound .table)
 
   -- The book after both, the closing word and the counts, added up, are those of the joined file.
   pub two-days-are-one-day : wholeDay b (s ++ x) ≡ record { table = second .table; closing = second .closing; read = first .read + second .read; done = first .done + second .done; failed = false }

@@ -72,11 +72,11 @@ module _ (b : Book) (losses room : List ℕ) (carried : closeOutRefusal b losses
 
   -- "a client or CP pays exactly the lesser of own loss and own collateral": added up over all losses, its own and everybody else's.
   pub a-client-or-CP-pays-the-lesser : (p : ℕ) → p < b .count → (rowAt b p .sort ≡ 2) ⊎ (rowAt b p .sort ≡ 3)
-      → paysInAll (view b) (cellOf b losses room) p ≡ min (lossAt losses p) (collateral (b .rule) (rowAt b p))
+      → paysInAll (view b) (cellOf b losses room) p ≡ min (lossAt losses p) (collateral (rowAt b p))
   a-client-or-CP-pays-the-lesser p m e = payment p ∙ a-client-or-CP-pays (view b) shaped (lossAt losses) p m e
 
   -- Added up over all losses, a TM, the CM and any other account pay at most their collateral.
-  pub nobody-pays-more-than-it-has : (p : ℕ) → p < b .count → paysInAll (view b) (cellOf b losses room) p ≤ collateral (b .rule) (rowAt b p)
+  pub nobody-pays-more-than-it-has : (p : ℕ) → p < b .count → paysInAll (view b) (cellOf b losses room) p ≤ collateral (rowAt b p)
   nobody-pays-more-than-it-has p m = rw (payment p) (nobody-pays-more (view b) shaped (lossAt losses) p m)
 
   -- What all accounts pay, added up, and the total left uncovered, which the fund pays, are all losses, added up.

@@ -14,6 +14,11 @@ unfoldable pub afterAll : Book → List Record → Book
 afterAll b [] = b
 afterAll b (r ∷ rs) = afterAll (stepOf b r .book) rs
 
+-- each record's code is one of those that p says
+unfoldable pub EachCode : (ℕ → Type 0) → List Record → Type 0
+EachCode p [] = Unit
+EachCode p (r ∷ rs) = p (r .code) × EachCode p rs
+
 -- K5, "whose mode is on": account i's is on before each of the records; after the last it may be off
 unfoldable pub OnBeforeEach : Book → ℕ → List Record → Type 0
 OnBeforeEach b i [] = Unit

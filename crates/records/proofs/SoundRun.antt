@@ -5,7 +5,6 @@ use mathlib.Core.Path.{_≡_, refl, sym, ap, _∙_}
 use Prim.Native.Nat.{ℕ, zero, suc, _+_}
 use native.Mathlib.Nat.{zero-add}
 use native.Mathlib.Omega.{arith}
-use lib.Dec.{leb}
 use lib.ListN.{length}
 use Rattle.sums.specs.Choice.{pick}
 use Rattle.sums.proofs.Choices.{pick-yes}
@@ -17,9 +16,6 @@ use Rattle.dayfile.specs.declared.Record.{Record}
 use Rattle.dayfile.specs.declared.Found.{Found}
 use Rattle.dayfile.specs.declared.Found.the-variants.{End as NoBytes, Cut as TooFew, Whole}
 use Rattle.dayfile.specs.Reading.{foundAt}
-use Rattle.rules.specs.declared.Change.{Change}
-use Rattle.rules.specs.declared.Change.the-variants.{Refuse, Put, Open}
-use Rattle.rules.specs.Effects.{changeOf, movedOn, bookAfter}
 use Rattle.rules.proofs.SoundChange.{change-sound}
 use Rattle.desk.specs.Answers.{carriedIn}
 use Rattle.desk.specs.Steps.{stepOf, onFound, nextOf}
@@ -33,42 +29,21 @@ pub step-sound : (b : Book) (r : Record) → Sound b → Sound (stepOf b r .book
 unfolding stepOf
 step-sound b r s = change-sound b r s
 
--- a step leaves a book under its rule (K7)
-pub step-rule : (b : Book) (r : Record) → stepOf b r .book .rule ≡ b .rule
-unfolding stepOf pick
-step-rule b r = by (changeOf b r)
-  where
-    stays : (t : Bool) → pick t b (movedOn b) .rule ≡ b .rule
-    stays true = refl
-    stays false = refl
-
-    by : (c : Change) → bookAfter b (r .account) c .rule ≡ b .rule
-    by (Refuse n) = stays (leb n 3)
-    by (Put row) = refl
-    by (Open row) = refl
-
 module _ (s : List ℕ) where
   stopped-book : (f : Found) (b : Book) (place read done : ℕ) → stopped f b place read done .book ≡ b
   stopped-book NoBytes b place read done = refl
   stopped-book TooFew b place read done = refl
   stopped-book (Whole r next) b place read done = refl
 
-  -- what every step keeps, a run keeps
-  run-keeps : (P : Book → Type 0) → ((b : Book) (r : Record) → P b → P (stepOf b r .book)) → (n : ℕ) (b : Book) (place read done : ℕ) → P b → P (runOf s n b place read done .book)
+  pub run-sound : (n : ℕ) (b : Book) (place read done : ℕ) → Sound b → Sound (runOf s n b place read done .book)
   unfolding runOf
-  run-keeps P step zero b place read done h = rw (stopped-book (foundAt s place) b place read done) h
-  run-keeps P step (suc n) b place read done h = by (foundAt s place) (λ c p r d g. run-keeps P step n c p r d g)
+  run-sound zero b place read done h = rw (stopped-book (foundAt s place) b place read done) h
+  run-sound (suc n) b place read done h = by (foundAt s place) (λ c p r d g. run-sound n c p r d g)
     where
-      by : (f : Found) → ((c : Book) (p r d : ℕ) → P c → P (runOf s n c p r d .book)) → P (onward (runOf s n) f b place read done .book)
+      by : (f : Found) → ((c : Book) (p r d : ℕ) → Sound c → Sound (runOf s n c p r d .book)) → Sound (onward (runOf s n) f b place read done .book)
       by NoBytes go = h
       by TooFew go = h
-      by (Whole r next) go = go _ _ _ _ (step b r h)
-
-  pub run-sound : (n : ℕ) (b : Book) (place read done : ℕ) → Sound b → Sound (runOf s n b place read done .book)
-  run-sound = run-keeps Sound step-sound
-
-  pub run-rule : (n : ℕ) (b : Book) (place read done : ℕ) → runOf s n b place read done .book .rule ≡ b .rule
-  run-rule n b place read done = run-keeps (λ c. c .rule ≡ b .rule) (λ c r e. step-rule c r ∙ e) n b place read done refl
+      by (Whole r next) go = go _ _ _ _ (step-sound b r h)
 
   stopped-counts : (f : Found) (b : Book) (place read done : ℕ) → (stopped f b place read done .read ≡ read) × (stopped f b place read done .done ≡ done)
   stopped-counts NoBytes b place read done = (refl, refl)
@@ -110,11 +85,6 @@ pub ran-keeps : (b : Book) (s : List ℕ) (most : ℕ) → Sound b → Sound (ra
 unfolding ranOf
 ran-keeps b s most h =
     rw (pick-yes (soundB b) (runOf s most b 0 0 0) (endedWith Unsound b 0 0 0) (sound← b h)) (run-sound s most b 0 0 0 h)
-
-pub ran-rule : (b : Book) (s : List ℕ) (most : ℕ) → Sound b → ranOf b s most .book .rule ≡ b .rule
-unfolding ranOf
-ran-rule b s most h =
-    rw (pick-yes (soundB b) (runOf s most b 0 0 0) (endedWith Unsound b 0 0 0) (sound← b h)) (run-rule s most b 0 0 0)
 
 -- "records read, and those of them with refusal 0": the public call's two counts
 pub ran-counts : (b : Book) (s : List ℕ) (most : ℕ) → soundB b ≡ true

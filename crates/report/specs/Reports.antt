@@ -12,8 +12,8 @@ use Rattle.rows.specs.Rows.{rowAt, view}
 use Rattle.book.specs.declared.Figures.{Figures}
 use Rattle.book.specs.Sound.{soundB}
 use Rattle.book.specs.Asked.{standingOf}
-use Rattle.text.specs.Numbers.{space, followed, spaced, andSpaces}
-use Rattle.text.specs.Words.{andSpace, andNewline}
+use Rattle.text.specs.Numbers.{space, newline, followed, spaced, andSpaces}
+use Rattle.text.specs.Words.{andSpace}
 
 -- "A book holds at most 256 accounts, numbered from 0": a count beyond that names no further one
 abbrev pub accounts : ℕ → ℕ
@@ -40,12 +40,13 @@ modeWord false = 111 ∷ 102 ∷ 102 ∷ []  -- o f f
 abbrev pub numbersOf : Row → Figures → List ℕ
 numbersOf row f = row .tm ∷ f .collateral ∷ f .need ∷ f .blocked ∷ f .deemed ∷ f .free ∷ []
 
--- a line per account: number, `cm`/`tm`/`client`/`cp`, `live`/`retired`, its TM or 0, the five figures, `on`/`off`
+-- a line per account: number, `cm`/`tm`/`client`/`cp`, `live`/`retired`, its TM or 0, the five figures, `on`/`off`;
+-- document 02, K8: the shortfall "is shown in a standing of account 0", behind them as one more number
 unfoldable pub standingLine : ℕ → Row → Figures → List ℕ
 standingLine i row f =
     followed i space
     ++ (andSpace (sortWord (row .sort))
-    ++ (andSpace (stateWord (row .live)) ++ (andSpaces (numbersOf row f) ++ andNewline (modeWord (f .mode)))))
+    ++ (andSpace (stateWord (row .live)) ++ (andSpaces (numbersOf row f) ++ (andSpace (modeWord (f .mode)) ++ followed (f .shortfall) newline))))
 
 -- the lines of the accounts below n, in rising number
 unfoldable pub standingLines : Book → ℕ → List ℕ

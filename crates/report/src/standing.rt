@@ -3,7 +3,7 @@ ghost use Prim.Native.Nat.{_+_, _*_, _≤_};
 ghost use lib.ListN.{length};
 ghost use Rattle.table.specs.Words.{turnedBack};
 ghost use Rattle.text.specs.Numbers.{andSpaces};
-ghost use Rattle.text.specs.Words.{andSpace, andNewline};
+ghost use Rattle.text.specs.Words.{andSpace};
 ghost use Rattle.text.specs.Inner.{Puts};
 ghost use Rattle.report.specs.Reports.{sortWord, stateWord, modeWord, numbersOf, standingLine, standingLines};
 use book::Figures;
@@ -56,35 +56,35 @@ fn put_numbers(room: &mut [u8], at: usize, r: Row, f: Figures) -> usize
     put_each(room, at, &list, 6)
 }
 
-// Puts the mode's word and the line's end.
 fn put_mode(room: &mut [u8], at: usize, mode: bool) -> usize
     requires { ⌜ at + 4 ≤ length (now room) ⌝ }
-    ensures { λ after. ⌜ Puts (now (room .entry)) at (andNewline (modeWord mode)) (now (room .exit)) after ⌝ }
+    ensures { λ after. ⌜ Puts (now (room .entry)) at (andSpace (modeWord mode)) (now (room .exit)) after ⌝ }
     ensures { λ after. ⌜ after ≤ at + 4 ⌝ }
 {
     if mode {
-        put_text(room, at, b"on\n")
+        put_text(room, at, b"on ")
     } else {
-        put_text(room, at, b"off\n")
+        put_text(room, at, b"off ")
     }
 }
 
-// Puts one account's line: it takes 166 bytes at most.
+// Puts one account's line: it takes 187 bytes at most.
 fn put_standing(room: &mut [u8], at: usize, i: usize, r: Row, f: Figures) -> usize
-    requires { ⌜ at + 166 ≤ length (now room) ⌝ }
+    requires { ⌜ at + 187 ≤ length (now room) ⌝ }
     ensures { λ after. ⌜ Puts (now (room .entry)) at (standingLine i r f) (now (room .exit)) after ⌝ }
-    ensures { λ after. ⌜ after ≤ at + 166 ⌝ }
+    ensures { λ after. ⌜ after ≤ at + 187 ⌝ }
 {
     let p1 = put_number(room, at, i as u64, b' ');
     let p2 = put_sort(room, p1, r.sort);
     let p3 = put_state(room, p2, r.live);
     let p4 = put_numbers(room, p3, r, f);
-    put_mode(room, p4, f.mode)
+    let p5 = put_mode(room, p4, f.mode);
+    put_number(room, p5, f.shortfall, b'\n')
 }
 
 // Puts the lines of the accounts below n, and gives how long they are.
 pub(crate) fn put_standings(room: &mut [u8], t: Table, n: usize) -> usize
-    requires { ⌜ (n ≤ 256) × (166 * n ≤ length (now room)) ⌝ }
+    requires { ⌜ (n ≤ 256) × (187 * n ≤ length (now room)) ⌝ }
     ensures { λ after. ⌜ Puts (now (room .entry)) 0 (standingLines (turnedBack t) n) (now (room .exit)) after ⌝ }
 {
     let mut at: usize = 0;

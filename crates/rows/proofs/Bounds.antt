@@ -12,9 +12,10 @@ use lib.ListN.{getD}
 use borrow.Author.Tests.{ne-eqb}
 use Rattle.sums.specs.Sum.{sum, only}
 use Rattle.sums.proofs.Sums.{sum-most, sum-le, sum-add, sum-zero, sum-swap, sum-once, only-most}
+use Rattle.rows.specs.declared.Rule.{Rule}
 use Rattle.rows.specs.declared.Book.{Book}
 use Rattle.rows.specs.View.{View, isTM, isClient, isCP, isClientOf, ownDeemed, deemedTM, needTM, members}
-use Rattle.rows.specs.Rows.{ceiling, view}
+use Rattle.rows.specs.Rows.{ceiling, viewBy}
 use Rattle.rows.specs.Facts.{Shaped}
 use Rattle.rows.specs.DeemedUnder.{DeemedUnder, accountAt}
 use Rattle.rows.specs.Inner.{Ranged, clientsBelow, membersBelow, viewAs}
@@ -111,9 +112,9 @@ module _ (v : View) (cap : ℕ) (h : Bounded v cap) where
         by (no l) = omega (arith, u .beyond i (omega arith))
 
 -- a book's margins are at most the ceiling, and in tenths at most ten
-pub ranged-bounded : (b : Book) → Ranged b → Bounded (view b) ceiling
-ranged-bounded b h = record { most = h .most; margins = λ i l. h .ranges i l .margin }
+pub ranged-bounded : (rule : Rule) (b : Book) → Ranged b → Bounded (viewBy rule b) ceiling
+ranged-bounded rule b h = record { most = h .most; margins = λ i l. h .ranges i l .margin }
 
-pub bounded-in : (tenths : Bool) (b : Book) → Ranged b → Bounded (viewAs tenths (view b)) 100_000_000_000_000
-bounded-in true b h = record { most = h .most; margins = λ i l. omega (arith, h .ranges i l .margin) }
-bounded-in false b h = record { most = h .most; margins = λ i l. omega (arith, h .ranges i l .margin) }
+pub bounded-in : (tenths : Bool) (rule : Rule) (b : Book) → Ranged b → Bounded (viewAs tenths (viewBy rule b)) 100_000_000_000_000
+bounded-in true rule b h = record { most = h .most; margins = λ i l. omega (arith, h .ranges i l .margin) }
+bounded-in false rule b h = record { most = h .most; margins = λ i l. omega (arith, h .ranges i l .margin) }

@@ -5,7 +5,7 @@ use native.Mathlib.Omega.{arith}
 use Rattle.rows.specs.declared.Rule.{Rule}
 use Rattle.rows.specs.declared.Rule.the-variants.{Old, New}
 use Rattle.rows.specs.declared.Row.{Row}
-use Rattle.rows.specs.Rows.{counted, collateral}
+use Rattle.rows.specs.Rows.{counted, collateralBy}
 use Rattle.rows.specs.Facts.{InRange}
 
 pub counted-old : (s : ℕ) → counted Old s ≡ s
@@ -22,5 +22,5 @@ unfolding counted
 counted-rises Old s t l = omega arith
 counted-rises New s t l = omega arith
 
-pub collateral-most : (rule : Rule) (r : Row) → InRange r → collateral rule r ≤ 50_000_000_000_000
+pub collateral-most : (rule : Rule) (r : Row) → InRange r → collateralBy rule r ≤ 50_000_000_000_000
 collateral-most rule r h = omega (arith, counted-most rule (r .allocated .securities), h .received, h .allocated, h .pledged)

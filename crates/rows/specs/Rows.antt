@@ -1,5 +1,5 @@
--- Document 01, 'Amounts and sizes': a book's rows, its view, and a fresh book. With document 02, K2: its modes; K3: its kept needs; K7: the rule that
--- it is under.
+-- Document 01, 'Amounts and sizes': a book's rows, its view, and a fresh book. With document 02, K2: its modes; K3: its kept needs; K7: what
+-- government securities count for.
 use mathlib.Core.Bool.{Bool, true, false, _&&_}
 use mathlib.Core.List.{List, _∷_}
 use Prim.Native.Nat.{ℕ, _+_, _-_, _/_}
@@ -76,27 +76,37 @@ counted New face = face - (face + 9) / 10
 
 -- "Collateral becomes cash, fixed deposits, guarantees and pledged, plus allocated government securities less a tenth"; by the old rule it is
 -- document 01's "the sum of the four allocated amounts and pledged"
-abbrev pub collateral : Rule → Row → ℕ
-collateral rule r = r .allocated .cash + r .allocated .deposits + r .allocated .guarantees + r .pledged + counted rule (r .allocated .securities)
+abbrev pub collateralBy : Rule → Row → ℕ
+collateralBy rule r = r .allocated .cash + r .allocated .deposits + r .allocated .guarantees + r .pledged + counted rule (r .allocated .securities)
 
 -- what needs and the close-out see of a row
-abbrev pub accountOf : Rule → Row → Account
-accountOf rule r = record { sort = r .sort; tm = r .tm; margin = r .margin; collateral = collateral rule r }
+abbrev pub accountBy : Rule → Row → Account
+accountBy rule r = record { sort = r .sort; tm = r .tm; margin = r .margin; collateral = collateralBy rule r }
 
 -- a book as needs and the close-out see it
-abbrev pub view : Book → View
-view b = record {
+abbrev pub viewBy : Rule → Book → View
+viewBy rule b = record {
   count = b .count;
   sort = λ i. rowAt b i .sort;
   tm = λ i. rowAt b i .tm;
-  collateral = λ i. collateral (b .rule) (rowAt b i);
+  collateral = λ i. collateralBy rule (rowAt b i);
   margin = λ i. rowAt b i .margin;
 }
+
+-- by the new rule, which all calls go by; the old one serves a book that is taken over
+abbrev pub collateral : Row → ℕ
+collateral r = collateralBy New r
+
+abbrev pub accountOf : Row → Account
+accountOf r = accountBy New r
+
+abbrev pub view : Book → View
+view b = viewBy New b
 
 -- "number 0 is the CM and is there from the start, live. In a fresh book it is the only account and all amounts are 0.";
 -- "the next serial, 0 at first"; a mode is "off at first"; where all amounts are 0 so are the needs
 unfoldable pub freshBook : Book
-freshBook = record { rule = New; count = 1; serial = 0; rows = openedRow 0 0 ∷ replicate 255 noRow; modes = replicate 256 false; needs = replicate 256 0 }
+freshBook = record { count = 1; serial = 0; rows = openedRow 0 0 ∷ replicate 255 noRow; modes = replicate 256 false; needs = replicate 256 0 }
 
 -- A row with one of its words put anew.
 abbrev pub withLive : Row → Bool → Row
@@ -114,29 +124,25 @@ withPledged r x = record { sort = r .sort; live = r .live; tm = r .tm; received 
 abbrev pub withMargin : Row → ℕ → Row
 withMargin r x = record { sort = r .sort; live = r .live; tm = r .tm; received = r .received; allocated = r .allocated; pledged = r .pledged; margin = x }
 
--- the same book, judged by this rule (K7)
-abbrev pub byRule : Rule → Book → Book
-byRule rule b = record { rule = rule; count = b .count; serial = b .serial; rows = b .rows; modes = b .modes; needs = b .needs }
-
 -- the book with row i put anew
 abbrev pub withRow : Book → ℕ → Row → Book
-withRow b i r = record { rule = b .rule; count = b .count; serial = b .serial; rows = set (b .rows) i r; modes = b .modes; needs = b .needs }
+withRow b i r = record { count = b .count; serial = b .serial; rows = set (b .rows) i r; modes = b .modes; needs = b .needs }
 
 -- the book with another next serial
 abbrev pub withSerial : Book → ℕ → Book
-withSerial b n = record { rule = b .rule; count = b .count; serial = n; rows = b .rows; modes = b .modes; needs = b .needs }
+withSerial b n = record { count = b .count; serial = n; rows = b .rows; modes = b .modes; needs = b .needs }
 
 -- the book with other modes
 abbrev pub withModes : Book → List Bool → Book
-withModes b modes = record { rule = b .rule; count = b .count; serial = b .serial; rows = b .rows; modes = modes; needs = b .needs }
+withModes b modes = record { count = b .count; serial = b .serial; rows = b .rows; modes = modes; needs = b .needs }
 
 -- the book with other kept needs
 abbrev pub withNeeds : Book → List ℕ → Book
-withNeeds b needs = record { rule = b .rule; count = b .count; serial = b .serial; rows = b .rows; modes = b .modes; needs = needs }
+withNeeds b needs = record { count = b .count; serial = b .serial; rows = b .rows; modes = b .modes; needs = needs }
 
 -- the book with one account more
 abbrev pub withNew : Book → Row → Book
-withNew b r = record { rule = b .rule; count = b .count + 1; serial = b .serial; rows = set (b .rows) (b .count) r; modes = b .modes; needs = b .needs }
+withNew b r = record { count = b .count + 1; serial = b .serial; rows = set (b .rows) (b .count) r; modes = b .modes; needs = b .needs }
 
 -- the account's number was given, and it is live
 abbrev pub isLive : Book → ℕ → Bool

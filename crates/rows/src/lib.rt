@@ -34,16 +34,14 @@ pub struct Account {
     pub collateral: u64,
 }
 
-// The rule by which government securities count as collateral (K7): in full, or less a tenth.
+// The rule by which government securities count as collateral: in full, or, since K7, less a tenth. A book is judged by the old one only where it is taken over.
 pub enum Rule {
     Old,
     New,
 }
 
-// A book as it is judged: `rule` is the rule that it is under. A table carries none.
 // `modes` says of each place whether its account is in risk reduction mode (K2); `needs` has the CM's and each TM's need at its place (K3).
 pub struct Book {
-    pub rule: Rule,
     pub count: u16,
     pub serial: u16,
     pub rows: [Row; 256],

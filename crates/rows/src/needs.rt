@@ -46,23 +46,23 @@ pub fn counted_of(s: u64, rule: Rule) -> u64
     }
 }
 
-pub fn collateral_of(r: Row, rule: Rule) -> u64
+pub fn collateral_of(r: Row) -> u64
     requires { ⌜ InRange r ⌝ }
-    ensures { λ x. ⌜ x ≡ collateral rule r ⌝ }
+    ensures { λ x. ⌜ x ≡ collateral r ⌝ }
 {
     let a = r.allocated;
-    a.cash + a.deposits + a.guarantees + r.pledged + counted_of(a.securities, rule)
+    a.cash + a.deposits + a.guarantees + r.pledged + counted_of(a.securities, Rule::New)
 }
 
-pub fn account_of(r: Row, rule: Rule) -> Account
+pub fn account_of(r: Row) -> Account
     requires { ⌜ InRange r ⌝ }
-    ensures { λ x. ⌜ x ≡ accountOf rule r ⌝ }
+    ensures { λ x. ⌜ x ≡ accountOf r ⌝ }
 {
     Account {
         sort: r.sort,
         tm: r.tm,
         margin: r.margin,
-        collateral: collateral_of(r, rule),
+        collateral: collateral_of(r),
     }
 }
 

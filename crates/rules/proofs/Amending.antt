@@ -37,6 +37,14 @@ module _ (row : Row) (r : Record) where
   unfolding amended pick
   by-margin e = rw e
 
+  pub by-set-pledged : r .code ≡ 12 → amended row r ≡ withPledged row (r .pledged)
+  unfolding amended pick
+  by-set-pledged e = rw e
+
+  pub by-set-margin : r .code ≡ 13 → amended row r ≡ withMargin row (r .margin)
+  unfolding amended pick
+  by-set-margin e = rw e
+
   pub by-retire : r .code ≡ 11 → amended row r ≡ withLive row false
   unfolding amended pick
   by-retire e = rw e

@@ -1,4 +1,4 @@
--- A known code is one of eleven: proofs go by cases over `Code`.
+-- A known code is one of thirteen: proofs go by cases over `Code`.
 use mathlib.Core.Bool.{true}
 use mathlib.Core.Path.{_≡_}
 use Prim.Native.Nat.{ℕ, _≤_}
@@ -22,20 +22,30 @@ pub data Code (n : ℕ) : Type 0 where
   unpledge : n ≡ 9 → Code n
   margin : n ≡ 10 → Code n
   retire : n ≡ 11 → Code n
+  setPledged : n ≡ 12 → Code n
+  setMargin : n ≡ 13 → Code n
 
 -- a known code is one of them
 pub known-code-cases : (n : ℕ) → knownCode n ≡ true → Code n
 known-code-cases n e = at₁ (ℕ-discrete n 1)
   where
     low : 1 ≤ n
-    low = leb-true 1 n (and-split (leb 1 n) (leb n 11) e .0)
+    low = leb-true 1 n (and-split (leb 1 n) (leb n 13) e .0)
 
-    high : n ≤ 11
-    high = leb-true n 11 (and-split (leb 1 n) (leb n 11) e .1)
+    high : n ≤ 13
+    high = leb-true n 13 (and-split (leb 1 n) (leb n 13) e .1)
+
+    at₁₂ : 12 ≤ n → Dec (n ≡ 12) → Code n
+    at₁₂ h (yes q) = setPledged q
+    at₁₂ h (no q) = setMargin (omega (arith, high))
+
+    at₁₁ : 11 ≤ n → Dec (n ≡ 11) → Code n
+    at₁₁ h (yes q) = retire q
+    at₁₁ h (no q) = at₁₂ (omega arith) (ℕ-discrete n 12)
 
     at₁₀ : 10 ≤ n → Dec (n ≡ 10) → Code n
     at₁₀ h (yes q) = margin q
-    at₁₀ h (no q) = retire (omega (arith, high))
+    at₁₀ h (no q) = at₁₁ (omega arith) (ℕ-discrete n 11)
 
     at₉ : 9 ≤ n → Dec (n ≡ 9) → Code n
     at₉ h (yes q) = unpledge q

@@ -34,7 +34,7 @@ module _ (b : Book) (r : Record) where
   -- and those behind it
   abbrev behind : List Line
   behind =
-      (12 when takesBlocked (leftBelow (b .rule) (namedRow b r) (blocked (view b) (r .account)) r) r)
+      (12 when takesBlocked (leftBelow (namedRow b r) (blocked (view b) (r .account)) r) r)
       ∷ (13 when losesCover (namedRow b r) (needPasses (view (newMargin b r))) r)
       ∷ (14 when notRetirable (namedRow b r) (hasLiveClient b (r .account)) r)
       ∷ []

@@ -9,3 +9,4 @@ pub mod Moves
 pub mod HeldByMode
 pub mod Falls
 pub mod ModesAside
+pub mod Shortfalls

@@ -51,19 +51,19 @@ left-zero : (n : ℕ) → 0 + n ≡ n
 left-zero n = omega arith
 
 -- a new margin leaves the CM's collateral as it was
-same-collateral : (b : Book) (r : Record) → Sound b → r .account < b .count → collateral (b .rule) (rowAt (newMargin b r) 0) ≡ collateral (b .rule) (rowAt b 0)
+same-collateral : (b : Book) (r : Record) → Sound b → r .account < b .count → collateral (rowAt (newMargin b r) 0) ≡ collateral (rowAt b 0)
 same-collateral b r s l =
-    at-all (λ j x y. collateral (b .rule) x ≡ collateral (b .rule) y) b (r .account) (withMargin (namedRow b r) (r .margin)) (in-table b s (r .account) l) refl (λ j. refl) 0
+    at-all (λ j x y. collateral x ≡ collateral y) b (r .account) (withMargin (namedRow b r) (r .margin)) (in-table b s (r .account) l) refl (λ j. refl) 0
 
 module _ (b : Book) (s : Sound b) (under : List ℕ) (h : DeemedUnder (view b) under) (r : Record) (p : ℕ) (sl : Slot (namedRow b r .tm) p) where
   abbrev row : Row
   row = namedRow b r
 
   abbrev a : Account
-  a = accountOf (b .rule) (namedRow b r)
+  a = accountOf (namedRow b r)
 
   abbrev top : Account
-  top = accountOf (b .rule) (rowAt b 0)
+  top = accountOf (rowAt b 0)
 
   top-margin : r .account < b .count → topMargin a top (r .margin) ≡ rowAt (newMargin b r) 0 .margin
   top-margin l = by (sort-of (view b) (s .shaped) (r .account) l)
@@ -87,35 +87,35 @@ module _ (b : Book) (s : Sound b) (under : List ℕ) (h : DeemedUnder (view b) u
       by (cp q c) = left-there (λ e. omega arith) ∙ sym (other q)
 
   abbrev y : ℕ → ℕ
-  y m = deemedUnderCM a (atMargin a m) (getD under (r .account) 0) (accountOf (b .rule) (rowAt b p)) (getD under p 0) (getD under 0 0)
+  y m = deemedUnderCM a (atMargin a m) (getD under (r .account) 0) (accountOf (rowAt b p)) (getD under p 0) (getD under 0 0)
 
   changed : r .account < b .count → RowChanged (view b) (view (newMargin b r)) (r .account)
   changed l = row-changed b (r .account) (withMargin row (r .margin)) (in-table b s (r .account) l) l refl refl
 
   is-new : r .account < b .count → accountAt (view (newMargin b r)) (r .account) ≡ atMargin a (r .margin)
-  is-new l = ap (accountOf (b .rule)) (row-same b (r .account) (withMargin row (r .margin)) (in-table b s (r .account) l))
+  is-new l = ap accountOf (row-same b (r .account) (withMargin row (r .margin)) (in-table b s (r .account) l))
 
   need-after : r .account < b .count → needCM (view (newMargin b r)) ≡ rowAt (newMargin b r) 0 .margin + y (r .margin)
   need-after l =
       cm-after (view b) (view (newMargin b r)) (r .account) (changed l) (s .shaped) (s .no-tm) (s .most) under h p sl
-      ∙ ap (λ x. rowAt (newMargin b r) 0 .margin + deemedUnderCM a x (getD under (r .account) 0) (accountOf (b .rule) (rowAt b p)) (getD under p 0) (getD under 0 0)) (is-new l)
+      ∙ ap (λ x. rowAt (newMargin b r) 0 .margin + deemedUnderCM a x (getD under (r .account) 0) (accountOf (rowAt b p)) (getD under p 0) (getD under 0 0)) (is-new l)
 
   covers : r .account < b .count → r .margin ≤ ceiling
-      → ltb (collateral (b .rule) (rowAt b 0)) (topMargin a top (blockedOf (r .margin) ceiling) + y (blockedOf (r .margin) ceiling))
+      → ltb (collateral (rowAt b 0)) (topMargin a top (blockedOf (r .margin) ceiling) + y (blockedOf (r .margin) ceiling))
       ≡ needPasses (view (newMargin b r))
   covers l m =
       let e : blockedOf (r .margin) ceiling ≡ r .margin = omega arith in
-      ap (λ z. ltb (collateral (b .rule) (rowAt b 0)) (topMargin a top z + y z)) e
-      ∙ ap (λ z. ltb (collateral (b .rule) (rowAt b 0)) (z + y (r .margin))) (top-margin l)
-      ∙ ap (ltb (collateral (b .rule) (rowAt b 0))) (sym (need-after l))
+      ap (λ z. ltb (collateral (rowAt b 0)) (topMargin a top z + y z)) e
+      ∙ ap (λ z. ltb (collateral (rowAt b 0)) (z + y (r .margin))) (top-margin l)
+      ∙ ap (ltb (collateral (rowAt b 0))) (sym (need-after l))
       ∙ ap (λ z. ltb z (needCM (view (newMargin b r)))) (sym (same-collateral b r s l))
 
-  below : r .account < b .count → ltb (collateral (b .rule) (takenOut row r)) (blockedOf (row .margin + getD under (r .account) 0) (collateral (b .rule) row))
-      ≡ leftBelow (b .rule) row (blocked (view b) (r .account)) r
-  below l = sym (ap (λ n. ltb (collateral (b .rule) (takenOut row r)) (blockedOf n (collateral (b .rule) row))) (h .each (r .account) l))
+  below : r .account < b .count → ltb (collateral (takenOut row r)) (blockedOf (row .margin + getD under (r .account) 0) (collateral row))
+      ≡ leftBelow row (blocked (view b) (r .account)) r
+  below l = sym (ap (λ n. ltb (collateral (takenOut row r)) (blockedOf n (collateral row))) (h .each (r .account) l))
 
   pub beside-by-deemed : (t : Bool) → (r .code ≡ 11 → t ≡ hasLiveClient b (r .account))
-      → IsBeside b r (besideBy (modeAt b (r .account)) (collateral (b .rule) (takenOut row r)) a (getD under (r .account) 0) (accountOf (b .rule) (rowAt b p)) (getD under p 0) top (getD under 0 0) t r)
+      → IsBeside b r (besideBy (modeAt b (r .account)) (collateral (takenOut row r)) a (getD under (r .account) 0) (accountOf (rowAt b p)) (getD under p 0) top (getD under 0 0) t r)
   beside-by-deemed t k = record {
     mode-kinds = λ e l. refl;
     mode-pledge = λ e l. refl;
@@ -134,7 +134,7 @@ picks P false x y a b = b
 pub amended-same : (row : Row) (r : Record) → (amended row r .sort ≡ row .sort) × (amended row r .tm ≡ row .tm)
 unfolding amended
 amended-same row r =
-    on 4 _ _ (refl, refl) (on 5 _ _ (refl, refl) (on 6 _ _ (refl, refl) (on 7 _ _ (refl, refl) (on 8 _ _ (refl, refl) (on 9 _ _ (refl, refl) (on 10 _ _ (refl, refl) (refl, refl)))))))
+    on 4 _ _ (refl, refl) (on 5 _ _ (refl, refl) (on 6 _ _ (refl, refl) (on 7 _ _ (refl, refl) (on 8 _ _ (refl, refl) (on 9 _ _ (refl, refl) (on 10 _ _ (refl, refl) (on 12 _ _ (refl, refl) (on 13 _ _ (refl, refl) (refl, refl)))))))))
   where
     on : (n : ℕ) (x y : Row) → (x .sort ≡ row .sort) × (x .tm ≡ row .tm) → (y .sort ≡ row .sort) × (y .tm ≡ row .tm)
         → (pick (eqb (r .code) n) x y .sort ≡ row .sort) × (pick (eqb (r .code) n) x y .tm ≡ row .tm)
@@ -157,12 +157,12 @@ module _ (b : Book) (r : Record) (x : Row) (s : Sound b) (e : changeOf b r ≡ P
   -- what is deemed under each account, and in tenths its excess
   pub put-deemed : (tenths : Bool) (under : List ℕ) → DeemedUnder (viewAs tenths (view b)) under → (p : ℕ) → Slot (namedRow b r .tm) p
       → DeemedUnder (viewAs tenths (view (withRow b (r .account) x)))
-      (set (set under p (deemedUnderTM (accountAs tenths (accountOf (b .rule) (namedRow b r))) (accountAs tenths (accountOf (b .rule) x)) (getD under p 0))) 0
-      (deemedUnderCM (accountAs tenths (accountOf (b .rule) (namedRow b r))) (accountAs tenths (accountOf (b .rule) x)) (getD under (r .account) 0) (accountAs tenths (accountOf (b .rule) (rowAt b p))) (getD under p 0) (getD under 0 0)))
+      (set (set under p (deemedUnderTM (accountAs tenths (accountOf (namedRow b r))) (accountAs tenths (accountOf x)) (getD under p 0))) 0
+      (deemedUnderCM (accountAs tenths (accountOf (namedRow b r))) (accountAs tenths (accountOf x)) (getD under (r .account) 0) (accountAs tenths (accountOf (rowAt b p))) (getD under p 0) (getD under 0 0)))
   put-deemed tenths under h p sl =
-      let is-new : accountAt (view (withRow b (r .account) x)) (r .account) ≡ accountOf (b .rule) x = ap (accountOf (b .rule)) (row-same b (r .account) x there) in
-      subst (λ (y : Account). DeemedUnder (viewAs tenths (view (withRow b (r .account) x))) (set (set under p (deemedUnderTM (accountAs tenths (accountOf (b .rule) (namedRow b r))) (accountAs tenths y) (getD under p 0))) 0
-      (deemedUnderCM (accountAs tenths (accountOf (b .rule) (namedRow b r))) (accountAs tenths y) (getD under (r .account) 0) (accountAs tenths (accountOf (b .rule) (rowAt b p))) (getD under p 0) (getD under 0 0)))) is-new
+      let is-new : accountAt (view (withRow b (r .account) x)) (r .account) ≡ accountOf x = ap accountOf (row-same b (r .account) x there) in
+      subst (λ (y : Account). DeemedUnder (viewAs tenths (view (withRow b (r .account) x))) (set (set under p (deemedUnderTM (accountAs tenths (accountOf (namedRow b r))) (accountAs tenths y) (getD under p 0))) 0
+      (deemedUnderCM (accountAs tenths (accountOf (namedRow b r))) (accountAs tenths y) (getD under (r .account) 0) (accountAs tenths (accountOf (rowAt b p))) (getD under p 0) (getD under 0 0)))) is-new
       (under-put (viewAs tenths (view b)) (viewAs tenths (view (withRow b (r .account) x))) (r .account) (changed-in tenths moved) (shaped-in tenths (s .shaped)) (s .no-tm) (s .most) under h p sl)
 
   -- K2: a look after it moves three places of a look before it
@@ -182,10 +182,10 @@ module _ (b : Book) (r : Record) (x : Row) (s : Sound b) (e : changeOf b r ≡ P
     w = view (withRow b (r .account) x)
 
     abbrev tm′ : ℕ
-    tm′ = deemedUnderTM (accountOf (b .rule) (namedRow b r)) (accountOf (b .rule) x) (getD under p 0)
+    tm′ = deemedUnderTM (accountOf (namedRow b r)) (accountOf x) (getD under p 0)
 
     abbrev cm′ : ℕ
-    cm′ = deemedUnderCM (accountOf (b .rule) (namedRow b r)) (accountOf (b .rule) x) (getD under (r .account) 0) (accountOf (b .rule) (rowAt b p)) (getD under p 0) (getD under 0 0)
+    cm′ = deemedUnderCM (accountOf (namedRow b r)) (accountOf x) (getD under (r .account) 0) (accountOf (rowAt b p)) (getD under p 0) (getD under 0 0)
 
     abbrev under′ : List ℕ
     under′ = set (set under p tm′) 0 cm′
@@ -210,24 +210,24 @@ module _ (b : Book) (r : Record) (x : Row) (s : Sound b) (e : changeOf b r ≡ P
             (omega (arith, t, q), omega (arith, t, q, inside))
         by (no c) = let z = s .no-tm (r .account) inside c in absurd (n (sl .named (omega (arith, z)) ∙ z))
 
-    own-is : (r .account ≡ p → ⊥) → (r .account ≡ 0 → ⊥) → needToKeep (accountOf (b .rule) x) (getD under (r .account) 0) ≡ keptNeed w (r .account)
+    own-is : (r .account ≡ p → ⊥) → (r .account ≡ 0 → ⊥) → needToKeep (accountOf x) (getD under (r .account) 0) ≡ keptNeed w (r .account)
     own-is q n =
         sym (kept-by w shaped′ under′ then (r .account) n inside
-        ∙ ap (λ a. needToKeep a (getD under′ (r .account) 0)) (ap (accountOf (b .rule)) (row-same b (r .account) x there))
-        ∙ ap (needToKeep (accountOf (b .rule) x)) (getD-set-other (set under p tm′) 0 (r .account) cm′ 0 n ∙ getD-set-other under p (r .account) tm′ 0 q))
+        ∙ ap (λ a. needToKeep a (getD under′ (r .account) 0)) (ap accountOf (row-same b (r .account) x there))
+        ∙ ap (needToKeep (accountOf x)) (getD-set-other (set under p tm′) 0 (r .account) cm′ 0 n ∙ getD-set-other under p (r .account) tm′ 0 q))
 
-    its-is : (p ≡ 0 → ⊥) → needToKeep (accountOf (b .rule) (rowAt b p)) tm′ ≡ keptNeed w p
+    its-is : (p ≡ 0 → ⊥) → needToKeep (accountOf (rowAt b p)) tm′ ≡ keptNeed w p
     its-is n =
         let c = client-of-p n in
         sym (kept-by w shaped′ under′ then p n (c .1)
-        ∙ ap (λ a. needToKeep a (getD under′ p 0)) (ap (accountOf (b .rule)) (row-other b (r .account) p x (λ q. omega (arith, c .0))))
-        ∙ ap (needToKeep (accountOf (b .rule) (rowAt b p))) (getD-set-other (set under p tm′) 0 p cm′ 0 n ∙ getD-set-same under p tm′ 0 (omega (arith, h .size, sl .inside))))
+        ∙ ap (λ a. needToKeep a (getD under′ p 0)) (ap accountOf (row-other b (r .account) p x (λ q. omega (arith, c .0))))
+        ∙ ap (needToKeep (accountOf (rowAt b p))) (getD-set-other (set under p tm′) 0 p cm′ 0 n ∙ getD-set-same under p tm′ 0 (omega (arith, h .size, sl .inside))))
 
     top-is : rowAt (withRow b (r .account) x) 0 .margin + cm′ ≡ keptNeed w 0
     top-is =
         sym (kept-top w shaped′ under′ then ∙ ap (λ n. rowAt (withRow b (r .account) x) 0 .margin + n) (getD-set-same (set under p tm′) 0 cm′ 0 (omega (arith, long-TM))))
 
-    pub put-needs : set (set (set needs (r .account) (needToKeep (accountOf (b .rule) x) (getD under (r .account) 0))) p (needToKeep (accountOf (b .rule) (rowAt b p)) tm′)) 0
+    pub put-needs : set (set (set needs (r .account) (needToKeep (accountOf x) (getD under (r .account) 0))) p (needToKeep (accountOf (rowAt b p)) tm′)) 0
         (rowAt (withRow b (r .account) x) 0 .margin + cm′) ≡ needsAfresh w
     put-needs = needs-put (view b) w (r .account) moved (s .shaped) (s .most) p sl needs long kept _ _ _ own-is its-is top-is
 
@@ -245,7 +245,7 @@ module _ (b : Book) (r : Record) (x : Row) (s : Sound b) (e : changeOf b r ≡ O
       rw (opened-new b x room) at (after .shaped .tms (b .count) (omega arith) (ap (λ z. z .sort) (opened-new b x room) ∙ q)) in
       (t .0, ap (λ z. z .sort) (sym (opened-below b x room (x .tm) (t .0))) ∙ t .1)
 
-  opened : Opened (view b) (view (withNew b x))
+  pub opened : Opened (view b) (view (withNew b x))
   opened =
       row-opened b x room (ap (λ z. z .margin) (made-open b r x e))
       (rw (opened-new b x room) at (after .shaped .sorts (b .count) (s .shaped .some) (omega arith))) its-tm

@@ -33,7 +33,7 @@ pub record Passes (b : Book) (r : Record) : Type 0 where
   pub capped : pastCeiling (namedRow b r) r ≡ false
   pub enough : tooMuch (namedRow b r) r ≡ false
   pub notHeld : heldByMode (modeAt b (r .account)) r ≡ false
-  pub notBlocked : takesBlocked (leftBelow (b .rule) (namedRow b r) (blocked (view b) (r .account)) r) r ≡ false
+  pub notBlocked : takesBlocked (leftBelow (namedRow b r) (blocked (view b) (r .account)) r) r ≡ false
   pub covered : losesCover (namedRow b r) (needPasses (view (newMargin b r))) r ≡ false
   pub retirable : notRetirable (namedRow b r) (hasLiveClient b (r .account)) r ≡ false
 
@@ -49,7 +49,7 @@ passes-all b r e =
     let f₁₀ = first-fails 10 (pastCeiling (namedRow b r) r) _ (omega arith) (f₉ .1) in
     let f₁₁ = first-fails 11 (tooMuch (namedRow b r) r) _ (omega arith) (f₁₀ .1) in
     let f₁₇ = first-fails 17 (heldByMode (modeAt b (r .account)) r) _ (omega arith) (f₁₁ .1) in
-    let f₁₂ = first-fails 12 (takesBlocked (leftBelow (b .rule) (namedRow b r) (blocked (view b) (r .account)) r) r) _ (omega arith) (f₁₇ .1) in
+    let f₁₂ = first-fails 12 (takesBlocked (leftBelow (namedRow b r) (blocked (view b) (r .account)) r) r) _ (omega arith) (f₁₇ .1) in
     let f₁₃ = first-fails 13 (losesCover (namedRow b r) (needPasses (view (newMargin b r))) r) _ (omega arith) (f₁₂ .1) in
     let f₁₄ = first-fails 14 (notRetirable (namedRow b r) (hasLiveClient b (r .account)) r) _ (omega arith) (f₁₃ .1) in
     let there = and-split (ltb (r .account) (b .count)) (namedRow b r .live) (not-false _ (f₇ .0)) in

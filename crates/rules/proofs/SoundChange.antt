@@ -11,13 +11,12 @@ use Rattle.sums.specs.Choice.{pick, unlessRefused}
 use Rattle.sums.proofs.Choices.{or-fails, pick-yes, pick-no}
 use Rattle.rows.specs.declared.Row.{Row}
 use Rattle.rows.specs.declared.Book.{Book}
-use Rattle.rows.specs.View.{blocked}
 use Rattle.rows.specs.Facts.{KindsWithin}
-use Rattle.rows.specs.Rows.{placeOf, ceiling, collateral, view, openedRow, withAllocated, withPledged, withRow, withNew, plusKinds, lessKinds, hasLiveClient}
+use Rattle.rows.specs.Rows.{placeOf, ceiling, openedRow, withRow, withNew, plusKinds, lessKinds, hasLiveClient}
 use Rattle.rows.specs.Ranges.{kindsCapped, kindsWithin, noAmounts}
 use Rattle.book.specs.Facts.{SoundRows, Sound}
 use Rattle.book.proofs.RowFacts.{within→, capped→}
-use Rattle.book.proofs.SoundAfter.{serial-rows, serial-sound, receive-sound, hand-back-sound, allocate-sound, release-sound, pledge-sound, unpledge-sound, margin-sound, margin-falls, retire-sound, open-sound}
+use Rattle.book.proofs.SoundAfter.{serial-rows, serial-sound, receive-sound, hand-back-sound, allocate-sound, release-sound, pledge-sound, unpledge-sound, set-pledged-sound, margin-sound, retire-sound, open-sound}
 use Rattle.book.proofs.LiveClients.{no-live-client}
 use Rattle.book.proofs.Settled.{sound-rows, settled-sound}
 use Rattle.dayfile.specs.declared.Record.{Record}
@@ -26,9 +25,9 @@ use Rattle.rules.specs.declared.Change.the-variants.{Refuse, Put, Open}
 use Rattle.rules.specs.Refusals.{isOpening, namedRow, takenOut, leftBelow, needPasses, newMargin, refusalOf}
 use Rattle.rules.specs.Effects.{amended, effectOf, changeOf, nextSerial, movedOn, changedBy, bookAfter}
 use Rattle.rules.proofs.Faults.{amounts-in}
-use Rattle.rules.proofs.Codes.{Code, openTM, openClient, openCP, receive, handBack, allocate, release, pledge, unpledge, margin, retire, known-code-cases}
+use Rattle.rules.proofs.Codes.{Code, openTM, openClient, openCP, receive, handBack, allocate, release, pledge, unpledge, margin, retire, setPledged, setMargin, known-code-cases}
 use Rattle.rules.proofs.Passing.{Passes, passes-all}
-use Rattle.rules.proofs.Amending.{by-receive, by-hand-back, by-allocate, by-release, by-pledge, by-unpledge, by-margin, by-retire}
+use Rattle.rules.proofs.Amending.{by-receive, by-hand-back, by-allocate, by-release, by-pledge, by-unpledge, by-margin, by-set-pledged, by-set-margin, by-retire}
 
 -- the book after a change, its serial not yet moved on
 abbrev rowsAfter : Book → Record → Change → Book
@@ -82,19 +81,11 @@ module _ (b : Book) (r : Record) (p : Passes b r) where
       put _ (by-allocate row r e)
       (allocate-sound b (p .sound) (r .account) (p .account) (p .live) (r .kinds) (left-enough (inr e)))
 
-  -- a release and an unpledge leave what was blocked
-  left-above : (r .code ≡ 7) ⊎ (r .code ≡ 9) → leftBelow (b .rule) row (blocked (view b) (r .account)) r ≡ false
-  left-above (inl e) = ap (λ n. (eqb n 7 || eqb n 9) && leftBelow (b .rule) row (blocked (view b) (r .account)) r) (sym e) ∙ p .notBlocked
-  left-above (inr e) = ap (λ n. (eqb n 7 || eqb n 9) && leftBelow (b .rule) row (blocked (view b) (r .account)) r) (sym e) ∙ p .notBlocked
-
   releases : r .code ≡ 7 → SoundRows (withRow b (r .account) (amended row r))
   releases e =
       let h : (not (kindsWithin (r .kinds) (row .allocated)) || false) ≡ false = rw e at (p .enough) in
-      let f : ltb (collateral (b .rule) (takenOut row r)) (blocked (view b) (r .account)) ≡ false = left-above (inl e) in
-      let is : takenOut row r ≡ withAllocated row (lessKinds (row .allocated) (r .kinds)) = pick-yes _ _ _ (eq-eqb _ _ e) in
       put _ (by-release row r e)
-      (release-sound b (p .sound) (r .account) (p .account) (p .live) (r .kinds) (within→ _ _ (not-false _ (or-fails _ _ h .0)))
-      (subst (λ x. blocked (view b) (r .account) ≤ collateral (b .rule) x) is (ltb-false _ _ f)))
+      (release-sound b (p .sound) (r .account) (p .account) (p .live) (r .kinds) (within→ _ _ (not-false _ (or-fails _ _ h .0))))
 
   pledges : r .code ≡ 8 → SoundRows (withRow b (r .account) (amended row r))
   pledges e =
@@ -104,21 +95,14 @@ module _ (b : Book) (r : Record) (p : Passes b r) where
   unpledges : r .code ≡ 9 → SoundRows (withRow b (r .account) (amended row r))
   unpledges e =
       let h : ltb (row .pledged) (r .pledged) ≡ false = rw e at (p .enough) in
-      let f : ltb (collateral (b .rule) (takenOut row r)) (blocked (view b) (r .account)) ≡ false = left-above (inr e) in
-      let is : takenOut row r ≡ withPledged row (row .pledged - r .pledged) = pick-no _ _ _ (rw e) in
-      put _ (by-unpledge row r e)
-      (unpledge-sound b (p .sound) (r .account) (p .account) (p .live) (r .pledged) (ltb-false _ _ h)
-      (subst (λ x. blocked (view b) (r .account) ≤ collateral (b .rule) x) is (ltb-false _ _ f)))
+      put _ (by-unpledge row r e) (unpledge-sound b (p .sound) (r .account) (p .account) (p .live) (r .pledged) (ltb-false _ _ h))
 
-  sets-margin : r .code ≡ 10 → SoundRows (withRow b (r .account) (amended row r))
-  sets-margin e = put _ (by-margin row r e) (by (ltb (row .margin) (r .margin)) refl)
-    where
-      -- a rising margin passed 13, and another lowers no cover
-      by : (t : Bool) → ltb (row .margin) (r .margin) ≡ t → SoundRows (newMargin b r)
-      by true q =
-          let h : needPasses (view (newMargin b r)) ≡ false = rw (e, q) at (p .covered) in
-          margin-sound b (p .sound) (r .account) (p .account) (p .live) (r .margin) (amounts-in r (p .good) .margin) (ltb-false _ _ h)
-      by false q = margin-falls b (p .sound) (r .account) (p .account) (p .live) (r .margin) (ltb-false _ _ q)
+  sets-margin : (r .code ≡ 10) ⊎ (r .code ≡ 13) → SoundRows (withRow b (r .account) (amended row r))
+  sets-margin (inl e) = put _ (by-margin row r e) (margin-sound b (p .sound) (r .account) (p .account) (p .live) (r .margin) (amounts-in r (p .good) .margin))
+  sets-margin (inr e) = put _ (by-set-margin row r e) (margin-sound b (p .sound) (r .account) (p .account) (p .live) (r .margin) (amounts-in r (p .good) .margin))
+
+  sets-pledged : r .code ≡ 12 → SoundRows (withRow b (r .account) (amended row r))
+  sets-pledged e = put _ (by-set-pledged row r e) (set-pledged-sound b (p .sound) (r .account) (p .account) (p .live) (r .pledged) (amounts-in r (p .good) .pledged))
 
   retires : r .code ≡ 11 → SoundRows (withRow b (r .account) (amended row r))
   retires e =
@@ -171,8 +155,10 @@ module _ (b : Book) (r : Record) (p : Passes b r) where
       by (release e) = putting (rw e) (releases e)
       by (pledge e) = putting (rw e) (pledges e)
       by (unpledge e) = putting (rw e) (unpledges e)
-      by (margin e) = putting (rw e) (sets-margin e)
+      by (margin e) = putting (rw e) (sets-margin (inl e))
       by (retire e) = putting (rw e) (retires e)
+      by (setPledged e) = putting (rw e) (sets-pledged e)
+      by (setMargin e) = putting (rw e) (sets-margin (inr e))
 
 -- a change leaves sound rows where those after it are
 moved-rows : (b : Book) (r : Record) (c : Change) → SoundRows b → SoundRows (rowsAfter b r c) → SoundRows (changedBy b (r .account) c)

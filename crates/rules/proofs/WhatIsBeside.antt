@@ -42,7 +42,7 @@ below-same = mode-same
 
 -- whether a release or unpledge would leave less than was blocked
 abbrev belowIn : Book → Record → Bool
-belowIn b r = leftBelow (b .rule) (namedRow b r) (blocked (view b) (r .account)) r
+belowIn b r = leftBelow (namedRow b r) (blocked (view b) (r .account)) r
 
 -- what there is to see
 abbrev pub besideOf : Book → Record → Beside

@@ -13,7 +13,7 @@ use Rattle.rules.specs.declared.Change.the-variants.{Refuse, Put, Open}
 use Rattle.rules.specs.Refusals.{isOpening, namedRow, refusalOf}
 
 -- "Receive adds to received; hand back takes from it; allocate adds to allocated; release takes from it." Pledge and
--- unpledge do so to pledged, 10 sets the margin, and 11 retires.
+-- unpledge do so to pledged, 10 sets the margin, and 11 retires. Document 02, K8: "Code 12 .. sets pledged to a new value, code 13 .. sets a margin".
 unfoldable pub amended : Row → Record → Row
 amended row r =
     pick (eqb (r .code) 4) (withReceived row (plusKinds (row .received) (r .kinds)))
@@ -23,7 +23,9 @@ amended row r =
     (pick (eqb (r .code) 8) (withPledged row (row .pledged + r .pledged))
     (pick (eqb (r .code) 9) (withPledged row (row .pledged - r .pledged))
     (pick (eqb (r .code) 10) (withMargin row (r .margin))
-    (withLive row false)))))))  -- 11
+    (pick (eqb (r .code) 12) (withPledged row (r .pledged))
+    (pick (eqb (r .code) 13) (withMargin row (r .margin))
+    (withLive row false)))))))))  -- 11
 
 -- what a record that no refusal meets does, whose account's row stands at a place: an opened row's TM is the account named (0 for a TM
 -- and a CP), told by that place

@@ -57,8 +57,8 @@ changeBy row count serial beside r = unlessRefused (refusalBy row count serial b
 pub record IsBeside (b : Book) (r : Record) (s : Beside) : Type 0 where
   pub mode-kinds : r .code ≡ 7 → r .account < b .count → s .mode ≡ modeAt b (placeOf b (r .account))
   pub mode-pledge : r .code ≡ 9 → r .account < b .count → s .mode ≡ modeAt b (placeOf b (r .account))
-  pub below-kinds : r .code ≡ 7 → r .account < b .count → s .below ≡ leftBelow (b .rule) (namedRow b r) (blocked (view b) (placeOf b (r .account))) r
-  pub below-pledge : r .code ≡ 9 → r .account < b .count → s .below ≡ leftBelow (b .rule) (namedRow b r) (blocked (view b) (placeOf b (r .account))) r
+  pub below-kinds : r .code ≡ 7 → r .account < b .count → s .below ≡ leftBelow (namedRow b r) (blocked (view b) (placeOf b (r .account))) r
+  pub below-pledge : r .code ≡ 9 → r .account < b .count → s .below ≡ leftBelow (namedRow b r) (blocked (view b) (placeOf b (r .account))) r
   pub cover : r .code ≡ 10 → r .account < b .count → r .margin ≤ ceiling → s .passes ≡ needPasses (view (newMargin b r))
   pub clients : r .code ≡ 11 → r .account < b .count → s .client ≡ hasLiveClient b (placeOf b (r .account))
 

@@ -6,7 +6,6 @@ use lib.Dec.{leb, ltb, eqb}
 use Rattle.sums.specs.Choice.{pick}
 use Rattle.sums.specs.Table.{Line, _when_, first}
 use Rattle.rows.specs.declared.Row.{Row}
-use Rattle.rows.specs.declared.Rule.{Rule}
 use Rattle.rows.specs.declared.Book.{Book}
 use Rattle.rows.specs.View.{View, needCM, blocked}
 use Rattle.rows.specs.Rows.{ceiling, rowAt, modeAt, placeOf, collateral, view, withRow, withAllocated, withPledged, withMargin, plusKinds, lessKinds, hasLiveClient, isLive}
@@ -59,10 +58,10 @@ abbrev pub takenOut : Row → Record → Row
 takenOut row r = pick (eqb (r .code) 7) (withAllocated row (lessKinds (row .allocated) (r .kinds))) (withPledged row (row .pledged - r .pledged))
 
 -- Document 02, K7: "the collateral left after a release or unpledge would be below what was blocked", before the record
-abbrev pub leftBelow : Rule → Row → ℕ → Record → Bool
-leftBelow rule row held r = ltb (collateral rule (takenOut row r)) held
+abbrev pub leftBelow : Row → ℕ → Record → Bool
+leftBelow row held r = ltb (collateral (takenOut row r)) held
 
--- "12 is now given exactly when" that is so; by the old rule it is document 01's 12 (`promises.Haircut.by-the-old-rule-no-answer-moved`)
+-- "12 is now given exactly when" that is so
 abbrev pub takesBlocked : Bool → Record → Bool
 takesBlocked below r = (eqb (r .code) 7 || eqb (r .code) 9) && below
 
@@ -95,7 +94,7 @@ refusals b r =
     ∷ (10 when pastCeiling (namedRow b r) r)
     ∷ (11 when tooMuch (namedRow b r) r)
     ∷ (17 when heldByMode (modeAt b (placeOf b (r .account))) r)
-    ∷ (12 when takesBlocked (leftBelow (b .rule) (namedRow b r) (blocked (view b) (placeOf b (r .account))) r) r)
+    ∷ (12 when takesBlocked (leftBelow (namedRow b r) (blocked (view b) (placeOf b (r .account))) r) r)
     ∷ (13 when losesCover (namedRow b r) (needPasses (view (newMargin b r))) r)
     ∷ (14 when notRetirable (namedRow b r) (hasLiveClient b (placeOf b (r .account))) r)
     ∷ []))

@@ -4,7 +4,6 @@ ghost use mathlib.Core.Path.{_≡_};
 ghost use Prim.Native.Nat.{_*_, _≤_, _/_};
 ghost use lib.ListN.{length};
 ghost use Rattle.sums.specs.Choice.{pick};
-ghost use Rattle.rows.specs.Rows.{byRule};
 ghost use Rattle.book.specs.Facts.{Sound};
 ghost use Rattle.table.specs.Words.{turnedBack};
 ghost use Rattle.records.specs.Runs.{endedWith, runOf, ranOf};
@@ -13,13 +12,10 @@ ghost use Rattle.records.specs.Inner.{putNumbersFrom};
 ghost use Rattle.run.specs.Over.{overRan};
 pub use records::Closing;
 use records::go;
-use rows::Rule;
 use steps::At;
 pub use table::Table;
 use table::modes::look_all;
 use table::needs::deemed_under;
-
-pub mod by_rule;
 
 // The table after the records, the place reached, why they stopped, and the two counts.
 pub struct Ended {
@@ -31,10 +27,10 @@ pub struct Ended {
 }
 
 // The records of a piece at a sound table.
-fn run(t: Table, piece: &[u8], most: u64, room: &mut [u16], numbered: bool, rule: Rule) -> Ended
-    requires { ⌜ Sound (byRule rule (turnedBack t)) × (numbered ≡ true → 5 * most ≤ length (now room)) ⌝ }
-    ensures { λ r. ⌜ r ≡ overRan (runOf (now (piece .entry)) most (byRule rule (turnedBack t)) 0 0 0) ⌝ }
-    ensures { λ r. ⌜ now (room .exit) ≡ pick numbered (putNumbersFrom (now (piece .entry)) most (byRule rule (turnedBack t)) 0 0 (now (room .entry))) (now (room .entry)) ⌝ }
+fn run(t: Table, piece: &[u8], most: u64, room: &mut [u16], numbered: bool) -> Ended
+    requires { ⌜ Sound (turnedBack t) × (numbered ≡ true → 5 * most ≤ length (now room)) ⌝ }
+    ensures { λ r. ⌜ r ≡ overRan (runOf (now (piece .entry)) most (turnedBack t) 0 0 0) ⌝ }
+    ensures { λ r. ⌜ now (room .exit) ≡ pick numbered (putNumbersFrom (now (piece .entry)) most (turnedBack t) 0 0 (now (room .entry))) (now (room .entry)) ⌝ }
 {
     let mut sort = t.sort;
     let mut live = t.live;
@@ -47,10 +43,9 @@ fn run(t: Table, piece: &[u8], most: u64, room: &mut [u16], numbered: bool, rule
     table::needs::size(needs);
     let count = t.count;
     let mut excess = [0u64; 256];
-    deemed_under(&sort, &tm, &amounts, count, true, &mut excess, rule);
-    let mut modes = look_all(&sort, &tm, &amounts, count, &excess, &was, rule);
+    deemed_under(&sort, &tm, &amounts, count, true, &mut excess);
+    let mut modes = look_all(&sort, &tm, &amounts, count, &excess, &was);
     let first = At {
-        rule,
         count,
         serial: t.serial,
         waiting: true,
@@ -112,7 +107,11 @@ fn unsound(t: Table) -> Ended
 pub fn day(t: Table, piece: &[u8], most: u64) -> Ended
     ensures { λ r. ⌜ r ≡ overRan (ranOf (turnedBack t) (now (piece .entry)) most) ⌝ }
 {
-    by_rule::day(t, piece, most, Rule::New)
+    if !book::is_sound(t) {
+        return unsound(t);
+    }
+    let mut nowhere = [0u16; 1];
+    run(t, piece, most, &mut nowhere, false)
 }
 
 // The same, with each record's numbers put into a lent room, as far as there is room for five of each.
@@ -125,7 +124,7 @@ pub fn day_with_numbers(t: Table, piece: &[u8], most: u64, room: &mut [u16]) -> 
     }
     let fit = room.len() as u64 / 5;
     if most < fit {
-        return run(t, piece, most, room, true, Rule::New);
+        return run(t, piece, most, room, true);
     }
-    run(t, piece, fit, room, true, Rule::New)
+    run(t, piece, fit, room, true)
 }

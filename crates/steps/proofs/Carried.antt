@@ -14,7 +14,6 @@ use Rattle.sums.specs.Sum.{any}
 use Rattle.sums.specs.Table.{_when_, first}
 use Rattle.sums.proofs.Choices.{refused-by, and-split, and-join, test-clash, pick-yes, pick-no}
 use Rattle.sums.proofs.Tables.{first-some, first-none, first-fails, first-clear}
-use Rattle.rows.specs.declared.Rule.{Rule}
 use Rattle.rows.specs.declared.Row.{Row}
 use Rattle.rows.specs.declared.Book.{Book}
 use Rattle.rows.specs.Rows.{rowAt, collateral, accountOf, view, openedRow, hasLiveClient, isLiveClientOf}
@@ -59,13 +58,13 @@ not-opening n e f = by (decLt 3 n)
   where
     by : Dec (3 < n) → 4 ≤ n
     by (yes l) = omega arith
-    by (no l) = test-clash (and-join (and-split (leb 1 n) (leb n 11) e .0) (le-leb n 3 (omega arith))) f
+    by (no l) = test-clash (and-join (and-split (leb 1 n) (leb n 13) e .0) (le-leb n 3 (omega arith))) f
 
-serial-picked : (rule : Rule) (count serial : ℕ) (m : Marks) (w : List ℕ) (modes : List Bool) (needs : List ℕ) (t : Bool)
-    → bookFrom rule count (pick t serial (nextSerial serial)) m w modes needs ≡ pick t (bookFrom rule count serial m w modes needs) (bookFrom rule count (nextSerial serial) m w modes needs)
+serial-picked : (count serial : ℕ) (m : Marks) (w : List ℕ) (modes : List Bool) (needs : List ℕ) (t : Bool)
+    → bookFrom count (pick t serial (nextSerial serial)) m w modes needs ≡ pick t (bookFrom count serial m w modes needs) (bookFrom count (nextSerial serial) m w modes needs)
 unfolding pick
-serial-picked rule count serial m w modes needs true = refl
-serial-picked rule count serial m w modes needs false = refl
+serial-picked count serial m w modes needs true = refl
+serial-picked count serial m w modes needs false = refl
 
 pub opening-not : (r : Record) → 3 < r .code → isOpening r ≡ false
 opening-not r l = rw (lt-leb (r .code) 3 l) (and-none (leb 1 (r .code)))
@@ -74,9 +73,9 @@ opening-not r l = rw (lt-leb (r .code) 3 l) (and-none (leb 1 (r .code)))
     and-none true = refl
     and-none false = refl
 
-module _ (rule : Rule) (count serial : ℕ) (m : Marks) (w : List ℕ) (modes : List Bool) (needs : List ℕ) (h : Ready rule count serial m w modes needs) (r : Record) where
+module _ (count serial : ℕ) (m : Marks) (w : List ℕ) (modes : List Bool) (needs : List ℕ) (h : Ready count serial m w modes needs) (r : Record) where
   abbrev b : Book
-  b = bookFrom rule count serial m w modes needs
+  b = bookFrom count serial m w modes needs
 
   -- what is deemed under each account, by the kept needs
   abbrev under : List ℕ
@@ -182,18 +181,18 @@ module _ (rule : Rule) (count serial : ℕ) (m : Marks) (w : List ℕ) (modes : 
       slot-is = record { inside = tm-low; named = λ o. sym (ap (λ x. x .tm) row-is) }
 
       beside-by : (row its top : Row) → namedRow b r ≡ row → rowAt b p ≡ its → rowAt b 0 ≡ top
-          → IsBeside b r (besideBy on (collateral rule (takenOut row r)) (accountOf rule row) (getD under (r .account) 0) (accountOf rule its) (getD under p 0) (accountOf rule top) (getD under 0 0) (hasLiveClientIn m count (r .account)) r)
+          → IsBeside b r (besideBy on (collateral (takenOut row r)) (accountOf row) (getD under (r .account) 0) (accountOf its) (getD under p 0) (accountOf top) (getD under 0 0) (hasLiveClientIn m count (r .account)) r)
       beside-by row its top er ei et =
           rw (← er, ← ei, ← et) (beside-by-deemed b (h .sound) under deemed-under r p slot-is (hasLiveClientIn m count (r .account)) (λ e. live-client-is))
 
       -- the table past 7, by the words
-      pub decided : refusalOf b r ≡ first (from8 (rowIn m w (r .account)) count (besideIn rule count m w under on r) r)
+      pub decided : refusalOf b r ≡ first (from8 (rowIn m w (r .account)) count (besideIn count m w under on r) r)
       decided =
-          past (besideIn rule count m w under on r) (beside-by _ _ _ row-is (row-in m w p tm-low) (row-in m w 0 (omega arith)))
-          ∙ ap (λ x. first (from8 x count (besideIn rule count m w under on r) r)) row-is
+          past (besideIn count m w under on r) (beside-by _ _ _ row-is (row-in m w p tm-low) (row-in m w 0 (omega arith)))
+          ∙ ap (λ x. first (from8 x count (besideIn count m w under on r) r)) row-is
 
       pub code-opens : r .code ≤ 3 → isOpening r ≡ true
-      code-opens l = and-join (and-split (leb 1 (r .code)) (leb (r .code) 11) (good-record .known) .0) (le-leb (r .code) 3 l)
+      code-opens l = and-join (and-split (leb 1 (r .code)) (leb (r .code) 13) (good-record .known) .0) (le-leb (r .code) 3 l)
 
       pub ready-amends : (isOpening r ≡ false) → Amending count m w under r
       ready-amends e = record {
@@ -213,7 +212,7 @@ module _ (rule : Rule) (count serial : ℕ) (m : Marks) (w : List ℕ) (modes : 
   after : (c : Change) → changeOf b r ≡ c → SoundRows (changedBy b (r .account) c)
   after c e = rw e at (change-rows b r (h .sound))
 
-  pub refused-at : (k : ℕ) (o : Bool) → refusalOf b r ≡ k → (k ≡ 0 → ⊥) → Decided rule count serial m w modes needs r (goneWith k o count serial) m w
+  pub refused-at : (k : ℕ) (o : Bool) → refusalOf b r ≡ k → (k ≡ 0 → ⊥) → Decided count serial m w modes needs r (goneWith k o count serial) m w
   refused-at k o er ne = rw (pick-no (eqb k 0) (wentOn o count serial) (stayed k count serial) (ne-eqb k 0 ne)) (record {
     refusal = rw e;
     given = rw e;
@@ -226,31 +225,31 @@ module _ (rule : Rule) (count serial : ℕ) (m : Marks) (w : List ℕ) (modes : 
       e : changeOf b r ≡ Refuse k
       e = change-is k er ∙ sym (refused-by k _ Refuse ne)
 
-      same : bookFrom rule count (pick (leb k 3) serial (nextSerial serial)) m w modes needs ≡ changedBy b (r .account) (Refuse k)
-      same = serial-picked rule count serial m w modes needs (leb k 3)
+      same : bookFrom count (pick (leb k 3) serial (nextSerial serial)) m w modes needs ≡ changedBy b (r .account) (Refuse k)
+      same = serial-picked count serial m w modes needs (leb k 3)
 
-  put-at : (x : Row) (n : Marks) (u : List ℕ) → changeOf b r ≡ Put x → Anew m w (r .account) x n u → Decided rule count serial m w modes needs r (wentOn false count serial) n u
+  put-at : (x : Row) (n : Marks) (u : List ℕ) → changeOf b r ≡ Put x → Anew m w (r .account) x n u → Decided count serial m w modes needs r (wentOn false count serial) n u
   unfolding pick
   put-at x n u e a =
-      let same = ap {B = Book} (λ q. record { rule = rule; count = count; serial = nextSerial serial; rows = q; modes = modes; needs = needs }) (a .rows) in
+      let same = ap {B = Book} (λ q. record { count = count; serial = nextSerial serial; rows = q; modes = modes; needs = needs }) (a .rows) in
       record { refusal = rw e; given = rw e; carried = rw e; book = rw e same; size = a .size; rows = rw same (after (Put x) e) }
 
-  open-at : (x : Row) (n : Marks) (u : List ℕ) → changeOf b r ≡ Open x → Anew m w count x n u → Decided rule count serial m w modes needs r (wentOn true count serial) n u
+  open-at : (x : Row) (n : Marks) (u : List ℕ) → changeOf b r ≡ Open x → Anew m w count x n u → Decided count serial m w modes needs r (wentOn true count serial) n u
   unfolding pick
   open-at x n u e a =
-      let same = ap {B = Book} (λ q. record { rule = rule; count = count + 1; serial = nextSerial serial; rows = q; modes = modes; needs = needs }) (a .rows) in
+      let same = ap {B = Book} (λ q. record { count = count + 1; serial = nextSerial serial; rows = q; modes = modes; needs = needs }) (a .rows) in
       record { refusal = rw e; given = rw e; carried = rw e; book = rw e same; size = a .size; rows = rw same (after (Open x) e) }
 
   -- ---- what the functions answer
   module _ (k : ℕ) (ek : k ≡ earlyNumber alive serial r) (z : k ≡ 0) where
-    pub amends-at : isOpening r ≡ false → (q : ℕ) (n : Marks) (u : List ℕ) → Answered rule count m w under on r q n u
-        → Decided rule count serial m w modes needs r (goneWith q (isOpening r) count serial) n u
+    pub amends-at : isOpening r ≡ false → (q : ℕ) (n : Marks) (u : List ℕ) → Answered count m w under on r q n u
+        → Decided count serial m w modes needs r (goneWith q (isOpening r) count serial) n u
     amends-at o q n u a = by (ℕ-discrete q 0)
       where
         number : refusalOf b r ≡ q
         number = decided k ek z ∙ sym (a .number)
 
-        by : Dec (q ≡ 0) → Decided rule count serial m w modes needs r (goneWith q (isOpening r) count serial) n u
+        by : Dec (q ≡ 0) → Decided count serial m w modes needs r (goneWith q (isOpening r) count serial) n u
         by (yes e) =
             let put : changeOf b r ≡ Put (amended (rowIn m w (r .account)) r) =
             change-is 0 (number ∙ e) ∙ pick-no (isOpening r) _ _ o ∙ ap (λ x. Put (amended x r)) (row-is k ek z) in
@@ -259,13 +258,13 @@ module _ (rule : Rule) (count serial : ℕ) (m : Marks) (w : List ℕ) (modes : 
         by (no e) = let s = a .stays e in rw (s .0, s .1) (refused-at q (isOpening r) number e)
 
     pub opens-at : isOpening r ≡ true → (q : ℕ) (n : Marks) (u : List ℕ) → Opens m w count (r .code) (r .account) q n u
-        → Decided rule count serial m w modes needs r (goneWith q (isOpening r) count serial) n u
+        → Decided count serial m w modes needs r (goneWith q (isOpening r) count serial) n u
     opens-at o q n u a = by (ℕ-discrete q 0)
       where
         number : refusalOf b r ≡ q
-        number = decided k ek z ∙ open-own (rowIn m w (r .account)) count (besideIn rule count m w under on r) r (which-opening (r .code) o) ∙ sym (a .number)
+        number = decided k ek z ∙ open-own (rowIn m w (r .account)) count (besideIn count m w under on r) r (which-opening (r .code) o) ∙ sym (a .number)
 
-        by : Dec (q ≡ 0) → Decided rule count serial m w modes needs r (goneWith q (isOpening r) count serial) n u
+        by : Dec (q ≡ 0) → Decided count serial m w modes needs r (goneWith q (isOpening r) count serial) n u
         by (yes e) =
             let made : changeOf b r ≡ Open (openedRow (r .code) (r .account)) = change-is 0 (number ∙ e) ∙ pick-yes (isOpening r) _ _ o in
             rw (pick-yes (eqb q 0) (wentOn (isOpening r) count serial) (stayed q count serial) (eq-eqb q 0 e), o)
@@ -273,9 +272,9 @@ module _ (rule : Rule) (count serial : ℕ) (m : Marks) (w : List ℕ) (modes : 
         by (no e) = let s = a .stays e in rw (s .0, s .1) (refused-at q (isOpening r) number e)
 
 -- an opening that is carried out has room
-pub opening-has-room : (rule : Rule) (count serial : ℕ) (m : Marks) (w : List ℕ) (modes : List Bool) (needs : List ℕ) (r : Record) (k : ℕ) (n : Marks) (u : List ℕ) → Decided rule count serial m w modes needs r (goneWith k (isOpening r) count serial) n u
+pub opening-has-room : (count serial : ℕ) (m : Marks) (w : List ℕ) (modes : List Bool) (needs : List ℕ) (r : Record) (k : ℕ) (n : Marks) (u : List ℕ) → Decided count serial m w modes needs r (goneWith k (isOpening r) count serial) n u
     → k ≡ 0 → isOpening r ≡ true → count < 256
 unfolding pick
-opening-has-room rule count serial m w modes needs r k n u h e o =
-    let g : Decided rule count serial m w modes needs r (wentOn true count serial) n u = rw (e, o) at h in
+opening-has-room count serial m w modes needs r k n u h e o =
+    let g : Decided count serial m w modes needs r (wentOn true count serial) n u = rw (e, o) at h in
     omega (arith, g .rows .most)

@@ -5,7 +5,6 @@ use mathlib.Core.Path.{_≡_, sym, ap, subst, _∙_}
 use Prim.Native.Nat.{ℕ}
 use lib.ListN.{length}
 use Rattle.sums.specs.Choice.{pick}
-use Rattle.rows.specs.declared.Rule.{Rule}
 use Rattle.rows.specs.View.{View}
 use Rattle.rows.specs.Rows.{view}
 use Rattle.rows.specs.Facts.{Shaped, NoneBeyond}
@@ -21,21 +20,21 @@ use Rattle.book.proofs.Settled.{sound-rows, none-beyond}
 use Rattle.steps.specs.declared.At.{At}
 use Rattle.steps.specs.Steps.{Going}
 
-module _ (rule : Rule) (count serial : ℕ) (m : Marks) (w : List ℕ) (modes : List Bool) (needs : List ℕ) (h : Sound (bookFrom rule count serial m w modes needs)) where
+module _ (count serial : ℕ) (m : Marks) (w : List ℕ) (modes : List Bool) (needs : List ℕ) (h : Sound (bookFrom count serial m w modes needs)) where
   abbrev seen : View
-  seen = view (seenBook rule count (m .sort) (m .tm) w)
+  seen = view (seenBook count (m .sort) (m .tm) w)
 
-  is-seen : seen ≡ view (bookFrom rule count serial m w modes needs)
-  is-seen = seen-view rule count serial m w modes needs
+  is-seen : seen ≡ view (bookFrom count serial m w modes needs)
+  is-seen = seen-view count serial m w modes needs
 
-  pub adds-up : Ranged (seenBook rule count (m .sort) (m .tm) w) × Shaped seen
-  adds-up = (seen-ranged rule count serial m w modes needs (sound-ranged _ h), rw is-seen (h .shaped))
+  pub adds-up : Ranged (seenBook count (m .sort) (m .tm) w) × Shaped seen
+  adds-up = (seen-ranged count serial m w modes needs (sound-ranged _ h), rw is-seen (h .shaped))
 
   pub looks-up : (excess : List ℕ) → DeemedUnder (inTenths seen) excess → NoneBeyond seen × DeemedUnder (inTenths seen) excess
-  looks-up excess u = (subst NoneBeyond (sym is-seen) (none-beyond (bookFrom rule count serial m w modes needs) (sound-rows _ h)), u)
+  looks-up excess u = (subst NoneBeyond (sym is-seen) (none-beyond (bookFrom count serial m w modes needs) (sound-rows _ h)), u)
 
   pub sound-enters : Sized m w → length modes ≡ 256 → length needs ≡ 256 → (excess : List ℕ) (after : List Bool) → DeemedUnder (inTenths seen) excess → after ≡ looked seen modes
-      → Going (record { rule = rule; count = count; serial = serial; waiting = true }) m w modes after needs excess
+      → Going (record { count = count; serial = serial; waiting = true }) m w modes after needs excess
   unfolding pick
   sound-enters s l n excess after e k = record {
     size = s;

@@ -5,13 +5,12 @@ use mathlib.Core.Path.{_≡_, refl, sym, ap, subst, _∙_}
 use Prim.Native.Nat.{ℕ, _+_, _*_, _≤_, _<_}
 use native.Mathlib.Omega.{arith}
 use native.Mathlib.Decide.{ℕ-discrete}
-use lib.Dec.{eqb, ltb, leb}
+use lib.Dec.{eqb, leb}
 use lib.ListN.{length, getD, set}
-use borrow.Author.Tests.{leb-true, ltb-true, leb-false, ltb-false, le-leb}
+use borrow.Author.Tests.{leb-true, eqb-true, leb-false, le-leb}
 use Rattle.sums.specs.Choice.{pick}
 use Rattle.sums.proofs.Choices.{test-clash, or-split, or-fails, and-split}
 use mathlib.Core.Logic.{_⊎_, inl, inr}
-use Rattle.rows.specs.declared.Rule.{Rule}
 use Rattle.rows.specs.declared.Row.{Row}
 use Rattle.rows.specs.declared.Account.{Account}
 use Rattle.rows.specs.declared.Book.{Book}
@@ -36,7 +35,7 @@ use Rattle.rules.specs.declared.Change.the-variants.{Refuse, Put, Open}
 use Rattle.rules.specs.Refusals.{isOpening, namedRow}
 use Rattle.rules.specs.Effects.{amended, changeOf, movedOn, changedBy, bookAfter}
 use Rattle.rules.proofs.Deciding.{put-passes, made-put, refuse-some, only-openings, never-openings}
-use Rattle.rules.proofs.Codes.{Code, openTM, openClient, openCP, receive, handBack, allocate, release, pledge, unpledge, margin, retire, known-code-cases}
+use Rattle.rules.proofs.Codes.{Code, openTM, openClient, openCP, receive, handBack, allocate, release, pledge, unpledge, margin, retire, setPledged, setMargin, known-code-cases}
 use Rattle.rules.proofs.Amending.{by-receive, by-hand-back, by-retire}
 use Rattle.rules.proofs.Moves.{put-deemed, put-looks, put-needs, open-deemed, open-looks, open-needs}
 use Rattle.rules.proofs.ModesAside.{same-change}
@@ -52,7 +51,7 @@ use Rattle.steps.proofs.Placing.{sound-placed}
 use Rattle.codes.proofs.Made.{under-is}
 
 -- a row put anew whose figures are the same changes nothing that needs and uses see
-same-figures : (b : Book) (k : ℕ) (x : Row) → k < places b → accountOf (b .rule) x ≡ accountOf (b .rule) (rowAt b k) → view (withRow b k x) ≡ view b
+same-figures : (b : Book) (k : ℕ) (x : Row) → k < places b → accountOf x ≡ accountOf (rowAt b k) → view (withRow b k x) ≡ view b
 same-figures b k x l e = λ j. record {
   count = b .count;
   sort = λ i. alike i j .sort;
@@ -61,32 +60,34 @@ same-figures b k x l e = λ j. record {
   margin = λ i. alike i j .margin;
 }
   where
-    alike : (i : ℕ) → accountOf (b .rule) (rowAt (withRow b k x) i) ≡ accountOf (b .rule) (rowAt b i)
-    alike i = at-all (λ j y z. accountOf (b .rule) y ≡ accountOf (b .rule) z) b k x l e (λ j. refl) i
+    alike : (i : ℕ) → accountOf (rowAt (withRow b k x) i) ≡ accountOf (rowAt b i)
+    alike i = at-all (λ j y z. accountOf y ≡ accountOf z) b k x l e (λ j. refl) i
 
 -- receive, hand back and retire move no figure
-still : (rule : Rule) (row : Row) (r : Record) → isOpening r ≡ false → knownCode (r .code) ≡ true → (leb (r .code) 5 || ltb 10 (r .code)) ≡ true → accountOf rule (amended row r) ≡ accountOf rule row
-still rule row r o k l = by (known-code-cases (r .code) k)
+still : (row : Row) (r : Record) → isOpening r ≡ false → knownCode (r .code) ≡ true → (leb (r .code) 5 || eqb (r .code) 11) ≡ true → accountOf (amended row r) ≡ accountOf row
+still row r o k l = by (known-code-cases (r .code) k)
   where
-    none : (n : ℕ) → 5 < n → n ≤ 10 → r .code ≡ n → accountOf rule (amended row r) ≡ accountOf rule row
-    none n p q e = absurd (by′ (or-split (leb (r .code) 5) (ltb 10 (r .code)) l))
+    none : (n : ℕ) → 5 < n → (n ≡ 11 → ⊥) → r .code ≡ n → accountOf (amended row r) ≡ accountOf row
+    none n p q e = absurd (by′ (or-split (leb (r .code) 5) (eqb (r .code) 11) l))
       where
-        by′ : (leb (r .code) 5 ≡ true) ⊎ (ltb 10 (r .code) ≡ true) → ⊥
+        by′ : (leb (r .code) 5 ≡ true) ⊎ (eqb (r .code) 11 ≡ true) → ⊥
         by′ (inl h) = omega (arith, leb-true (r .code) 5 h)
-        by′ (inr h) = omega (arith, ltb-true 10 (r .code) h)
+        by′ (inr h) = q (sym e ∙ eqb-true (r .code) 11 h)
 
-    by : Code (r .code) → accountOf rule (amended row r) ≡ accountOf rule row
+    by : Code (r .code) → accountOf (amended row r) ≡ accountOf row
     by (openTM e) = test-clash (rw e) o
     by (openClient e) = test-clash (rw e) o
     by (openCP e) = test-clash (rw e) o
-    by (receive e) = ap (accountOf rule) (by-receive row r e)
-    by (handBack e) = ap (accountOf rule) (by-hand-back row r e)
-    by (allocate e) = none 6 (omega arith) (omega arith) e
-    by (release e) = none 7 (omega arith) (omega arith) e
-    by (pledge e) = none 8 (omega arith) (omega arith) e
-    by (unpledge e) = none 9 (omega arith) (omega arith) e
-    by (margin e) = none 10 (omega arith) (omega arith) e
-    by (retire e) = ap (accountOf rule) (by-retire row r e)
+    by (receive e) = ap accountOf (by-receive row r e)
+    by (handBack e) = ap accountOf (by-hand-back row r e)
+    by (allocate e) = none 6 (omega arith) (λ z. omega arith) e
+    by (release e) = none 7 (omega arith) (λ z. omega arith) e
+    by (pledge e) = none 8 (omega arith) (λ z. omega arith) e
+    by (unpledge e) = none 9 (omega arith) (λ z. omega arith) e
+    by (margin e) = none 10 (omega arith) (λ z. omega arith) e
+    by (retire e) = ap accountOf (by-retire row r e)
+    by (setPledged e) = none 12 (omega arith) (λ z. omega arith) e
+    by (setMargin e) = none 13 (omega arith) (λ z. omega arith) e
 
 module _ (at : At) (m : Marks) (w : List ℕ) (was modes : List Bool) (needs excess : List ℕ) (g : Going at m w was modes needs excess) (r : Record) where
   abbrev before : List Bool
@@ -99,11 +100,11 @@ module _ (at : At) (m : Marks) (w : List ℕ) (was modes : List Bool) (needs exc
   pub many-modes : length modes ≡ 256
   many-modes = ap length (g .looks) ∙ looked-size (view b) before
 
-  pub going-ready : Ready (at .rule) (at .count) (at .serial) m w before needs × (length was ≡ 256) × (length modes ≡ 256)
+  pub going-ready : Ready (at .count) (at .serial) m w before needs × (length was ≡ 256) × (length modes ≡ 256)
   going-ready = (record { size = g .size; sound = g .sound }, g .many, many-modes)
 
   pub places-now : Placed m w
-  places-now = sound-placed (at .rule) (at .count) (at .serial) m w before needs (g .size) (sound-rows b (g .sound))
+  places-now = sound-placed (at .count) (at .serial) m w before needs (g .size) (sound-rows b (g .sound))
 
   -- what is deemed under each account, by the kept needs
   under : List ℕ
@@ -125,12 +126,12 @@ module _ (at : At) (m : Marks) (w : List ℕ) (was modes : List Bool) (needs exc
   fresh-now = afresh-is (view b) needs (g .wide) ((g .sound) .kept)
 
   -- what was decided
-  module _ (x : Gone) (n : Marks) (u : List ℕ) (d : Decided (at .rule) (at .count) (at .serial) m w before needs r x n u) where
+  module _ (x : Gone) (n : Marks) (u : List ℕ) (d : Decided (at .count) (at .serial) m w before needs r x n u) where
     abbrev after : Book
-    after = bookFrom (at .rule) (x .count) (x .serial) n u before needs
+    after = bookFrom (x .count) (x .serial) n u before needs
 
     pub places-after : Placed n u
-    places-after = sound-placed (at .rule) (x .count) (x .serial) n u before needs (d .size) (d .rows)
+    places-after = sound-placed (x .count) (x .serial) n u before needs (d .size) (d .rows)
 
     module _ (c : Change) (e : changeOf b r ≡ c) where
       is-after : after ≡ changedBy b (r .account) c
@@ -197,7 +198,7 @@ module _ (at : At) (m : Marks) (w : List ℕ) (was modes : List Bool) (needs exc
         same-view = ap view (is-after (Refuse k) e) ∙ unmoved (leb k 3)
 
     -- a code that moves no figure
-    pub still-step : (leb (r .code) 5 || ltb 10 (r .code)) ≡ true → Stepped at m w was modes needs r x n u modes needs excess
+    pub still-step : (leb (r .code) 5 || eqb (r .code) 11) ≡ true → Stepped at m w was modes needs r x n u modes needs excess
     still-step l = by (changeOf b r) refl
       where
         by : (c : Change) → changeOf b r ≡ c → Stepped at m w was modes needs r x n u modes needs excess
@@ -206,7 +207,7 @@ module _ (at : At) (m : Marks) (w : List ℕ) (was modes : List Bool) (needs exc
             let p = put-passes b r y e .account in
             let stays : view after ≡ view b =
             ap view (is-after (Put y) e)
-            ∙ same-figures b (r .account) y (omega (arith, rows-length m w, p, (g .sound) .most)) (ap (accountOf (at .rule)) (made-put b r y e) ∙ still (at .rule) (namedRow b r) r (never-openings b r y e) (put-passes b r y e .good .known) l) in
+            ∙ same-figures b (r .account) y (omega (arith, rows-length m w, p, (g .sound) .most)) (ap accountOf (made-put b r y e) ∙ still (namedRow b r) r (never-openings b r y e) (put-passes b r y e .good .known) l) in
             went (Put y) e refl refl modes needs excess (g .looks ∙ ap (λ q. looked q before) (sym stays)) (fresh-now ∙ ap needsAfresh (sym stays)) (subst (λ q. DeemedUnder (inTenths q) excess) (sym stays) (g .in-excess))
         by (Open y) e =
             let opens : view after ≡ view (changedBy b (r .account) (Open y)) = ap view (is-after (Open y) e) in
@@ -224,16 +225,16 @@ module _ (at : At) (m : Marks) (w : List ℕ) (was modes : List Bool) (needs exc
         by (Open y) e = absurd (ne (d .refusal ∙ ap refusalShown e))
 
     -- a code that may move figures, carried out: three places are brought up to date and looked at
-    module _ (past : Past) (o : PastOf (at .rule) m w needs (r .account) past) where
-      pub moved-step : x .refusal ≡ 0 → (leb (r .code) 5 || ltb 10 (r .code)) ≡ false
-          → Stepped at m w was modes needs r x n u (lookedSince (at .rule) n u excess before modes past) (neededSince (at .rule) n u needs past) (excessSince (at .rule) n u excess past)
+    module _ (past : Past) (o : PastOf m w needs (r .account) past) where
+      pub moved-step : x .refusal ≡ 0 → (leb (r .code) 5 || eqb (r .code) 11) ≡ false
+          → Stepped at m w was modes needs r x n u (lookedSince n u excess before modes past) (neededSince n u needs past) (excessSince n u excess past)
       moved-step z l = by (changeOf b r) refl
         where
-          by : (c : Change) → changeOf b r ≡ c → Stepped at m w was modes needs r x n u (lookedSince (at .rule) n u excess before modes past) (neededSince (at .rule) n u needs past) (excessSince (at .rule) n u excess past)
+          by : (c : Change) → changeOf b r ≡ c → Stepped at m w was modes needs r x n u (lookedSince n u excess before modes past) (neededSince n u needs past) (excessSince n u excess past)
           by (Refuse k) e = absurd (refuse-some b r k e (sym (d .refusal ∙ ap refusalShown e) ∙ z))
           by (Open y) e =
               let c = and-split (leb 1 (r .code)) (leb (r .code) 3) (only-openings b r y e) .1 in
-              absurd (omega (arith, leb-true (r .code) 3 c, leb-false (r .code) 5 (or-fails (leb (r .code) 5) (ltb 10 (r .code)) l .0)))
+              absurd (omega (arith, leb-true (r .code) 3 c, leb-false (r .code) 5 (or-fails (leb (r .code) 5) (eqb (r .code) 11) l .0)))
           by (Put y) e = went (Put y) e refl refl _ _ _ looks fresh in-excess
             where
               given : r .account < at .count
@@ -245,8 +246,8 @@ module _ (at : At) (m : Marks) (w : List ℕ) (was modes : List Bool) (needs exc
               its-place : past .place ≡ r .account
               its-place = o .named low
 
-              own-is : past .own ≡ accountOf (at .rule) (namedRow b r)
-              own-is = o .own ∙ ap (accountIn (at .rule) m w) its-place ∙ sym (ap (accountOf (at .rule)) (row-in m w (r .account) low))
+              own-is : past .own ≡ accountOf (namedRow b r)
+              own-is = o .own ∙ ap (accountIn m w) its-place ∙ sym (ap accountOf (row-in m w (r .account) low))
 
               p-given : past .own .tm < at .count
               p-given = by-sort (ℕ-discrete (namedRow b r .sort) 2)
@@ -261,8 +262,8 @@ module _ (at : At) (m : Marks) (w : List ℕ) (was modes : List Bool) (needs exc
               tm-is : namedRow b r .tm ≡ past .own .tm
               tm-is = sym (ap (λ a. a .tm) own-is)
 
-              its-is : past .its ≡ accountOf (at .rule) (rowAt b (namedRow b r .tm))
-              its-is = o .its ∙ sym (ap (accountOf (at .rule)) (row-in m w (past .own .tm) p-low)) ∙ ap (λ k. accountOf (at .rule) (rowAt b k)) (sym tm-is)
+              its-is : past .its ≡ accountOf (rowAt b (namedRow b r .tm))
+              its-is = o .its ∙ sym (ap accountOf (row-in m w (past .own .tm) p-low)) ∙ ap (λ k. accountOf (rowAt b k)) (sym tm-is)
 
               slot : Slot (namedRow b r .tm) (namedRow b r .tm)
               slot = record { inside = omega (arith, tm-is, p-low); named = λ q. refl }
@@ -270,42 +271,42 @@ module _ (at : At) (m : Marks) (w : List ℕ) (was modes : List Bool) (needs exc
               view-is : view after ≡ view (withRow b (r .account) y)
               view-is = ap view (is-after (Put y) e)
 
-              new-is : accountIn (at .rule) n u (past .place) ≡ accountOf (at .rule) y
+              new-is : accountIn n u (past .place) ≡ accountOf y
               new-is =
-                  ap (accountIn (at .rule) n u) its-place ∙ sym (ap (accountOf (at .rule)) (row-in n u (r .account) low))
-                  ∙ ap (λ q. accountOf (at .rule) (rowAt q (r .account))) (is-after (Put y) e)
-                  ∙ ap (accountOf (at .rule)) (row-same b (r .account) y (omega (arith, rows-length m w, low)))
+                  ap (accountIn n u) its-place ∙ sym (ap accountOf (row-in n u (r .account) low))
+                  ∙ ap (λ q. accountOf (rowAt q (r .account))) (is-after (Put y) e)
+                  ∙ ap accountOf (row-same b (r .account) y (omega (arith, rows-length m w, low)))
 
-              list-is : excessSince (at .rule) n u excess past ≡ excessAfter excess (r .account) (accountOf (at .rule) (namedRow b r)) (accountOf (at .rule) y) (accountOf (at .rule) (rowAt b (namedRow b r .tm)))
+              list-is : excessSince n u excess past ≡ excessAfter excess (r .account) (accountOf (namedRow b r)) (accountOf y) (accountOf (rowAt b (namedRow b r .tm)))
               list-is =
-                  ap (λ i. excessAfter excess i (past .own) (accountIn (at .rule) n u (past .place)) (past .its)) its-place
-                  ∙ ap (λ a. excessAfter excess (r .account) a (accountIn (at .rule) n u (past .place)) (past .its)) own-is
-                  ∙ ap (λ a. excessAfter excess (r .account) (accountOf (at .rule) (namedRow b r)) a (past .its)) new-is
-                  ∙ ap (excessAfter excess (r .account) (accountOf (at .rule) (namedRow b r)) (accountOf (at .rule) y)) its-is
+                  ap (λ i. excessAfter excess i (past .own) (accountIn n u (past .place)) (past .its)) its-place
+                  ∙ ap (λ a. excessAfter excess (r .account) a (accountIn n u (past .place)) (past .its)) own-is
+                  ∙ ap (λ a. excessAfter excess (r .account) (accountOf (namedRow b r)) a (past .its)) new-is
+                  ∙ ap (excessAfter excess (r .account) (accountOf (namedRow b r)) (accountOf y)) its-is
 
-              in-excess : DeemedUnder (inTenths (view after)) (excessSince (at .rule) n u excess past)
+              in-excess : DeemedUnder (inTenths (view after)) (excessSince n u excess past)
               in-excess =
-                  subst (λ q. DeemedUnder (inTenths q) (excessSince (at .rule) n u excess past)) (sym view-is)
+                  subst (λ q. DeemedUnder (inTenths q) (excessSince n u excess past)) (sym view-is)
                   (subst (DeemedUnder (inTenths (view (withRow b (r .account) y)))) (sym list-is) (put-deemed b r y (g .sound) e true excess (g .in-excess) (namedRow b r .tm) slot))
 
               -- a look by the words is a look at the view
               by-words : (j : ℕ) → j < at .count
-                  → lookIn (at .rule) n u (excessSince (at .rule) n u excess past) j (getD before j false) ≡ lookAt (view (withRow b (r .account) y)) before j
+                  → lookIn n u (excessSince n u excess past) j (getD before j false) ≡ lookAt (view (withRow b (r .account) y)) before j
               by-words j q =
-                  ap (λ (a : Account). (eqb j 0 || eqb (a .sort) 1) && modeAfter (10 * a .margin + getD (excessSince (at .rule) n u excess past) j 0) (a .collateral) (getD before j false))
-                  (sym (ap (accountOf (at .rule)) (row-in n u j (omega (arith, q, (g .sound) .most)))))
-                  ∙ look-by (view after) (d .rows .shaped) (excessSince (at .rule) n u excess past) in-excess before j (rw (ap (λ k. k .count) (is-after (Put y) e)) q)
+                  ap (λ (a : Account). (eqb j 0 || eqb (a .sort) 1) && modeAfter (10 * a .margin + getD (excessSince n u excess past) j 0) (a .collateral) (getD before j false))
+                  (sym (ap accountOf (row-in n u j (omega (arith, q, (g .sound) .most)))))
+                  ∙ look-by (view after) (d .rows .shaped) (excessSince n u excess past) in-excess before j (rw (ap (λ k. k .count) (is-after (Put y) e)) q)
                   ∙ ap (λ v. lookAt v before j) view-is
 
-              looks : lookedSince (at .rule) n u excess before modes past ≡ looked (view after) before
+              looks : lookedSince n u excess before modes past ≡ looked (view after) before
               looks =
                   let w′ = view (withRow b (r .account) y) in
-                  let excess′ = excessSince (at .rule) n u excess past in
+                  let excess′ = excessSince n u excess past in
                   let i = past .place in
                   let k = past .own .tm in
-                  let own = lookIn (at .rule) n u excess′ i (getD before i false) in
-                  let its = lookIn (at .rule) n u excess′ k (getD before k false) in
-                  let top = lookIn (at .rule) n u excess′ 0 (getD before 0 false) in
+                  let own = lookIn n u excess′ i (getD before i false) in
+                  let its = lookIn n u excess′ k (getD before k false) in
+                  let top = lookIn n u excess′ 0 (getD before 0 false) in
                   ap (λ t. set (set (set modes i t) k its) 0 top) (by-words i (rw its-place given))
                   ∙ ap (λ t. set (set (set modes i (lookAt w′ before i)) k t) 0 top) (by-words k p-given)
                   ∙ ap (λ t. set (set (set modes i (lookAt w′ before i)) k (lookAt w′ before k)) 0 t) (by-words 0 ((g .sound) .shaped .some))
@@ -316,7 +317,7 @@ module _ (at : At) (m : Marks) (w : List ℕ) (was modes : List Bool) (needs exc
                   ∙ ap (λ q. looked q before) (sym view-is)
 
               -- the kept needs, in the law's words
-              top-is : accountIn (at .rule) n u 0 .margin ≡ rowAt (withRow b (r .account) y) 0 .margin
+              top-is : accountIn n u 0 .margin ≡ rowAt (withRow b (r .account) y) 0 .margin
               top-is = sym (ap (λ q. q .margin) (row-in n u 0 (omega arith))) ∙ ap (λ q. rowAt q 0 .margin) (is-after (Put y) e)
 
               own-under : past .under ≡ getD under (r .account) 0
@@ -328,26 +329,26 @@ module _ (at : At) (m : Marks) (w : List ℕ) (was modes : List Bool) (needs exc
               all-under : past .all ≡ getD under 0 0
               all-under = o .all ∙ under-in 0 (omega arith)
 
-              clients-are : deemedUnderSince (at .rule) n u past
-                  ≡ deemedUnderAfter (getD under (r .account) 0) (getD under (namedRow b r .tm) 0) (getD under 0 0) (accountOf (at .rule) (namedRow b r)) (accountOf (at .rule) y) (accountOf (at .rule) (rowAt b (namedRow b r .tm)))
+              clients-are : deemedUnderSince n u past
+                  ≡ deemedUnderAfter (getD under (r .account) 0) (getD under (namedRow b r .tm) 0) (getD under 0 0) (accountOf (namedRow b r)) (accountOf y) (accountOf (rowAt b (namedRow b r .tm)))
               clients-are =
-                  ap (λ a. deemedUnderAfter (past .under) (past .clients) (past .all) a (accountIn (at .rule) n u (past .place)) (past .its)) own-is
-                  ∙ ap (λ a. deemedUnderAfter (past .under) (past .clients) (past .all) (accountOf (at .rule) (namedRow b r)) a (past .its)) new-is
-                  ∙ ap (deemedUnderAfter (past .under) (past .clients) (past .all) (accountOf (at .rule) (namedRow b r)) (accountOf (at .rule) y)) its-is
-                  ∙ ap (λ k. deemedUnderAfter k (past .clients) (past .all) (accountOf (at .rule) (namedRow b r)) (accountOf (at .rule) y) (accountOf (at .rule) (rowAt b (namedRow b r .tm)))) own-under
-                  ∙ ap (λ k. deemedUnderAfter (getD under (r .account) 0) k (past .all) (accountOf (at .rule) (namedRow b r)) (accountOf (at .rule) y) (accountOf (at .rule) (rowAt b (namedRow b r .tm)))) its-under
-                  ∙ ap (λ k. deemedUnderAfter (getD under (r .account) 0) (getD under (namedRow b r .tm) 0) k (accountOf (at .rule) (namedRow b r)) (accountOf (at .rule) y) (accountOf (at .rule) (rowAt b (namedRow b r .tm)))) all-under
+                  ap (λ a. deemedUnderAfter (past .under) (past .clients) (past .all) a (accountIn n u (past .place)) (past .its)) own-is
+                  ∙ ap (λ a. deemedUnderAfter (past .under) (past .clients) (past .all) (accountOf (namedRow b r)) a (past .its)) new-is
+                  ∙ ap (deemedUnderAfter (past .under) (past .clients) (past .all) (accountOf (namedRow b r)) (accountOf y)) its-is
+                  ∙ ap (λ k. deemedUnderAfter k (past .clients) (past .all) (accountOf (namedRow b r)) (accountOf y) (accountOf (rowAt b (namedRow b r .tm)))) own-under
+                  ∙ ap (λ k. deemedUnderAfter (getD under (r .account) 0) k (past .all) (accountOf (namedRow b r)) (accountOf y) (accountOf (rowAt b (namedRow b r .tm)))) its-under
+                  ∙ ap (λ k. deemedUnderAfter (getD under (r .account) 0) (getD under (namedRow b r .tm) 0) k (accountOf (namedRow b r)) (accountOf y) (accountOf (rowAt b (namedRow b r .tm)))) all-under
 
-              fresh : neededSince (at .rule) n u needs past ≡ needsAfresh (view after)
+              fresh : neededSince n u needs past ≡ needsAfresh (view after)
               fresh =
-                  let own = needToKeep (accountOf (at .rule) y) (getD under (r .account) 0) in
-                  let d′ = deemedUnderSince (at .rule) n u past in
-                  ap (λ j. set (set (set needs j (needToKeep (accountIn (at .rule) n u (past .place)) (past .under))) (past .own .tm) (needToKeep (past .its) (d′ .tm))) 0 (accountIn (at .rule) n u 0 .margin + d′ .cm)) its-place
-                  ∙ ap (λ a. set (set (set needs (r .account) (needToKeep a (past .under))) (past .own .tm) (needToKeep (past .its) (d′ .tm))) 0 (accountIn (at .rule) n u 0 .margin + d′ .cm)) new-is
-                  ∙ ap (λ k. set (set (set needs (r .account) (needToKeep (accountOf (at .rule) y) k)) (past .own .tm) (needToKeep (past .its) (d′ .tm))) 0 (accountIn (at .rule) n u 0 .margin + d′ .cm)) own-under
-                  ∙ ap (λ k. set (set (set needs (r .account) own) k (needToKeep (past .its) (d′ .tm))) 0 (accountIn (at .rule) n u 0 .margin + d′ .cm)) (sym tm-is)
-                  ∙ ap (λ a. set (set (set needs (r .account) own) (namedRow b r .tm) (needToKeep a (d′ .tm))) 0 (accountIn (at .rule) n u 0 .margin + d′ .cm)) its-is
-                  ∙ ap (λ k. set (set (set needs (r .account) own) (namedRow b r .tm) (needToKeep (accountOf (at .rule) (rowAt b (namedRow b r .tm))) (d′ .tm))) 0 (k + d′ .cm)) top-is
-                  ∙ ap (λ (z : DeemedUnderAfter). set (set (set needs (r .account) own) (namedRow b r .tm) (needToKeep (accountOf (at .rule) (rowAt b (namedRow b r .tm))) (z .tm))) 0 (rowAt (withRow b (r .account) y) 0 .margin + z .cm)) clients-are
+                  let own = needToKeep (accountOf y) (getD under (r .account) 0) in
+                  let d′ = deemedUnderSince n u past in
+                  ap (λ j. set (set (set needs j (needToKeep (accountIn n u (past .place)) (past .under))) (past .own .tm) (needToKeep (past .its) (d′ .tm))) 0 (accountIn n u 0 .margin + d′ .cm)) its-place
+                  ∙ ap (λ a. set (set (set needs (r .account) (needToKeep a (past .under))) (past .own .tm) (needToKeep (past .its) (d′ .tm))) 0 (accountIn n u 0 .margin + d′ .cm)) new-is
+                  ∙ ap (λ k. set (set (set needs (r .account) (needToKeep (accountOf y) k)) (past .own .tm) (needToKeep (past .its) (d′ .tm))) 0 (accountIn n u 0 .margin + d′ .cm)) own-under
+                  ∙ ap (λ k. set (set (set needs (r .account) own) k (needToKeep (past .its) (d′ .tm))) 0 (accountIn n u 0 .margin + d′ .cm)) (sym tm-is)
+                  ∙ ap (λ a. set (set (set needs (r .account) own) (namedRow b r .tm) (needToKeep a (d′ .tm))) 0 (accountIn n u 0 .margin + d′ .cm)) its-is
+                  ∙ ap (λ k. set (set (set needs (r .account) own) (namedRow b r .tm) (needToKeep (accountOf (rowAt b (namedRow b r .tm))) (d′ .tm))) 0 (k + d′ .cm)) top-is
+                  ∙ ap (λ (z : DeemedUnderAfter). set (set (set needs (r .account) own) (namedRow b r .tm) (needToKeep (accountOf (rowAt b (namedRow b r .tm))) (z .tm))) 0 (rowAt (withRow b (r .account) y) 0 .margin + z .cm)) clients-are
                   ∙ put-needs b r y (g .sound) e needs (g .wide) ((g .sound) .kept) under deemed-under (namedRow b r .tm) slot
                   ∙ ap needsAfresh (sym view-is)

@@ -7,13 +7,13 @@ use native.Mathlib.Omega.{arith}
 use native.Mathlib.Decide.{ℕ-discrete, decLt}
 use lib.ListN.{length, getD, set, length-set}
 use lib.Seq.{getD-set-same, getD-set-other}
-use Rattle.rows.specs.declared.Rule.{Rule}
 use Rattle.rows.specs.declared.Account.{Account}
 use Rattle.rows.specs.declared.Book.{Book}
 use Rattle.rows.specs.Rows.{rowAt}
 use Rattle.rows.specs.DeemedUnder.{deemedUnderTM, deemedUnderCM}
 use Rattle.rows.specs.Inner.{accountAs}
 use Rattle.rows.proofs.Counted.{collateral-most}
+use Rattle.rows.specs.declared.Rule.the-variants.{New}
 use Rattle.rows.proofs.NeedSums.{deemed-under-cm-most, due-most}
 use Rattle.table.specs.Words.{Marks, rowIn, bookFrom}
 use Rattle.table.specs.Facts.{Sized}
@@ -24,10 +24,10 @@ use Rattle.steps.specs.declared.looking.Past.{Past}
 use Rattle.codes.specs.Own.{accountIn, deemedUnderAt}
 use Rattle.steps.specs.Looks.{Placed, Borne, Light, Modest, PastOf, ModestPast, excessAfter}
 
-pub modest-in : (rule : Rule) {m : Marks} {w : List ℕ} {j : ℕ} → Placed m w → j < 256 → Modest (accountIn rule m w j)
-modest-in rule {m} {w} {j} h l =
+pub modest-in : {m : Marks} {w : List ℕ} {j : ℕ} → Placed m w → j < 256 → Modest (accountIn m w j)
+modest-in {m} {w} {j} h l =
     let r = h .ranges j l in
-    record { margin = r .margin; collateral = omega (arith, collateral-most rule _ r) }
+    record { margin = r .margin; collateral = omega (arith, collateral-most New _ r) }
 
 -- a place put anew
 put-most : (l : List ℕ) (i x n : ℕ) → length l ≡ 256 → i < 256 → x ≤ n → ((j : ℕ) → getD l j 0 ≤ n) → (j : ℕ) → getD (set l i x) j 0 ≤ n
@@ -62,23 +62,23 @@ tm-low b s j = by (decLt j (b .count)) (ℕ-discrete (rowAt b j .sort) 2)
     by (yes l) (no c) = omega (arith, s .no-tm j l c)
     by (no l) d = omega (arith, ap (λ r. r .tm) (s .blank j (omega arith)))
 
-pub sound-placed : (rule : Rule) (count serial : ℕ) (m : Marks) (w : List ℕ) (modes : List Bool) (needs : List ℕ) → Sized m w → SoundRows (bookFrom rule count serial m w modes needs) → Placed m w
-sound-placed rule count serial m w modes needs z s =
-    let b = bookFrom rule count serial m w modes needs in
+pub sound-placed : (count serial : ℕ) (m : Marks) (w : List ℕ) (modes : List Bool) (needs : List ℕ) → Sized m w → SoundRows (bookFrom count serial m w modes needs) → Placed m w
+sound-placed count serial m w modes needs z s =
+    let b = bookFrom count serial m w modes needs in
     record {
       size = z;
       ranges = λ j l. rw (row-in m w j l) at (rows-ranges b s j);
       tms = λ j l. omega (arith, ap (λ r. r .tm) (row-in m w j l), tm-low b s j);
     }
 
-pub modest-past : {rule : Rule} {m : Marks} {w needs : List ℕ} {a : ℕ} {x : Past} → Placed m w → ((j : ℕ) → j < 256 → deemedUnderAt w needs j ≤ 25_600_000_000_000_000) → PastOf rule m w needs a x → ModestPast x
-modest-past {rule} {m} {w} {needs} {a} {x} h most o =
+pub modest-past : {m : Marks} {w needs : List ℕ} {a : ℕ} {x : Past} → Placed m w → ((j : ℕ) → j < 256 → deemedUnderAt w needs j ≤ 25_600_000_000_000_000) → PastOf m w needs a x → ModestPast x
+modest-past {m} {w} {needs} {a} {x} h most o =
     let low : x .own .tm < 256 = rw (o .own) (h .tms (x .place) (o .inside)) in
     record {
       inside = o .inside;
       tm = low;
-      own = rw (o .own) (modest-in rule h (o .inside));
-      its = rw (o .its) (modest-in rule h low);
+      own = rw (o .own) (modest-in h (o .inside));
+      its = rw (o .its) (modest-in h low);
       under = rw (o .under) (most (x .place) (o .inside));
       clients = rw (o .clients) (most (x .own .tm) low);
       all = rw (o .all) (most 0 (omega arith));

@@ -6,7 +6,6 @@ use Prim.Native.Nat.{ℕ, _+_, _*_, _≤_, _<_}
 use lib.Dec.{eqb}
 use lib.ListN.{length, getD, set}
 use Rattle.rows.specs.declared.Account.{Account}
-use Rattle.rows.specs.declared.Rule.{Rule}
 use Rattle.rows.specs.Rows.{ceiling}
 use Rattle.rows.specs.Facts.{InRange}
 use Rattle.rows.specs.Modes.{modeAfter}
@@ -40,11 +39,11 @@ pub record Modest (a : Account) : Type 0 where
   pub collateral : a .collateral ≤ 100_000_000_000_000
 
 -- what stood before the record that names account a
-pub record PastOf (rule : Rule) (m : Marks) (w needs : List ℕ) (a : ℕ) (x : Past) : Type 0 where
+pub record PastOf (m : Marks) (w needs : List ℕ) (a : ℕ) (x : Past) : Type 0 where
   pub inside : x .place < 256
   pub named : a < 256 → x .place ≡ a
-  pub own : x .own ≡ accountIn rule m w (x .place)
-  pub its : x .its ≡ accountIn rule m w (x .own .tm)
+  pub own : x .own ≡ accountIn m w (x .place)
+  pub its : x .its ≡ accountIn m w (x .own .tm)
   pub under : x .under ≡ deemedUnderAt w needs (x .place)
   pub clients : x .clients ≡ deemedUnderAt w needs (x .own .tm)
   pub all : x .all ≡ deemedUnderAt w needs 0
@@ -67,28 +66,28 @@ abbrev pub excessAfter : List ℕ → ℕ → Account → Account → Account �
 excessAfter excess i old new its =
     deemedUnderPut excess (old .tm) (deemedUnderAfter (getD excess i 0) (getD excess (old .tm) 0) (getD excess 0 0) (accountAs true old) (accountAs true new) (accountAs true its))
 
-abbrev pub excessSince : Rule → Marks → List ℕ → List ℕ → Past → List ℕ
-excessSince rule m w excess x = excessAfter excess (x .place) (x .own) (accountIn rule m w (x .place)) (x .its)
+abbrev pub excessSince : Marks → List ℕ → List ℕ → Past → List ℕ
+excessSince m w excess x = excessAfter excess (x .place) (x .own) (accountIn m w (x .place)) (x .its)
 
 -- a look at place j
-abbrev pub lookIn : Rule → Marks → List ℕ → List ℕ → ℕ → Bool → Bool
-lookIn rule m w excess j before =
-    (eqb j 0 || eqb (accountIn rule m w j .sort) 1) && modeAfter (10 * accountIn rule m w j .margin + getD excess j 0) (accountIn rule m w j .collateral) before
+abbrev pub lookIn : Marks → List ℕ → List ℕ → ℕ → Bool → Bool
+lookIn m w excess j before =
+    (eqb j 0 || eqb (accountIn m w j .sort) 1) && modeAfter (10 * accountIn m w j .margin + getD excess j 0) (accountIn m w j .collateral) before
 
 -- the modes with three places looked at
-abbrev pub lookedOn : Rule → Marks → List ℕ → List ℕ → List Bool → List Bool → ℕ → ℕ → List Bool
-lookedOn rule m w excess before modes i t =
-    set (set (set modes i (lookIn rule m w excess i (getD before i false))) t (lookIn rule m w excess t (getD before t false))) 0 (lookIn rule m w excess 0 (getD before 0 false))
+abbrev pub lookedOn : Marks → List ℕ → List ℕ → List Bool → List Bool → ℕ → ℕ → List Bool
+lookedOn m w excess before modes i t =
+    set (set (set modes i (lookIn m w excess i (getD before i false))) t (lookIn m w excess t (getD before t false))) 0 (lookIn m w excess 0 (getD before 0 false))
 
-abbrev pub lookedSince : Rule → Marks → List ℕ → List ℕ → List Bool → List Bool → Past → List Bool
-lookedSince rule m w excess before modes x = lookedOn rule m w (excessSince rule m w excess x) before modes (x .place) (x .own .tm)
+abbrev pub lookedSince : Marks → List ℕ → List ℕ → List Bool → List Bool → Past → List Bool
+lookedSince m w excess before modes x = lookedOn m w (excessSince m w excess x) before modes (x .place) (x .own .tm)
 
 -- what is deemed under its TM and under the CM after the record
-abbrev pub deemedUnderSince : Rule → Marks → List ℕ → Past → DeemedUnderAfter
-deemedUnderSince rule m w x = deemedUnderAfter (x .under) (x .clients) (x .all) (x .own) (accountIn rule m w (x .place)) (x .its)
+abbrev pub deemedUnderSince : Marks → List ℕ → Past → DeemedUnderAfter
+deemedUnderSince m w x = deemedUnderAfter (x .under) (x .clients) (x .all) (x .own) (accountIn m w (x .place)) (x .its)
 
 -- K3, "bring it up to date from the one row that changed": the kept needs with three places put anew
-abbrev pub neededSince : Rule → Marks → List ℕ → List ℕ → Past → List ℕ
-neededSince rule m w needs x =
-    set (set (set needs (x .place) (needToKeep (accountIn rule m w (x .place)) (x .under))) (x .own .tm) (needToKeep (x .its) (deemedUnderSince rule m w x .tm)))
-    0 (accountIn rule m w 0 .margin + deemedUnderSince rule m w x .cm)
+abbrev pub neededSince : Marks → List ℕ → List ℕ → Past → List ℕ
+neededSince m w needs x =
+    set (set (set needs (x .place) (needToKeep (accountIn m w (x .place)) (x .under))) (x .own .tm) (needToKeep (x .its) (deemedUnderSince m w x .tm)))
+    0 (accountIn m w 0 .margin + deemedUnderSince m w x .cm)

@@ -6,7 +6,6 @@ use Prim.Native.Nat.{ℕ, _+_}
 use lib.Dec.{eqb, leb}
 use lib.ListN.{length}
 use Rattle.sums.specs.Choice.{pick}
-use Rattle.rows.specs.declared.Rule.{Rule}
 use Rattle.rows.specs.declared.Book.{Book}
 use Rattle.rows.specs.Rows.{view}
 use Rattle.rows.specs.Modes.{looked}
@@ -23,9 +22,9 @@ use Rattle.steps.specs.declared.At.{At}
 use Rattle.steps.specs.declared.Gone.{Gone}
 
 -- the words, the modes and the kept needs are a sound book's
-pub record Ready (rule : Rule) (count serial : ℕ) (m : Marks) (w : List ℕ) (modes : List Bool) (needs : List ℕ) : Type 0 where
+pub record Ready (count serial : ℕ) (m : Marks) (w : List ℕ) (modes : List Bool) (needs : List ℕ) : Type 0 where
   pub size : Sized m w
-  pub sound : Sound (bookFrom rule count serial m w modes needs)
+  pub sound : Sound (bookFrom count serial m w modes needs)
 
 -- what a change shows of its record: the refusal or 0, the number given or 0, and 1 for one carried out
 abbrev pub refusalShown : Change → ℕ
@@ -44,13 +43,13 @@ carriedShown (Put row) = 1
 carriedShown (Open row) = 1
 
 -- a record was decided at the words w, came to x and left the words u, before needs and modes follow
-pub record Decided (rule : Rule) (count serial : ℕ) (m : Marks) (w : List ℕ) (modes : List Bool) (needs : List ℕ) (r : Record) (x : Gone) (n : Marks) (u : List ℕ) : Type 0 where
-  pub refusal : x .refusal ≡ refusalShown (changeOf (bookFrom rule count serial m w modes needs) r)
-  pub given : x .given ≡ givenShown count (changeOf (bookFrom rule count serial m w modes needs) r)
-  pub carried : x .carried ≡ carriedShown (changeOf (bookFrom rule count serial m w modes needs) r)
-  pub book : bookFrom rule (x .count) (x .serial) n u modes needs ≡ changedBy (bookFrom rule count serial m w modes needs) (r .account) (changeOf (bookFrom rule count serial m w modes needs) r)
+pub record Decided (count serial : ℕ) (m : Marks) (w : List ℕ) (modes : List Bool) (needs : List ℕ) (r : Record) (x : Gone) (n : Marks) (u : List ℕ) : Type 0 where
+  pub refusal : x .refusal ≡ refusalShown (changeOf (bookFrom count serial m w modes needs) r)
+  pub given : x .given ≡ givenShown count (changeOf (bookFrom count serial m w modes needs) r)
+  pub carried : x .carried ≡ carriedShown (changeOf (bookFrom count serial m w modes needs) r)
+  pub book : bookFrom (x .count) (x .serial) n u modes needs ≡ changedBy (bookFrom count serial m w modes needs) (r .account) (changeOf (bookFrom count serial m w modes needs) r)
   pub size : Sized n u
-  pub rows : SoundRows (bookFrom rule (x .count) (x .serial) n u modes needs)
+  pub rows : SoundRows (bookFrom (x .count) (x .serial) n u modes needs)
 
 -- refused with the number k
 abbrev pub stayed : ℕ → ℕ → ℕ → Gone
@@ -76,11 +75,11 @@ modesIn waiting was modes = pick waiting was modes
 
 -- the book that the arrays are
 abbrev pub bookAt : At → Marks → List ℕ → List Bool → List Bool → List ℕ → Book
-bookAt at m w was modes needs = bookFrom (at .rule) (at .count) (at .serial) m w (modesIn (at .waiting) was modes) needs
+bookAt at m w was modes needs = bookFrom (at .count) (at .serial) m w (modesIn (at .waiting) was modes) needs
 
 -- where it stands after a record that came to x
 abbrev pub atAfter : At → Gone → At
-atAfter at x = record { rule = at .rule; count = x .count; serial = x .serial; waiting = at .waiting && eqb (x .carried) 0 }
+atAfter at x = record { count = x .count; serial = x .serial; waiting = at .waiting && eqb (x .carried) 0 }
 
 -- the arrays are a sound book's. Beside it stand what is in excess under each account, in tenths, and the modes that a look leaves
 pub record Going (at : At) (m : Marks) (w : List ℕ) (was modes : List Bool) (needs excess : List ℕ) : Type 0 where

@@ -14,13 +14,11 @@ use looking::look_after;
 use looking::mode_of;
 use looking::past_if;
 use looking::settle_needs;
-use rows::Rule;
 
 mod looking;
 
-// Where a book stands: the rule that it is under (K7), how many accounts it has, the next serial, and whether no record was carried out since it was handed over.
+// Where a book stands: how many accounts it has, the next serial, and whether no record was carried out since it was handed over.
 pub struct At {
-    pub rule: Rule,
     pub count: u16,
     pub serial: u16,
     pub waiting: bool,
@@ -47,8 +45,8 @@ fn decide(
     at: At,
     r: Record,
 ) -> u8
-    requires { ⌜ Ready (at .rule) (at .count) (at .serial) (marksFrom (now sort) (now live) (now tm)) (now w) (modesIn (at .waiting) (now was) (now modes)) (now needs) × (length (now was) ≡ 256) × (length (now modes) ≡ 256) ⌝ }
-    ensures { λ x. ⌜ Decided (at .rule) (at .count) (at .serial) (marksFrom (now (sort .entry)) (now (live .entry)) (now (tm .entry))) (now (w .entry)) (modesIn (at .waiting) (now (was .entry)) (now (modes .entry))) (now (needs .entry)) r (goneWith x (isOpening r) (at .count) (at .serial)) (marksFrom (now (sort .exit)) (now (live .exit)) (now (tm .exit))) (now (w .exit)) ⌝ }
+    requires { ⌜ Ready (at .count) (at .serial) (marksFrom (now sort) (now live) (now tm)) (now w) (modesIn (at .waiting) (now was) (now modes)) (now needs) × (length (now was) ≡ 256) × (length (now modes) ≡ 256) ⌝ }
+    ensures { λ x. ⌜ Decided (at .count) (at .serial) (marksFrom (now (sort .entry)) (now (live .entry)) (now (tm .entry))) (now (w .entry)) (modesIn (at .waiting) (now (was .entry)) (now (modes .entry))) (now (needs .entry)) r (goneWith x (isOpening r) (at .count) (at .serial)) (marksFrom (now (sort .exit)) (now (live .exit)) (now (tm .exit))) (now (w .exit)) ⌝ }
 {
     let n = early(live, at.count, at.serial, r);
     if n != 0 {
@@ -58,8 +56,7 @@ fn decide(
         return open(sort, live, tm, w, at.count, r.code, r.account);
     }
     let on = mode_of(was, modes, at.waiting, r.account as usize);
-    let rule = at.rule;
-    amend(sort, live, tm, w, needs, on, at.count, r, rule)
+    amend(sort, live, tm, w, needs, on, at.count, r)
 }
 
 fn gone_with(n: u8, opening: bool, count: u16, serial: u16) -> Gone
@@ -106,8 +103,8 @@ fn carry(
     at: At,
     r: Record,
 ) -> Gone
-    requires { ⌜ Ready (at .rule) (at .count) (at .serial) (marksFrom (now sort) (now live) (now tm)) (now w) (modesIn (at .waiting) (now was) (now modes)) (now needs) × (length (now was) ≡ 256) × (length (now modes) ≡ 256) ⌝ }
-    ensures { λ x. ⌜ Decided (at .rule) (at .count) (at .serial) (marksFrom (now (sort .entry)) (now (live .entry)) (now (tm .entry))) (now (w .entry)) (modesIn (at .waiting) (now (was .entry)) (now (modes .entry))) (now (needs .entry)) r x (marksFrom (now (sort .exit)) (now (live .exit)) (now (tm .exit))) (now (w .exit)) ⌝ }
+    requires { ⌜ Ready (at .count) (at .serial) (marksFrom (now sort) (now live) (now tm)) (now w) (modesIn (at .waiting) (now was) (now modes)) (now needs) × (length (now was) ≡ 256) × (length (now modes) ≡ 256) ⌝ }
+    ensures { λ x. ⌜ Decided (at .count) (at .serial) (marksFrom (now (sort .entry)) (now (live .entry)) (now (tm .entry))) (now (w .entry)) (modesIn (at .waiting) (now (was .entry)) (now (modes .entry))) (now (needs .entry)) r x (marksFrom (now (sort .exit)) (now (live .exit)) (now (tm .exit))) (now (w .exit)) ⌝ }
 {
     let n = decide(sort, live, tm, w, modes, needs, was, at, r);
     gone_with(n, (1 <= r.code) & (r.code <= 3), at.count, at.serial)
@@ -130,24 +127,12 @@ pub fn step(
     requires { ⌜ Going at (marksFrom (now sort) (now live) (now tm)) (now w) (now was) (now modes) (now needs) (now excess) ⌝ }
     ensures { λ x. ⌜ Stepped at (marksFrom (now (sort .entry)) (now (live .entry)) (now (tm .entry))) (now (w .entry)) (now (was .entry)) (now (modes .entry)) (now (needs .entry)) r x (marksFrom (now (sort .exit)) (now (live .exit)) (now (tm .exit))) (now (w .exit)) (now (modes .exit)) (now (needs .exit)) (now (excess .exit)) ⌝ }
 {
-    let still = (r.code <= 5) | (10 < r.code);
-    let rule = at.rule;
-    let past = past_if(still, sort, live, tm, w, needs, r.account, rule);
+    let still = (r.code <= 5) | (r.code == 11);
+    let past = past_if(still, sort, live, tm, w, needs, r.account);
     let gone = carry(sort, live, tm, w, modes, needs, was, at, r);
     if !still & (gone.refusal == 0) {
-        settle_needs(sort, live, tm, w, needs, past, rule);
-        look_after(
-            sort,
-            live,
-            tm,
-            w,
-            modes,
-            excess,
-            was,
-            at.waiting,
-            past,
-            rule,
-        );
+        settle_needs(sort, live, tm, w, needs, past);
+        look_after(sort, live, tm, w, modes, excess, was, at.waiting, past);
     }
     gone
 }
@@ -156,9 +141,7 @@ pub fn step(
 pub fn on(at: At, gone: Gone) -> At
     ensures { λ x. ⌜ x ≡ atAfter at gone ⌝ }
 {
-    let rule = at.rule;
     At {
-        rule,
         count: gone.count,
         serial: gone.serial,
         waiting: at.waiting & (gone.carried == 0),

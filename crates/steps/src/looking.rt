@@ -11,7 +11,6 @@ use codes::settling::DeemedUnderAfter;
 use codes::settling::deemed_under_after;
 use codes::settling::deemed_under_at;
 use rows::Account;
-use rows::Rule;
 use rows::deemed::need_to_keep;
 use rows::modes::look;
 use rows::needs::account_of;
@@ -35,12 +34,11 @@ fn account_in(
     tm: &[u16; 256],
     w: &[u64; 2560],
     j: usize,
-    rule: Rule,
 ) -> Account
     requires { ⌜ Placed (marksFrom (now sort) (now live) (now tm)) (now w) × (j < 256) ⌝ }
-    ensures { λ x. ⌜ x ≡ accountIn rule (marksFrom (now (sort .entry)) (now (live .entry)) (now (tm .entry))) (now (w .entry)) j ⌝ }
+    ensures { λ x. ⌜ x ≡ accountIn (marksFrom (now (sort .entry)) (now (live .entry)) (now (tm .entry))) (now (w .entry)) j ⌝ }
 {
-    account_of(row_at(sort, live, tm, w, j), rule)
+    account_of(row_at(sort, live, tm, w, j))
 }
 
 fn past_of(
@@ -50,15 +48,14 @@ fn past_of(
     w: &[u64; 2560],
     needs: &[u64; 256],
     a: u16,
-    rule: Rule,
 ) -> Past
     requires { ⌜ Placed (marksFrom (now sort) (now live) (now tm)) (now w) ⌝ }
-    ensures { λ x. ⌜ PastOf rule (marksFrom (now (sort .entry)) (now (live .entry)) (now (tm .entry))) (now (w .entry)) (now (needs .entry)) a x ⌝ }
+    ensures { λ x. ⌜ PastOf (marksFrom (now (sort .entry)) (now (live .entry)) (now (tm .entry))) (now (w .entry)) (now (needs .entry)) a x ⌝ }
 {
     let place = slot(a);
-    let own = account_in(sort, live, tm, w, place, rule);
+    let own = account_in(sort, live, tm, w, place);
     let t = own.tm as usize;
-    let its = account_in(sort, live, tm, w, t, rule);
+    let its = account_in(sort, live, tm, w, t);
     let under = deemed_under_at(w, needs, place);
     let clients = deemed_under_at(w, needs, t);
     let all = deemed_under_at(w, needs, 0);
@@ -99,15 +96,14 @@ pub(crate) fn past_if(
     w: &[u64; 2560],
     needs: &[u64; 256],
     a: u16,
-    rule: Rule,
 ) -> Past
     requires { ⌜ Placed (marksFrom (now sort) (now live) (now tm)) (now w) ⌝ }
-    ensures { λ x. ⌜ (still ≡ false → PastOf rule (marksFrom (now (sort .entry)) (now (live .entry)) (now (tm .entry))) (now (w .entry)) (now (needs .entry)) a x) ⌝ }
+    ensures { λ x. ⌜ (still ≡ false → PastOf (marksFrom (now (sort .entry)) (now (live .entry)) (now (tm .entry))) (now (w .entry)) (now (needs .entry)) a x) ⌝ }
 {
     if still {
         return no_past();
     }
-    past_of(sort, live, tm, w, needs, a, rule)
+    past_of(sort, live, tm, w, needs, a)
 }
 
 // The kept needs after the record: at the account's place (0 where it is no TM's), at its TM's, and at the CM's last.
@@ -118,15 +114,14 @@ pub(crate) fn settle_needs(
     w: &[u64; 2560],
     needs: &mut [u64; 256],
     past: Past,
-    rule: Rule,
 )
     requires { ⌜ Placed (marksFrom (now sort) (now live) (now tm)) (now w) × ModestPast past ⌝ }
-    ensures { λ _. ⌜ now (needs .exit) ≡ neededSince rule (marksFrom (now (sort .entry)) (now (live .entry)) (now (tm .entry))) (now (w .entry)) (now (needs .entry)) past ⌝ }
+    ensures { λ _. ⌜ now (needs .exit) ≡ neededSince (marksFrom (now (sort .entry)) (now (live .entry)) (now (tm .entry))) (now (w .entry)) (now (needs .entry)) past ⌝ }
 {
     let i = past.place;
     let its = past.its;
-    let new = account_in(sort, live, tm, w, i, rule);
-    let top = account_in(sort, live, tm, w, 0, rule);
+    let new = account_in(sort, live, tm, w, i);
+    let top = account_in(sort, live, tm, w, 0);
     let x = deemed_under_after(past.under, past.clients, past.all, past.own, new, its);
     let t = past.own.tm as usize;
     needs[i] = need_to_keep(new, past.under);
@@ -179,12 +174,11 @@ fn look_at(
     excess: &[u64; 256],
     j: usize,
     before: bool,
-    rule: Rule,
 ) -> bool
     requires { ⌜ Placed (marksFrom (now sort) (now live) (now tm)) (now w) × Light (now excess) × (j < 256) ⌝ }
-    ensures { λ x. ⌜ x ≡ lookIn rule (marksFrom (now (sort .entry)) (now (live .entry)) (now (tm .entry))) (now (w .entry)) (now (excess .entry)) j before ⌝ }
+    ensures { λ x. ⌜ x ≡ lookIn (marksFrom (now (sort .entry)) (now (live .entry)) (now (tm .entry))) (now (w .entry)) (now (excess .entry)) j before ⌝ }
 {
-    let a = account_in(sort, live, tm, w, j, rule);
+    let a = account_in(sort, live, tm, w, j);
     look(j, a, excess[j], before)
 }
 
@@ -200,10 +194,9 @@ fn look_on(
     waiting: bool,
     i: usize,
     t: usize,
-    rule: Rule,
 )
     requires { ⌜ Placed (marksFrom (now sort) (now live) (now tm)) (now w) × Light (now excess) × (length (now was) ≡ 256) × (length (now modes) ≡ 256) × (i < 256) × (t < 256) ⌝ }
-    ensures { λ _. ⌜ now (modes .exit) ≡ lookedOn rule (marksFrom (now (sort .entry)) (now (live .entry)) (now (tm .entry))) (now (w .entry)) (now (excess .entry)) (modesIn waiting (now (was .entry)) (now (modes .entry))) (now (modes .entry)) i t ⌝ }
+    ensures { λ _. ⌜ now (modes .exit) ≡ lookedOn (marksFrom (now (sort .entry)) (now (live .entry)) (now (tm .entry))) (now (w .entry)) (now (excess .entry)) (modesIn waiting (now (was .entry)) (now (modes .entry))) (now (modes .entry)) i t ⌝ }
 {
     let own = look_at(
         sort,
@@ -213,7 +206,6 @@ fn look_on(
         excess,
         i,
         mode_of(was, modes, waiting, i),
-        rule,
     );
     let its = look_at(
         sort,
@@ -223,7 +215,6 @@ fn look_on(
         excess,
         t,
         mode_of(was, modes, waiting, t),
-        rule,
     );
     let top = look_at(
         sort,
@@ -233,7 +224,6 @@ fn look_on(
         excess,
         0,
         mode_of(was, modes, waiting, 0),
-        rule,
     );
     modes[i] = own;
     modes[t] = its;
@@ -251,16 +241,15 @@ pub(crate) fn look_after(
     was: &[bool; 256],
     waiting: bool,
     past: Past,
-    rule: Rule,
 )
     requires { ⌜ Placed (marksFrom (now sort) (now live) (now tm)) (now w) × Borne (now excess) × (length (now was) ≡ 256) × (length (now modes) ≡ 256) × ModestPast past ⌝ }
-    ensures { λ _. ⌜ now (excess .exit) ≡ excessSince rule (marksFrom (now (sort .entry)) (now (live .entry)) (now (tm .entry))) (now (w .entry)) (now (excess .entry)) past ⌝ }
-    ensures { λ _. ⌜ now (modes .exit) ≡ lookedSince rule (marksFrom (now (sort .entry)) (now (live .entry)) (now (tm .entry))) (now (w .entry)) (now (excess .entry)) (modesIn waiting (now (was .entry)) (now (modes .entry))) (now (modes .entry)) past ⌝ }
+    ensures { λ _. ⌜ now (excess .exit) ≡ excessSince (marksFrom (now (sort .entry)) (now (live .entry)) (now (tm .entry))) (now (w .entry)) (now (excess .entry)) past ⌝ }
+    ensures { λ _. ⌜ now (modes .exit) ≡ lookedSince (marksFrom (now (sort .entry)) (now (live .entry)) (now (tm .entry))) (now (w .entry)) (now (excess .entry)) (modesIn waiting (now (was .entry)) (now (modes .entry))) (now (modes .entry)) past ⌝ }
 {
     let i = past.place;
     let own = past.own;
     let its = past.its;
-    let new = account_in(sort, live, tm, w, i, rule);
+    let new = account_in(sort, live, tm, w, i);
     settle_excess(excess, i, own, new, its);
     look_on(
         sort,
@@ -273,6 +262,5 @@ pub(crate) fn look_after(
         waiting,
         i,
         own.tm as usize,
-        rule,
     );
 }

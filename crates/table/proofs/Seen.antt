@@ -6,8 +6,9 @@ use Prim.Native.Nat.{ℕ, _<_}
 use native.Mathlib.Omega.{arith}
 use native.Mathlib.Decide.{decLt}
 use Rattle.rows.specs.declared.Rule.{Rule}
+use Rattle.rows.specs.declared.Rule.the-variants.{New}
 use Rattle.rows.specs.declared.Book.{Book}
-use Rattle.rows.specs.Rows.{rowAt, accountOf, view}
+use Rattle.rows.specs.Rows.{rowAt, accountBy, viewBy, view}
 use Rattle.rows.specs.DeemedUnder.{accountAt}
 use Rattle.rows.specs.Inner.{Ranged}
 use Rattle.rows.proofs.RowPut.{row-far}
@@ -15,18 +16,18 @@ use Rattle.table.specs.Words.{Marks, marksFrom, bookFrom}
 use Rattle.table.specs.Facts.{seenBook}
 use Rattle.table.proofs.Gathered.{rows-length, row-in}
 
-module _ (rule : Rule) (count serial : ℕ) (m : Marks) (w : List ℕ) (modes : List Bool) (needs : List ℕ) where
+module _ (count serial : ℕ) (m : Marks) (w : List ℕ) (modes : List Bool) (needs : List ℕ) where
   abbrev seen : Book
-  seen = seenBook rule count (m .sort) (m .tm) w
+  seen = seenBook count (m .sort) (m .tm) w
 
   abbrev whole : Book
-  whole = bookFrom rule count serial m w modes needs
+  whole = bookFrom count serial m w modes needs
 
   abbrev marks : Marks
   marks = marksFrom (m .sort) [] (m .tm)
 
-  pub seen-view : view seen ≡ view whole
-  seen-view = λ j. record {
+  pub seen-view-by : (rule : Rule) → viewBy rule seen ≡ viewBy rule whole
+  seen-view-by rule = λ j. record {
     count = count;
     sort = λ i. alike i (decLt i 256) j .sort;
     tm = λ i. alike i (decLt i 256) j .tm;
@@ -34,13 +35,16 @@ module _ (rule : Rule) (count serial : ℕ) (m : Marks) (w : List ℕ) (modes : 
     margin = λ i. alike i (decLt i 256) j .margin;
   }
     where
-      alike : (i : ℕ) → Dec (i < 256) → accountOf rule (rowAt seen i) ≡ accountOf rule (rowAt whole i)
-      alike i (yes l) = ap (accountOf rule) (row-in marks w i l) ∙ sym (ap (accountOf rule) (row-in m w i l))
+      alike : (i : ℕ) → Dec (i < 256) → accountBy rule (rowAt seen i) ≡ accountBy rule (rowAt whole i)
+      alike i (yes l) = ap (accountBy rule) (row-in marks w i l) ∙ sym (ap (accountBy rule) (row-in m w i l))
       alike i (no l) =
-          ap (accountOf rule) (row-far seen i (omega (arith, rows-length marks w)) ∙ sym (row-far whole i (omega (arith, rows-length m w))))
+          ap (accountBy rule) (row-far seen i (omega (arith, rows-length marks w)) ∙ sym (row-far whole i (omega (arith, rows-length m w))))
 
-  pub seen-account : (i : ℕ) → accountOf rule (rowAt seen i) ≡ accountOf rule (rowAt whole i)
-  seen-account i = ap (λ v. accountAt v i) seen-view
+  pub seen-view : view seen ≡ view whole
+  seen-view = seen-view-by New
+
+  pub seen-account : (rule : Rule) (i : ℕ) → accountBy rule (rowAt seen i) ≡ accountBy rule (rowAt whole i)
+  seen-account rule i = ap (λ v. accountAt v i) (seen-view-by rule)
 
   pub seen-ranged : Ranged whole → Ranged seen
   seen-ranged h = record {

@@ -1,4 +1,4 @@
--- "Prove that turning over and back changes nothing": both ways, for every value of the types. A table carries no mark of its rule (K7).
+-- "Prove that turning over and back changes nothing": both ways, for every value of the types.
 use mathlib.Core.Bool.{false}
 use mathlib.Core.List.{List}
 use mathlib.Core.Path.{_≡_, refl, ap, sym, _∙_}
@@ -8,18 +8,17 @@ use lib.ListN.{length, getD}
 use Rattle.sums.specs.Listed.{listTo}
 use Rattle.sums.proofs.Lists.{at-listTo, list-is}
 use Rattle.rows.specs.declared.Row.{Row}
-use Rattle.rows.specs.declared.Rule.{Rule}
 use Rattle.rows.specs.declared.Book.{Book}
-use Rattle.rows.specs.Rows.{noRow, rowAt, byRule}
+use Rattle.rows.specs.Rows.{noRow, rowAt}
 use Rattle.table.specs.declared.Table.{Table}
 use Rattle.table.specs.Words.{wordAt, amountOf, rowIn, rowsOf, marksOf, turned, turnedBack}
 use Rattle.table.specs.Facts.{Sized}
 use Rattle.table.proofs.Gathered.{row-in, row-eq, word-in}
 
-pub over-and-back : (b : Book) → length (b .rows) ≡ 256 → byRule (b .rule) (turnedBack (turned b)) ≡ b
+pub over-and-back : (b : Book) → length (b .rows) ≡ 256 → turnedBack (turned b) ≡ b
 unfolding rowsOf turned
 over-and-back b e =
-    ap (λ l. record { rule = b .rule; count = b .count; serial = b .serial; rows = l; modes = b .modes; needs = b .needs })
+    ap (λ l. record { count = b .count; serial = b .serial; rows = l; modes = b .modes; needs = b .needs })
     (list-is (rowIn (marksOf (turned b)) (turned b .amounts)) 256 noRow (b .rows) e (λ i l. sym (row i l)))
   where
     word : (k i : ℕ) → k < 10 → i < 256 → wordAt (turned b .amounts) k i ≡ amountOf (rowAt b i) k
@@ -55,11 +54,6 @@ back-and-over t h =
     word : (n : ℕ) → n < 2560 → amountOf (rowAt (turnedBack t) (n % 256)) (n / 256) ≡ getD (t .amounts) n 0
     word n l = word-in (marksOf t) (t .amounts) (n / 256) (n % 256) (omega arith) (omega arith) ∙ ap (λ x. getD (t .amounts) x 0) (omega arith)
 
--- turning over looks at no rule
-pub turned-by : (rule : Rule) (b : Book) → turned (byRule rule b) ≡ turned b
-unfolding turned
-turned-by rule b = refl
-
 -- "the old one's book, turned over": a table is known by the book that it is turned back to
-pub turned-from : (rule : Rule) (t : Table) (b : Book) → Sized (marksOf t) (t .amounts) → byRule rule (turnedBack t) ≡ b → t ≡ turned b
-turned-from rule t b h e = sym (back-and-over t h) ∙ sym (turned-by rule (turnedBack t)) ∙ ap turned e
+pub turned-from : (t : Table) (b : Book) → Sized (marksOf t) (t .amounts) → turnedBack t ≡ b → t ≡ turned b
+turned-from t b h e = sym (back-and-over t h) ∙ ap turned e

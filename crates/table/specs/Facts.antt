@@ -3,7 +3,6 @@ use mathlib.Core.List.{List, []}
 use mathlib.Core.Path.{_≡_}
 use Prim.Native.Nat.{ℕ, _≤_, _<_}
 use lib.ListN.{length}
-use Rattle.rows.specs.declared.Rule.{Rule}
 use Rattle.rows.specs.declared.Book.{Book}
 use Rattle.table.specs.Words.{Marks, marksFrom, wordAt, bookFrom}
 
@@ -19,5 +18,5 @@ pub record Capped (w : List ℕ) (k n : ℕ) : Type 0 where
   pub each : (i : ℕ) → i < n → wordAt w k i ≤ 40_000_000_000_000
 
 -- the book as needs see it, by its sorts, TMs and words: they look neither at the serial, at who is live or in the mode, nor at what is kept
-abbrev pub seenBook : Rule → ℕ → List ℕ → List ℕ → List ℕ → Book
-seenBook rule count sort tm w = bookFrom rule count 0 (marksFrom sort [] tm) w [] []
+abbrev pub seenBook : ℕ → List ℕ → List ℕ → List ℕ → Book
+seenBook count sort tm w = bookFrom count 0 (marksFrom sort [] tm) w [] []

@@ -6,8 +6,6 @@ use lib.ListN.{getD}
 use Rattle.sums.specs.Listed.{listTo}
 use Rattle.rows.specs.declared.Kinds.{Kinds}
 use Rattle.rows.specs.declared.Row.{Row}
-use Rattle.rows.specs.declared.Rule.{Rule}
-use Rattle.rows.specs.declared.Rule.the-variants.{New}
 use Rattle.rows.specs.declared.Book.{Book}
 use Rattle.rows.specs.Rows.{rowAt}
 use Rattle.table.specs.declared.Table.{Table}
@@ -63,10 +61,10 @@ turned b = record {
   amounts = listTo (λ n. amountOf (rowAt b (n % 256)) (n / 256)) 2560;
 }
 
--- "the old order": the book that the words, the modes and the kept needs are, by a rule (K7)
-abbrev pub bookFrom : Rule → ℕ → ℕ → Marks → List ℕ → List Bool → List ℕ → Book
-bookFrom rule count serial m w modes needs = record { rule = rule; count = count; serial = serial; rows = rowsOf m w; modes = modes; needs = needs }
+-- "the old order": the book that the words, the modes and the kept needs are
+abbrev pub bookFrom : ℕ → ℕ → Marks → List ℕ → List Bool → List ℕ → Book
+bookFrom count serial m w modes needs = record { count = count; serial = serial; rows = rowsOf m w; modes = modes; needs = needs }
 
--- "and back": the table as a book of the old order. It carries no mark of its rule; "calls of today's names mean the new rule" (K7).
+-- "and back": the table as a book of the old order.
 abbrev pub turnedBack : Table → Book
-turnedBack t = bookFrom New (t .count) (t .serial) (marksOf t) (t .amounts) (t .modes) (t .needs)
+turnedBack t = bookFrom (t .count) (t .serial) (marksOf t) (t .amounts) (t .modes) (t .needs)

@@ -7,7 +7,6 @@ use places::put_row;
 use places::rows_of;
 use rows::Book;
 use rows::Row;
-use rows::Rule;
 
 pub mod evening;
 pub mod modes;
@@ -76,7 +75,6 @@ pub fn turn_back(t: Table) -> Book
     let modes = t.modes;
     let needs = t.needs;
     Book {
-        rule: Rule::New,
         count: t.count,
         serial: t.serial,
         rows: table,

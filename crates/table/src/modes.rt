@@ -19,17 +19,16 @@ pub fn look_all<'a>(
     count: u16,
     excess: &'a [u64; 256],
     modes: &'a [bool; 256],
-    rule: Rule,
 ) -> [bool; 256]
-    requires { ⌜ Ranged (seenBook rule count (now sort) (now tm) (now w)) × Shaped (view (seenBook rule count (now sort) (now tm) (now w))) ⌝ }
-    requires { ⌜ NoneBeyond (view (seenBook rule count (now sort) (now tm) (now w))) × DeemedUnder (inTenths (view (seenBook rule count (now sort) (now tm) (now w)))) (now excess) ⌝ }
-    ensures { λ x. ⌜ x ≡ looked (view (seenBook rule count (now (sort .entry)) (now (tm .entry)) (now (w .entry)))) (now (modes .entry)) ⌝ }
+    requires { ⌜ Ranged (seenBook count (now sort) (now tm) (now w)) × Shaped (view (seenBook count (now sort) (now tm) (now w))) ⌝ }
+    requires { ⌜ NoneBeyond (view (seenBook count (now sort) (now tm) (now w))) × DeemedUnder (inTenths (view (seenBook count (now sort) (now tm) (now w)))) (now excess) ⌝ }
+    ensures { λ x. ⌜ x ≡ looked (view (seenBook count (now (sort .entry)) (now (tm .entry)) (now (w .entry)))) (now (modes .entry)) ⌝ }
 {
     let mut after = [false; 256];
     let n = count as usize;
     let mut i: usize = 0;
     while i < n {
-        let a = account_at(sort, tm, w, i, rule);
+        let a = account_at(sort, tm, w, i, Rule::New);
         after[i] = look(i, a, excess[i], modes[i]);
         i += 1;
     }

@@ -3,7 +3,7 @@
 ghost use mathlib.Core.Path.{_≡_};
 ghost use Prim.Native.Nat.{_≤_, _<_};
 ghost use lib.ListN.{length, replicate};
-ghost use Rattle.rows.specs.Rows.{rowAt, accountOf, view};
+ghost use Rattle.rows.specs.Rows.{rowAt, accountBy, viewBy, view};
 ghost use Rattle.rows.specs.Facts.{Shaped, NoneBeyond, InRange};
 ghost use Rattle.rows.specs.DeemedUnder.{DeemedUnder};
 ghost use Rattle.rows.specs.KeptNeeds.{allKept, needsAfresh};
@@ -28,8 +28,8 @@ pub fn account_at<'a>(
     i: usize,
     rule: Rule,
 ) -> Account
-    requires { ⌜ (i < 256) × InRange (rowAt (seenBook rule 0 (now sort) (now tm) (now w)) i) ⌝ }
-    ensures { λ x. ⌜ x ≡ accountOf rule (rowAt (seenBook rule 0 (now (sort .entry)) (now (tm .entry)) (now (w .entry))) i) ⌝ }
+    requires { ⌜ (i < 256) × InRange (rowAt (seenBook 0 (now sort) (now tm) (now w)) i) ⌝ }
+    ensures { λ x. ⌜ x ≡ accountBy rule (rowAt (seenBook 0 (now (sort .entry)) (now (tm .entry)) (now (w .entry))) i) ⌝ }
 {
     let a = kinds_at(w, 4, i);
     Account {
@@ -53,8 +53,8 @@ fn account_as<'a>(
     tenths: bool,
     rule: Rule,
 ) -> Account
-    requires { ⌜ (i < 256) × InRange (rowAt (seenBook rule 0 (now sort) (now tm) (now w)) i) ⌝ }
-    ensures { λ x. ⌜ x ≡ accountAs tenths (accountOf rule (rowAt (seenBook rule 0 (now (sort .entry)) (now (tm .entry)) (now (w .entry))) i)) ⌝ }
+    requires { ⌜ (i < 256) × InRange (rowAt (seenBook 0 (now sort) (now tm) (now w)) i) ⌝ }
+    ensures { λ x. ⌜ x ≡ accountAs tenths (accountBy rule (rowAt (seenBook 0 (now (sort .entry)) (now (tm .entry)) (now (w .entry))) i)) ⌝ }
 {
     let a = account_at(sort, tm, w, i, rule);
     if tenths { in_tenths(a) } else { a }
@@ -70,8 +70,8 @@ fn client_sums<'a>(
     under: &mut [u64; 256],
     rule: Rule,
 )
-    requires { ⌜ Ranged (seenBook rule count (now sort) (now tm) (now w)) × (now under ≡ replicate 256 0) ⌝ }
-    ensures { λ _. ⌜ ClientSums (viewAs tenths (view (seenBook rule count (now (sort .entry)) (now (tm .entry)) (now (w .entry))))) (now (under .exit)) ⌝ }
+    requires { ⌜ Ranged (seenBook count (now sort) (now tm) (now w)) × (now under ≡ replicate 256 0) ⌝ }
+    ensures { λ _. ⌜ ClientSums (viewAs tenths (viewBy rule (seenBook count (now (sort .entry)) (now (tm .entry)) (now (w .entry))))) (now (under .exit)) ⌝ }
 {
     let n = count as usize;
     let mut i: usize = 0;
@@ -94,8 +94,8 @@ fn members_sum<'a>(
     under: &'a [u64; 256],
     rule: Rule,
 ) -> u64
-    requires { ⌜ Ranged (seenBook rule count (now sort) (now tm) (now w)) × ClientSums (viewAs tenths (view (seenBook rule count (now sort) (now tm) (now w)))) (now under) ⌝ }
-    ensures { λ x. ⌜ x ≡ membersBelow (viewAs tenths (view (seenBook rule count (now (sort .entry)) (now (tm .entry)) (now (w .entry))))) count ⌝ }
+    requires { ⌜ Ranged (seenBook count (now sort) (now tm) (now w)) × ClientSums (viewAs tenths (viewBy rule (seenBook count (now sort) (now tm) (now w)))) (now under) ⌝ }
+    ensures { λ x. ⌜ x ≡ membersBelow (viewAs tenths (viewBy rule (seenBook count (now (sort .entry)) (now (tm .entry)) (now (w .entry))))) count ⌝ }
 {
     let mut sum: u64 = 0;
     let n = count as usize;
@@ -110,7 +110,7 @@ fn members_sum<'a>(
 
 // What is deemed directly under each account, or in tenths its excess, put into a list of zeros: at the CM's place that of the TMs and CPs, at any other
 // that of its clients.
-pub fn deemed_under<'a>(
+fn deemed_under_by<'a>(
     sort: &'a [u8; 256],
     tm: &'a [u16; 256],
     w: &'a [u64; 2560],
@@ -119,12 +119,27 @@ pub fn deemed_under<'a>(
     under: &mut [u64; 256],
     rule: Rule,
 )
-    requires { ⌜ Ranged (seenBook rule count (now sort) (now tm) (now w)) × Shaped (view (seenBook rule count (now sort) (now tm) (now w))) × (now under ≡ replicate 256 0) ⌝ }
-    ensures { λ _. ⌜ DeemedUnder (viewAs tenths (view (seenBook rule count (now (sort .entry)) (now (tm .entry)) (now (w .entry))))) (now (under .exit)) ⌝ }
+    requires { ⌜ Ranged (seenBook count (now sort) (now tm) (now w)) × Shaped (viewBy rule (seenBook count (now sort) (now tm) (now w))) × (now under ≡ replicate 256 0) ⌝ }
+    ensures { λ _. ⌜ DeemedUnder (viewAs tenths (viewBy rule (seenBook count (now (sort .entry)) (now (tm .entry)) (now (w .entry))))) (now (under .exit)) ⌝ }
 {
     client_sums(sort, tm, w, count, tenths, under, rule);
     let all = members_sum(sort, tm, w, count, tenths, under, rule);
     under[0] = all;
+}
+
+// The same by the new rule.
+pub fn deemed_under<'a>(
+    sort: &'a [u8; 256],
+    tm: &'a [u16; 256],
+    w: &'a [u64; 2560],
+    count: u16,
+    tenths: bool,
+    under: &mut [u64; 256],
+)
+    requires { ⌜ Ranged (seenBook count (now sort) (now tm) (now w)) × Shaped (view (seenBook count (now sort) (now tm) (now w))) × (now under ≡ replicate 256 0) ⌝ }
+    ensures { λ _. ⌜ DeemedUnder (viewAs tenths (view (seenBook count (now (sort .entry)) (now (tm .entry)) (now (w .entry))))) (now (under .exit)) ⌝ }
+{
+    deemed_under_by(sort, tm, w, count, tenths, under, Rule::New);
 }
 
 // The need to keep at place i (K3), where what is deemed under the account is given.
@@ -137,8 +152,8 @@ fn kept_at<'a>(
     under: u64,
     rule: Rule,
 ) -> u64
-    requires { ⌜ Ranged (seenBook rule count (now sort) (now tm) (now w)) × (under ≤ 10_000_000_000_000_000_000) ⌝ }
-    ensures { λ x. ⌜ x ≡ keptWith (view (seenBook rule count (now (sort .entry)) (now (tm .entry)) (now (w .entry)))) i under ⌝ }
+    requires { ⌜ Ranged (seenBook count (now sort) (now tm) (now w)) × (under ≤ 10_000_000_000_000_000_000) ⌝ }
+    ensures { λ x. ⌜ x ≡ keptWith (viewBy rule (seenBook count (now (sort .entry)) (now (tm .entry)) (now (w .entry)))) i under ⌝ }
 {
     if (count as usize) <= i {
         return 0;
@@ -159,10 +174,10 @@ pub fn needs_afresh<'a>(
     needs: &mut [u64; 256],
     rule: Rule,
 )
-    requires { ⌜ Ranged (seenBook rule count (now sort) (now tm) (now w)) × Shaped (view (seenBook rule count (now sort) (now tm) (now w))) × NoneBeyond (view (seenBook rule count (now sort) (now tm) (now w))) × (now needs ≡ replicate 256 0) ⌝ }
-    ensures { λ _. ⌜ now (needs .exit) ≡ needsAfresh (view (seenBook rule count (now (sort .entry)) (now (tm .entry)) (now (w .entry)))) ⌝ }
+    requires { ⌜ Ranged (seenBook count (now sort) (now tm) (now w)) × Shaped (viewBy rule (seenBook count (now sort) (now tm) (now w))) × NoneBeyond (viewBy rule (seenBook count (now sort) (now tm) (now w))) × (now needs ≡ replicate 256 0) ⌝ }
+    ensures { λ _. ⌜ now (needs .exit) ≡ needsAfresh (viewBy rule (seenBook count (now (sort .entry)) (now (tm .entry)) (now (w .entry)))) ⌝ }
 {
-    deemed_under(sort, tm, w, count, false, needs, rule);
+    deemed_under_by(sort, tm, w, count, false, needs, rule);
     let mut i: usize = 0;
     while i < 256 {
         let under = needs[i];
@@ -180,8 +195,8 @@ pub fn needs_kept<'a>(
     needs: &'a [u64; 256],
     rule: Rule,
 ) -> bool
-    requires { ⌜ Ranged (seenBook rule count (now sort) (now tm) (now w)) × Shaped (view (seenBook rule count (now sort) (now tm) (now w))) × NoneBeyond (view (seenBook rule count (now sort) (now tm) (now w))) ⌝ }
-    ensures { λ x. ⌜ x ≡ allKept (view (seenBook rule count (now (sort .entry)) (now (tm .entry)) (now (w .entry)))) (now (needs .entry)) ⌝ }
+    requires { ⌜ Ranged (seenBook count (now sort) (now tm) (now w)) × Shaped (viewBy rule (seenBook count (now sort) (now tm) (now w))) × NoneBeyond (viewBy rule (seenBook count (now sort) (now tm) (now w))) ⌝ }
+    ensures { λ x. ⌜ x ≡ allKept (viewBy rule (seenBook count (now (sort .entry)) (now (tm .entry)) (now (w .entry)))) (now (needs .entry)) ⌝ }
 {
     let mut fresh = [0u64; 256];
     needs_afresh(sort, tm, w, count, &mut fresh, rule);

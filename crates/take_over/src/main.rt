@@ -36,7 +36,7 @@ fn take_over(before: Table) {
 
 fn main() {
     let help = streams::standard::help(
-        b"take_over: takes the book in the file FROM over to the rule by which government securities count less a tenth, into the file TO; prints 0, or 1 where the book isn't sound by the old rule or isn't covered by the new one\nusage: take_over FROM TO\n",
+        b"take_over: takes the book in the file FROM over to the rule by which government securities count less a tenth, into the file TO; prints 0, or 1 where the book isn't sound by the old rule\nusage: take_over FROM TO\n",
     );
     if help.asked {
         return;

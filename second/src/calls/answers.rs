@@ -23,22 +23,19 @@ pub struct Answered {
 const UNSOUND: u8 = 1;
 
 pub fn answer(call: &Call) -> Answered {
-    let (call, rule) = call.by_rule();
     match call {
-        Call::IsSound(book) => told(u8::from(book.is_sound_by(rule)), &[]),
-        Call::Standing(book, account) => standing(book.book_by(rule), *account),
-        Call::CarryOut(table, record) => carry_out(table, table.book_by(rule), record),
+        Call::IsSound(book) => told(u8::from(book.is_sound()), &[]),
+        Call::Standing(book, account) => standing(book.book(), *account),
+        Call::CarryOut(table, record) => carry_out(table, table.book(), record),
         Call::CarryOutNext(table, piece, place) => {
-            carry_out_next(table, table.book_by(rule), piece, *place)
+            carry_out_next(table, table.book(), piece, *place)
         }
-        Call::Day(table, piece, number) => day(table, table.book_by(rule), piece, *number),
+        Call::Day(table, piece, number) => day(table, table.book(), piece, *number),
         Call::ReadAt(piece, place) => read_at(piece, *place),
         Call::Write(record, room) => write(record, *room),
-        Call::CloseOut(book, losses, room) => close_out_call(book.book_by(rule), losses, *room),
-        Call::Needs(book, room) => needs(book.book_by(rule), *room),
+        Call::CloseOut(book, losses, room) => close_out_call(book.book(), losses, *room),
+        Call::Needs(book, room) => needs(book.book(), *room),
         Call::TakeOver(book) => take_over(book),
-        // A call under the old rule is none of another.
-        Call::Old(call) => answer(call),
     }
 }
 
@@ -56,13 +53,14 @@ fn spaced(mut line: String, rest: &[u64]) -> String {
     line
 }
 
-/// "Refusals 1, 7, and all five figures 0"; a refused one shows off.
+/// "Refusals 1, 7, and all five figures 0"; a refused one shows off and no
+/// shortfall.
 fn standing(book: Option<Book>, account: u16) -> Answered {
     let Some(book) = book else {
-        return told(UNSOUND, &[0; 6]);
+        return told(UNSOUND, &[0; 7]);
     };
     if !book.is_live(account) {
-        return told(Refusal::NotLive as u8, &[0; 6]);
+        return told(Refusal::NotLive as u8, &[0; 7]);
     }
     let standing = book.standings()[usize::from(account)];
     let figures = [
@@ -72,6 +70,7 @@ fn standing(book: Option<Book>, account: u16) -> Answered {
         standing.deemed,
         standing.free,
         u64::from(standing.mode == Mode::On),
+        standing.shortfall,
     ];
     told(0, &figures)
 }

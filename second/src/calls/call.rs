@@ -22,12 +22,10 @@ pub enum Call {
     CloseOut(Table, Vec<u64>, usize),
     Needs(Table, usize),
     TakeOver(Table),
-    /// One of the calls 1 to 9 that take a book, under the old rule.
-    Old(Box<Call>),
 }
 
 /// Every call by its number.
-pub const NAMES: [(u8, &str); 17] = [
+pub const NAMES: [(u8, &str); 10] = [
     (1, "is_sound"),
     (2, "standing"),
     (3, "carry_out"),
@@ -38,33 +36,12 @@ pub const NAMES: [(u8, &str); 17] = [
     (8, "close_out"),
     (9, "needs"),
     (10, "take_over"),
-    (21, "old is_sound"),
-    (22, "old standing"),
-    (23, "old carry_out"),
-    (24, "old carry_out_next"),
-    (25, "old day"),
-    (28, "old close_out"),
-    (29, "old needs"),
 ];
-
-/// "21..29: the calls 1 to 9 that take a book, under the old rule."
-const OLD: u8 = 20;
 
 impl Call {
     /// None for what is no call. Calls of later requests get their line here.
     pub fn read(input: &mut Input) -> Option<Call> {
-        let number = input.byte()?;
-        if !Call::is_known(number) {
-            return None;
-        }
-        match number.checked_sub(OLD) {
-            Some(under) => Some(Call::Old(Box::new(Call::read_as(under, input)?))),
-            None => Call::read_as(number, input),
-        }
-    }
-
-    fn read_as(number: u8, input: &mut Input) -> Option<Call> {
-        let call = match number {
+        let call = match input.byte()? {
             1 => Call::IsSound(input.book()?),
             2 => Call::Standing(input.book()?, input.short()?),
             3 => Call::CarryOut(input.book()?, input.record()?),
@@ -97,7 +74,6 @@ impl Call {
             Call::CloseOut(..) => 8,
             Call::Needs(..) => 9,
             Call::TakeOver(..) => 10,
-            Call::Old(call) => OLD + call.number(),
         }
     }
 
@@ -107,20 +83,11 @@ impl Call {
         named.map_or("no call", |&(_, name)| name)
     }
 
-    /// The call under this rule, if there is one.
-    pub fn under(self, rule: Rule) -> Option<Call> {
-        match rule {
-            Rule::New => Some(self),
-            Rule::Old => Call::is_known(OLD + self.number()).then(|| Call::Old(Box::new(self))),
-        }
-    }
-
-    /// The call and the rule that it goes by.
-    pub fn by_rule(&self) -> (&Call, Rule) {
+    /// The rule that judges its book.
+    pub fn rule(&self) -> Rule {
         match self {
-            Call::Old(call) => (call, Rule::Old),
-            Call::TakeOver(_) => (self, Rule::Old),
-            _ => (self, Rule::New),
+            Call::TakeOver(_) => Rule::Old,
+            _ => Rule::New,
         }
     }
 
@@ -130,7 +97,6 @@ impl Call {
             Call::CarryOutNext(book, _, _) | Call::Day(book, _, _) => Some(book),
             Call::CloseOut(book, _, _) | Call::Needs(book, _) => Some(book),
             Call::TakeOver(book) => Some(book),
-            Call::Old(call) => call.book(),
             Call::ReadAt(..) | Call::Write(..) => None,
         }
     }
@@ -144,12 +110,8 @@ impl Call {
     pub fn lay_over(&self, out: &mut Vec<u8>, book: &[u8]) {
         out.push(self.number());
         out.extend_from_slice(book);
-        self.by_rule().0.lay_rest(out);
-    }
-
-    fn lay_rest(&self, out: &mut Vec<u8>) {
         match self {
-            Call::IsSound(_) | Call::TakeOver(_) | Call::Old(_) => {}
+            Call::IsSound(_) | Call::TakeOver(_) => {}
             Call::Standing(_, account) => out.extend_from_slice(&account.to_be_bytes()),
             Call::CarryOut(_, record) => lay_record(out, record),
             Call::CarryOutNext(_, piece, number)

@@ -4,7 +4,7 @@
 use super::call::NAMES;
 use super::{Answered, Call};
 use crate::book::CEILING;
-use crate::dayfile::{length, Next, Reader};
+use crate::dayfile::*;
 use crate::make::asked::ENDINGS;
 use crate::rule::Rule;
 use crate::table::{Fault, Table, ALLOCATED, LIVE, MARGIN, MODE, PLEDGED, RECEIVED};
@@ -22,17 +22,10 @@ const OUTCOMES: [&str; NAMES.len()] = [
     "0 1 15 16",
     "0 1 15",
     "0 1",
-    "0 1",
-    "0 1 7",
-    "0 1 3 4 5 6 7 8 9 10 11 12 13 14 17",
-    "0 1 2 3 4 5 6 7 8 9 10 11 12 13 14 17 end",
-    "1 end cut long",
-    "0 1 15 16",
-    "0 1 15",
 ];
 
 /// The edges of arguments that every run must have, by call.
-const EDGES: [(&str, &[&str]); 16] = [
+const EDGES: [(&str, &[&str]); 13] = [
     ("carry_out_next", &PLACES),
     ("read_at", &PLACES),
     ("day", &NUMBERS),
@@ -41,14 +34,11 @@ const EDGES: [(&str, &[&str]); 16] = [
     ("needs", &ROOMS),
     ("is_sound", &BOOKS),
     ("is_sound", &RULES),
-    ("old carry_out_next", &PLACES),
-    ("old day", &NUMBERS),
-    ("old close_out", &ROOMS),
-    ("old needs", &ROOMS),
-    ("old is_sound", &BOOKS),
-    ("old is_sound", &RULES),
     ("take_over", &RULES),
     ("take_over", &TAKEN_OVER),
+    ("standing", &STANDINGS),
+    ("close_out", &LOSSES),
+    ("carry_out", &RECORDS),
 ];
 
 const PLACES: [&str; 5] = [
@@ -74,21 +64,22 @@ const ROOMS: [&str; 5] = [
     "most room",
 ];
 /// Of sound books alone.
-const BOOKS: [&str; 6] = [
+const BOOKS: [&str; 8] = [
     "one account",
     "256 accounts",
     "an amount at the ceiling",
     "a retired account",
     "a mode on",
     "serial 65535",
+    "covered to the paisa",
+    "a shortfall of a paisa",
 ];
 
 /// How the two rules judge one book.
-const RULES: [&str; 4] = [
+const RULES: [&str; 3] = [
     "sound by both rules",
     "sound by the old rule alone",
     "sound by the new rule alone",
-    "covered at face value only",
 ];
 /// Of books that are sound by the old rule.
 const TAKEN_OVER: [&str; 6] = [
@@ -99,11 +90,28 @@ const TAKEN_OVER: [&str; 6] = [
     "a paisa short by the new rule",
     "a retired account",
 ];
-
-/// By whom a book is judged: by the calls of today, by the old rule's, or
-/// where it is to be taken over.
-type Judge = &'static str;
-const JUDGES: [Judge; 3] = ["new", "old", "take_over"];
+const STANDINGS: [&str; 3] = [
+    "the CM's with a shortfall",
+    "the CM's without one",
+    "another's under a shortfall",
+];
+/// Of sound books, with losses that are not refused.
+const LOSSES: [&str; 3] = [
+    "under a shortfall",
+    "all at the margins under a shortfall",
+    "all at the margins without one",
+];
+/// Under a shortfall, by code and outcome.
+const RECORDS: [&str; 8] = [
+    "under a shortfall, a margin: 13",
+    "under a shortfall, a margin: 0",
+    "under a shortfall, a release: 0",
+    "under a shortfall, a release: 12",
+    "under a shortfall, a release: 17",
+    "under a shortfall, a value: 0",
+    "under a shortfall, a revision: 0",
+    "code 14: 4",
+];
 
 #[derive(Default)]
 pub struct Met {
@@ -112,7 +120,7 @@ pub struct Met {
     outcomes: BTreeMap<(&'static str, String), u64>,
     edges: BTreeMap<(&'static str, &'static str), u64>,
     /// Books with one fault alone.
-    alone: BTreeMap<(Judge, Fault), u64>,
+    alone: BTreeMap<(Rule, Fault), u64>,
     sound: u64,
     several: u64,
     endings: [u64; ENDINGS.len()],
@@ -123,26 +131,21 @@ impl Met {
         self.calls += 1;
         let outcome = (call.name(), answered.word.clone());
         *self.outcomes.entry(outcome).or_default() += 1;
-        for edge in edges(call) {
+        for edge in edges(call, &answered.word) {
             *self.edges.entry((call.name(), edge)).or_default() += 1;
         }
         if let Some(book) = call.book() {
-            self.count_book(book, call);
+            self.count_book(book, call.rule());
         }
     }
 
-    fn count_book(&mut self, book: &Table, call: &Call) {
-        let judge = match call {
-            Call::TakeOver(_) => JUDGES[2],
-            Call::Old(_) => JUDGES[1],
-            _ => JUDGES[0],
-        };
-        let faults = book.faults_by(call.by_rule().1);
+    fn count_book(&mut self, book: &Table, rule: Rule) {
+        let faults = book.faults_by(rule);
         let alone = Fault::alone(&faults);
         self.sound += u64::from(faults.is_empty());
         self.several += u64::from(alone.is_empty() && !faults.is_empty());
         for fault in alone {
-            *self.alone.entry((judge, fault)).or_default() += 1;
+            *self.alone.entry((rule, fault)).or_default() += 1;
         }
     }
 
@@ -165,11 +168,11 @@ impl Met {
             let unmet = edges.filter(|&&edge| !self.edges.contains_key(&(name, edge)));
             missed.extend(unmet.map(|edge| format!("{name}: {edge}")));
         }
-        for judge in JUDGES {
-            let mut faults = Fault::all();
-            faults.retain(|&fault| !self.alone.contains_key(&(judge, fault)));
+        for rule in [Rule::Old, Rule::New] {
+            let mut faults = Fault::all(rule);
+            faults.retain(|&fault| !self.alone.contains_key(&(rule, fault)));
             let faults = faults.iter();
-            missed.extend(faults.map(|fault| format!("alone, {judge}: {fault:?}")));
+            missed.extend(faults.map(|fault| format!("alone, {rule:?}: {fault:?}")));
         }
         let endings = ENDINGS.iter().zip(self.endings);
         let unmet = endings.filter(|(_, many)| *many == 0);
@@ -208,19 +211,25 @@ impl Met {
     }
 }
 
-fn edges(call: &Call) -> Vec<&'static str> {
-    let (call, rule) = call.by_rule();
+fn edges(call: &Call, word: &str) -> Vec<&'static str> {
     match call {
         Call::CarryOutNext(_, piece, place) | Call::ReadAt(piece, place) => {
             vec![place_edge(piece.len() as u64, *place)]
         }
         Call::Day(_, piece, number) => number_edges(records(piece), *number),
         Call::Write(record, room) => room_edges(length(record.mark), *room),
-        Call::CloseOut(book, _, room) => room_edges(4 * book.held(), *room),
-        Call::Needs(book, room) => room_edges(book.held(), *room),
-        Call::IsSound(book) if book.is_sound_by(rule) => {
-            [book_edges(book), rule_edges(book)].concat()
+        Call::CloseOut(book, losses, room) => {
+            let of_losses = if word == "0" {
+                loss_edges(book, losses)
+            } else {
+                Vec::new()
+            };
+            [room_edges(4 * book.held(), *room), of_losses].concat()
         }
+        Call::Standing(book, account) if word == "0" => standing_edges(book, *account),
+        Call::CarryOut(book, record) => record_edges(book, record, word),
+        Call::Needs(book, room) => room_edges(book.held(), *room),
+        Call::IsSound(book) if book.is_sound() => [book_edges(book), rule_edges(book)].concat(),
         Call::IsSound(book) => rule_edges(book),
         Call::TakeOver(book) => [rule_edges(book), over_edges(book)].concat(),
         _ => Vec::new(),
@@ -228,14 +237,8 @@ fn edges(call: &Call) -> Vec<&'static str> {
 }
 
 fn rule_edges(book: &Table) -> Vec<&'static str> {
-    let (old, new) = (book.is_sound_by(Rule::Old), book.is_sound_by(Rule::New));
-    let is = [
-        old && new,
-        old && !new,
-        new && !old,
-        old && !book.is_covered(Rule::New),
-    ];
-    chosen(&RULES, &is)
+    let (old, new) = (book.is_sound_by(Rule::Old), book.is_sound());
+    chosen(&RULES, &[old && new, old && !new, new && !old])
 }
 
 fn over_edges(book: &Table) -> Vec<&'static str> {
@@ -244,24 +247,58 @@ fn over_edges(book: &Table) -> Vec<&'static str> {
     }
     let held = &book.places[..book.held()];
     let is_settled = book.settled(Rule::New) == *book;
-    let margin = book.places[0][MARGIN];
-    let is_covered = is_covered_with(book, margin);
     let is = [
-        is_covered && !is_settled,
-        is_covered && is_settled,
-        is_covered && held.iter().any(|place| place[MODE] == 1),
-        is_covered && !is_covered_with(book, margin + 1),
-        !is_covered && is_covered_with(book, margin.saturating_sub(1)),
+        !is_settled,
+        is_settled,
+        held.iter().any(|place| place[MODE] == 1),
+        is_just_covered(book),
+        book.shortfall() == 1,
         held.iter().any(|place| place[LIVE] == 0),
     ];
     chosen(&TAKEN_OVER, &is)
 }
 
-/// By the new rule, with another margin of the CM's.
-fn is_covered_with(book: &Table, margin: u64) -> bool {
-    let mut book = book.clone();
-    book.places[0][MARGIN] = margin;
-    book.is_covered(Rule::New)
+/// A paisa more of margin would be one of shortfall.
+fn is_just_covered(book: &Table) -> bool {
+    let mut more = book.clone();
+    more.places[0][MARGIN] += 1;
+    book.shortfall() == 0 && more.shortfall() == 1
+}
+
+fn standing_edges(book: &Table, account: u16) -> Vec<&'static str> {
+    let (is_cm, is_short) = (account == 0, book.shortfall() > 0);
+    chosen(
+        &STANDINGS,
+        &[is_cm && is_short, is_cm && !is_short, !is_cm && is_short],
+    )
+}
+
+fn loss_edges(book: &Table, losses: &[u64]) -> Vec<&'static str> {
+    let held = &book.places[..book.held()];
+    let mut each = held.iter().zip(losses);
+    let at_margins = each.all(|(place, &loss)| place[MARGIN] == loss);
+    let is_short = book.shortfall() > 0;
+    chosen(
+        &LOSSES,
+        &[is_short, is_short && at_margins, !is_short && at_margins],
+    )
+}
+
+fn record_edges(book: &Table, record: &Values, word: &str) -> Vec<&'static str> {
+    let is = |code: u8, outcome: &str| record.code == code && word == outcome;
+    let is_short = book.shortfall() > 0;
+    let under = |code: u8, outcome: &str| is_short && is(code, outcome);
+    let is = [
+        under(SET_MARGIN, "13"),
+        under(SET_MARGIN, "0"),
+        under(RELEASE, "0"),
+        under(RELEASE, "12"),
+        under(RELEASE, "17"),
+        under(REVALUE, "0"),
+        under(REVISE, "0"),
+        is(LAST_CODE + 1, "4"),
+    ];
+    chosen(&RECORDS, &is)
 }
 
 fn place_edge(length: u64, place: u64) -> &'static str {
@@ -318,6 +355,8 @@ fn book_edges(book: &Table) -> Vec<&'static str> {
         held.iter()
             .any(|place| place[MODE] == 1 && place[ALLOCATED] > 0),
         book.serial == u16::MAX,
+        is_just_covered(book),
+        book.shortfall() == 1,
     ];
     chosen(&BOOKS, &is)
 }

@@ -191,7 +191,7 @@ impl Night<'_> {
     /// "The closing line is `1 0 0`, standard input isn't read": it is held
     /// open, so that a program that waits for it is found out.
     fn not_sound(&mut self, place: u64) -> Result<(), String> {
-        let faults = Fault::all();
+        let faults = Fault::all(Rule::New);
         let table = unsound(
             faults[place as usize % faults.len()],
             Rule::New,
@@ -240,7 +240,7 @@ impl Night<'_> {
     /// The refusal alone, standard input unread, and TO: the book taken over,
     /// or as it was.
     fn take_over(&mut self, program: &str, place: u64) -> Result<(), String> {
-        let faults = Fault::all();
+        let faults = Fault::all(Rule::Old);
         let table = match place % 3 {
             0 => unsound(
                 faults[place as usize % faults.len()],

@@ -34,8 +34,8 @@ pub fn make(seed: u64) -> Asked {
     let start = (seed as usize).wrapping_mul(CALLS);
     let mut bytes = Vec::new();
     for place in 0..CALLS {
-        let (aim, rule) = aims[start.wrapping_add(place) % aims.len()];
-        aim.call(rule, &mut rng).lay(&mut bytes);
+        let aim = aims[start.wrapping_add(place) % aims.len()];
+        aim.call(&mut rng).lay(&mut bytes);
     }
     let ending = seed as usize % ENDINGS.len();
     endings::put(ending, &mut bytes, &mut rng);
@@ -50,10 +50,10 @@ pub fn whole_round() -> usize {
 
 /// A sound book of any kind.
 pub fn any_sound(rng: &mut Rng) -> Table {
-    books::sound(Rule::New, rng)
+    books::sound(rng)
 }
 
-/// A book with this fault alone.
+/// A book with this fault alone by this rule.
 pub fn unsound(fault: Fault, rule: Rule, rng: &mut Rng) -> Table {
     breaches::with(fault, rule, rng)
 }
@@ -66,12 +66,12 @@ pub fn to_take_over(place: u64, rng: &mut Rng) -> Table {
 /// A piece for this book.
 pub fn with_steps(book: &Table, rng: &mut Rng) -> Vec<u8> {
     let many = rng.below(60);
-    pieces::steps(book, many, Rule::New, rng)
+    pieces::steps(book, many, rng)
 }
 
 /// Any call on any book.
 fn any_call(rng: &mut Rng) -> Call {
     let aims = Aim::round();
-    let (aim, rule) = rng.pick(&aims);
-    aim.call(rule, rng)
+    let aim = rng.pick(&aims);
+    aim.call(rng)
 }

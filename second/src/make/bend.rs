@@ -23,7 +23,7 @@ const EDGES: [u64; 14] = [
     u64::MAX,
 ];
 
-const ODD_CODES: [u8; 10] = [0, 12, 13, 14, 16, 20, 127, 128, 254, 255];
+const ODD_CODES: [u8; 10] = [0, 14, 14, 15, 16, 20, 127, 128, 254, 255];
 
 const ODD_MARKS: [u8; 16] = [
     0, 0x01, 0x0F, 0x10, 0x11, 0x1F, 0x20, 0x21, 0x30, 0x40, 0x41, 0x80, 0x81, 0xC0, 0xF0, 0xFF,
@@ -90,7 +90,7 @@ pub fn bent(maker: &mut Maker) {
 
 /// Refusals 4, 5 and 6, now and then with something else wrong too.
 pub fn bent_record(maker: &mut Maker) {
-    let known = maker.rng.between(1, 11) as u8;
+    let known = maker.rng.between(1, u64::from(LAST_CODE)) as u8;
     let code = if maker.rng.one_in(3) {
         maker.rng.pick(&ODD_CODES)
     } else {
@@ -121,8 +121,8 @@ pub fn bent_record(maker: &mut Maker) {
 fn suited(maker: &mut Maker, code: u8) -> u8 {
     match code {
         RECEIVE..=RELEASE => maker.rng.between(1, 15) as u8,
-        PLEDGE | UNPLEDGE => 1 << PLEDGED,
-        SET_MARGIN => 1 << MARGIN,
+        PLEDGE | UNPLEDGE | REVALUE => 1 << PLEDGED,
+        SET_MARGIN | REVISE => 1 << MARGIN,
         _ => 0,
     }
 }
@@ -153,7 +153,7 @@ pub fn bounds(maker: &mut Maker) {
 }
 
 pub fn edge_record(maker: &mut Maker) {
-    let code = maker.rng.between(4, 10) as u8;
+    let code = maker.rng.pick(&[4, 5, 6, 7, 8, 9, 10, REVALUE, REVISE]);
     let mark = suited(maker, code);
     let account = maker.live();
     let in_range = !maker.rng.one_in(3);

@@ -6,6 +6,7 @@ use super::maker::Maker;
 use super::steer::{costing, open_any, release_free, step, unpledge_free};
 use crate::book::{Sort, CEILING, SECURITIES};
 use crate::dayfile::*;
+use crate::rule::Rule;
 
 /// Every kind of turn on the tenth in every day, whatever the seed, by a
 /// client, a CP, a TM and the CM.
@@ -102,11 +103,10 @@ fn leave_free(maker: &mut Maker, account: u16) -> u64 {
 /// that: of securities, of several kinds, of what is pledged.
 fn take_out(maker: &mut Maker, account: u16) {
     let there = securities(maker, account);
-    let by = maker.book.rule;
     for with_cash in [false, true] {
         let free = leave_free(maker, account);
         let cash = u64::from(with_cash) * maker.rng.between(1, free / 3);
-        let most = costing(by, there, free - cash);
+        let most = costing(Rule::New, there, free - cash);
         maker.say_kinds(RELEASE, account, [cash, 0, 0, most + 1]);
         maker.say_kinds(RELEASE, account, [cash, 0, 0, most]);
         maker.say_kinds(ALLOCATE, account, [cash, 0, 0, most]);

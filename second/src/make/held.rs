@@ -6,6 +6,7 @@ use super::steer::open_any;
 use crate::book::{KINDS, SECURITIES};
 use crate::dayfile::*;
 use crate::holds::Way;
+use crate::rule::Rule;
 
 /// The member has twenty parts of collateral, so that 90% and 85% of it are
 /// whole paise; the one under it has ten units.
@@ -75,7 +76,7 @@ fn fund(maker: &mut Maker, account: u16, tenth: u64, more: u64) {
         say_of(maker, code, account, kind, amount);
     }
     let counted = maker.rng.below(tenth / 2);
-    let face = maker.book.rule.face(counted).max(1);
+    let face = Rule::New.face(counted).max(1);
     for code in [RECEIVE, ALLOCATE] {
         say_of(maker, code, account, SECURITIES, face);
     }

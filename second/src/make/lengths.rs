@@ -43,7 +43,7 @@ fn go_round(maker: &mut Maker) {
         match maker.rng.below(8) {
             0 => maker.say_margin(0, 0),
             1 => maker.say(OPEN_TM, 0, 1, &[]),
-            2 => maker.say(12, 0, 3, &[]),
+            2 => maker.say(LAST_CODE + 1, 0, 3, &[]),
             _ => maker.say(RETIRE, 0, 0, &[]),
         };
     }
@@ -117,7 +117,7 @@ fn small_step(maker: &mut Maker) {
         0 => any_good_record(maker, 0),
         1 => wrong_serial(maker),
         2 => {
-            maker.say(12, 0, 0, &[]);
+            maker.say(LAST_CODE + 1, 0, 0, &[]);
         }
         _ => {
             maker.say(RETIRE, 0, 0, &[]);

@@ -7,8 +7,11 @@ use crate::rng::Rng;
 type Way = fn(&mut Sheet, usize) -> u64;
 
 /// What the losses of one list have in common. A comparison goes round them by
-/// seed and so meets them all; seven is prime to the number of kinds of days.
-const WAYS: [Way; 7] = [
+/// seed and so meets them all; ten is prime to the number of kinds of days.
+const WAYS: [Way; 10] = [
+    all_at_margin,
+    all_but_one,
+    within_own,
     at_margin,
     near_margin,
     far_or_at_margin,
@@ -22,7 +25,7 @@ const WAYS: [Way; 7] = [
 /// list in each way for the days made for close-outs, one for any other.
 pub fn seeds(kind: &str, seed: u64) -> impl Iterator<Item = u64> {
     let many = match kind {
-        "shared" | "spent" => WAYS.len() as u64,
+        "shared" | "spent" | "wanting" | "short" => WAYS.len() as u64,
         _ => 1,
     };
     (0..many).map(move |more| seed.wrapping_add(more))
@@ -136,6 +139,22 @@ impl Sheet<'_> {
             wanted -= used;
         }
     }
+}
+
+/// Under a shortfall just that is left uncovered.
+fn all_at_margin(sheet: &mut Sheet, account: usize) -> u64 {
+    sheet.margin(account)
+}
+
+/// A paisa less of one.
+fn all_but_one(sheet: &mut Sheet, account: usize) -> u64 {
+    let less = u64::from(account == sheet.odd);
+    sheet.margin(account).saturating_sub(less)
+}
+
+/// Within margin and own collateral: nobody needs another's.
+fn within_own(sheet: &mut Sheet, account: usize) -> u64 {
+    sheet.margin(account).min(sheet.own(account))
 }
 
 /// What is blocked is used to the last paisa, or to one less. The odd one may

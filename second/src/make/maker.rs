@@ -110,6 +110,21 @@ impl Maker {
         self.say(SET_MARGIN, 1 << MARGIN, account, &[amount])
     }
 
+    /// K8: a new value of what is pledged.
+    pub fn say_value(&mut self, account: u16, value: u64) -> bool {
+        self.say(REVALUE, 1 << PLEDGED, account, &[value])
+    }
+
+    /// K8: a margin that can't be refused for want of cover.
+    pub fn say_revision(&mut self, account: u16, margin: u64) -> bool {
+        self.say(REVISE, 1 << MARGIN, account, &[margin])
+    }
+
+    /// What the CM is short of.
+    pub fn shortfall(&self) -> u64 {
+        self.book.deemed(0)
+    }
+
     /// Opens an account and gives its number.
     pub fn opened(&mut self, code: u8, named: u16) -> u16 {
         self.say(code, 0, named, &[]);

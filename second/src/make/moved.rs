@@ -6,6 +6,7 @@ use super::maker::Maker;
 use super::steer::{open_any, release_free, step, unpledge_free, wind_down_account};
 use crate::book::{Sort, CEILING, KINDS, SECURITIES};
 use crate::dayfile::*;
+use crate::rule::Rule;
 
 /// Every kind of move in every day, whatever the seed. At the end TMs stand
 /// about their collateral by what a client of each is deemed.
@@ -63,7 +64,7 @@ fn deposit(maker: &mut Maker, account: u16, amount: u64) {
     let kind = maker.rng.below(4) as usize;
     match (maker.rng.one_in(2), kind) {
         (true, SECURITIES) => {
-            let face = maker.book.rule.face(amount);
+            let face = Rule::New.face(amount);
             allocate_new(maker, account, kind, face);
         }
         (true, _) => allocate_new(maker, account, kind, amount),

@@ -1,5 +1,5 @@
 //! Busy days: steps that aim at the edges of refusals 7 to 14, exactly at
-//! them, one over and one under.
+//! them, one over and one under, and now and then at a shortfall.
 
 use super::maker::Maker;
 use crate::book::{Sort, CEILING, MOST_ACCOUNTS, SECURITIES};
@@ -9,7 +9,7 @@ use crate::rule::Rule;
 type Aim = (u64, fn(&mut Maker));
 
 /// Each aim with its weight.
-const AIMS: [Aim; 17] = [
+const AIMS: [Aim; 20] = [
     (8, open),
     (24, fund),
     (3, at_ceiling),
@@ -27,6 +27,9 @@ const AIMS: [Aim; 17] = [
     (2, wind_down),
     (3, stranger),
     (2, wrong_sort),
+    (3, revalue),
+    (3, revise),
+    (8, cure),
 ];
 
 pub fn step(maker: &mut Maker) {
@@ -188,7 +191,7 @@ pub fn release_free(maker: &mut Maker) {
     let mut kinds = [0; 4];
     let first = maker.rng.below(4) as usize;
     for kind in (first..first + 4).map(|kind| kind % 4) {
-        let by = by_rule(maker, kind);
+        let by = by_rule(kind);
         let most = costing(by, bounds[kind], left);
         kinds[kind] = if maker.rng.one_in(3) {
             maker.rng.below(most + 1)
@@ -205,9 +208,9 @@ pub fn release_free(maker: &mut Maker) {
 }
 
 /// How a kind counts: all but securities in full.
-fn by_rule(maker: &Maker, kind: usize) -> Rule {
+fn by_rule(kind: usize) -> Rule {
     match kind {
-        SECURITIES => maker.book.rule,
+        SECURITIES => Rule::New,
         _ => Rule::Old,
     }
 }
@@ -241,7 +244,7 @@ fn largest_margin(maker: &Maker, account: usize) -> u64 {
     let book = &maker.book;
     let mut may_need = book.collateral(account);
     if account == 0 {
-        return may_need - (book.need(0) - book.rows[0].margin);
+        return may_need.saturating_sub(book.need(0) - book.rows[0].margin);
     }
     let above = book.answers_for(account);
     if above != 0 {
@@ -249,6 +252,56 @@ fn largest_margin(maker: &Maker, account: usize) -> u64 {
     }
     may_need += book.deemed(account) + book.free(0);
     may_need - (book.need(account) - book.rows[account].margin)
+}
+
+/// Near what it is, near what the account needs of it, nothing, or anything.
+pub fn revalue(maker: &mut Maker) {
+    let account = maker.live();
+    let at = usize::from(account);
+    let pledged = maker.book.rows[at].pledged;
+    let needed = (maker.book.need(at) + pledged).saturating_sub(maker.book.collateral(at));
+    let anything = maker.amount();
+    let value = maker
+        .rng
+        .pick(&[pledged, needed, needed, 0, CEILING, anything]);
+    let value = maker.rng.beside(value).min(CEILING);
+    maker.say_value(account, value);
+}
+
+/// Near what the CM can cover, nothing, the ceiling, or anything.
+pub fn revise(maker: &mut Maker) {
+    let account = maker.live();
+    let edge = largest_margin(maker, usize::from(account)).min(CEILING);
+    let anything = maker.amount();
+    let margin = maker.rng.pick(&[edge, edge, edge, 0, anything]);
+    let margin = match maker.rng.below(40) {
+        0 => CEILING,
+        _ => maker.rng.beside(margin).min(CEILING),
+    };
+    maker.say_revision(account, margin);
+}
+
+/// Lessens a shortfall, mostly to nothing.
+pub fn cure(maker: &mut Maker) {
+    let short = maker.shortfall();
+    if short == 0 {
+        return fund(maker);
+    }
+    let account = maker.live();
+    let pledged = maker.book.rows[0].pledged;
+    let value = maker.rng.near(pledged + short).min(CEILING);
+    let (more, fewer) = (maker.rng.near(short), maker.rng.near(short));
+    let margin = maker.book.rows[usize::from(account)].margin;
+    match maker.rng.below(5) {
+        0 => maker.say_value(0, value),
+        1 => maker.say_margin(account, margin.saturating_sub(fewer)),
+        2 => maker.say_revision(account, margin.saturating_sub(fewer)),
+        3 => maker.say_pledge(PLEDGE, 0, more),
+        _ => {
+            let kinds = [more, 0, 0, 0];
+            maker.say_kinds(RECEIVE, 0, kinds) && maker.say_kinds(ALLOCATE, 0, kinds)
+        }
+    };
 }
 
 fn margin_at_edge(maker: &mut Maker) {
@@ -329,7 +382,7 @@ pub fn stranger(maker: &mut Maker) {
 
 /// A record in range for any code.
 pub fn any_good_record(maker: &mut Maker, account: u16) {
-    let code = maker.rng.between(1, 11) as u8;
+    let code = maker.rng.between(1, u64::from(LAST_CODE)) as u8;
     let amount = maker.amount();
     match code {
         RECEIVE | HAND_BACK | ALLOCATE | RELEASE => {
@@ -338,6 +391,8 @@ pub fn any_good_record(maker: &mut Maker, account: u16) {
         }
         PLEDGE | UNPLEDGE => maker.say_pledge(code, account, amount),
         SET_MARGIN => maker.say_margin(account, amount),
+        REVALUE => maker.say_value(account, amount),
+        REVISE => maker.say_revision(account, amount),
         _ => maker.say(code, 0, account, &[]),
     };
 }

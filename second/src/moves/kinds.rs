@@ -1,4 +1,4 @@
-//! The kinds of moves that K3 turns on, all that are possible.
+//! The kinds of moves that K3 turns on, K8's among them, all that are possible.
 
 use crate::book::{Sort, Standing};
 
@@ -16,6 +16,12 @@ pub enum Deed {
     Fallen,
     Same,
     Retired,
+    ValueUp,
+    ValueDown,
+    ValueSame,
+    RevisedUp,
+    RevisedDown,
+    RevisedSame,
 }
 
 use Deed::*;
@@ -51,9 +57,24 @@ pub enum Kind {
 
 const SORTS: [Sort; 4] = [Sort::Cm, Sort::Tm, Sort::Client, Sort::Cp];
 
-const DEEDS: [Deed; 11] = [
-    Opened, Received, HandedBack, Allocated, Released, Pledged, Unpledged, Risen, Fallen, Same,
+const DEEDS: [Deed; 17] = [
+    Opened,
+    Received,
+    HandedBack,
+    Allocated,
+    Released,
+    Pledged,
+    Unpledged,
+    Risen,
+    Fallen,
+    Same,
     Retired,
+    ValueUp,
+    ValueDown,
+    ValueSame,
+    RevisedUp,
+    RevisedDown,
+    RevisedSame,
 ];
 
 const MOVED: [Moved; 4] = [Moved::Nothing, Moved::Tm, Moved::Cm, Moved::Both];
@@ -92,12 +113,24 @@ impl Kind {
     pub fn is_possible(&self) -> bool {
         match *self {
             Kind::Moved(sort, deed, moved) => can_move(sort, deed, moved),
-            Kind::AtEdge(Sort::Cm, deed, edge) => edge == Edge::Level && can_come(deed, edge),
+            // 13 stands ahead of a margin that rises past cover.
+            Kind::AtEdge(Sort::Cm, Risen, Edge::Over) => false,
             Kind::AtEdge(_, deed, edge) => can_come(deed, edge),
             // What a client releases was deemed by nobody.
             Kind::TmAtEdge(Released | Unpledged, _) => false,
             Kind::TmAtEdge(deed, edge) => can_come(deed, edge),
         }
+    }
+
+    /// Whether it takes a price, a revision or a shortfall.
+    #[cfg(test)]
+    pub fn is_k8(&self) -> bool {
+        let (deed, of_cm, edge) = match *self {
+            Kind::Moved(_, deed, _) => (deed, false, None),
+            Kind::AtEdge(sort, deed, edge) => (deed, sort == Sort::Cm, Some(edge)),
+            Kind::TmAtEdge(deed, edge) => (deed, false, Some(edge)),
+        };
+        deed >= ValueUp || (of_cm && edge != Some(Edge::Level))
     }
 
     /// The sort of the account that the record names.
@@ -123,21 +156,31 @@ impl Kind {
 fn can_move(sort: Sort, deed: Deed, moved: Moved) -> bool {
     match (sort, deed) {
         (Sort::Cm, Opened | Retired) => false,
-        (Sort::Cm, Risen | Fallen) => moved == Moved::Cm,
-        (Sort::Tm, Risen | Fallen) => matches!(moved, Moved::Tm | Moved::Both),
-        (Sort::Client, Risen | Fallen | Allocated | Pledged) => moved != Moved::Cm,
-        (Sort::Cp, Risen | Fallen | Allocated | Pledged) | (Sort::Tm, Allocated | Pledged) => {
+        (Sort::Cm, _) if of_margin(deed) => moved == Moved::Cm,
+        (Sort::Tm, _) if of_margin(deed) => matches!(moved, Moved::Tm | Moved::Both),
+        (Sort::Client, _) if of_margin(deed) || of_collateral(deed) => moved != Moved::Cm,
+        (Sort::Cp, _) if of_margin(deed) => matches!(moved, Moved::Nothing | Moved::Cm),
+        (Sort::Tm | Sort::Cp, _) if of_collateral(deed) => {
             matches!(moved, Moved::Nothing | Moved::Cm)
         }
         _ => moved == Moved::Nothing,
     }
 }
 
+fn of_margin(deed: Deed) -> bool {
+    matches!(deed, Risen | Fallen | RevisedUp | RevisedDown)
+}
+
+fn of_collateral(deed: Deed) -> bool {
+    matches!(deed, Allocated | Pledged | ValueUp | ValueDown)
+}
+
 fn can_come(deed: Deed, edge: Edge) -> bool {
+    let past = matches!(deed, Risen | RevisedUp | ValueDown);
     match edge {
-        Edge::Level => matches!(deed, Risen | Released | Unpledged),
-        Edge::Over => deed == Risen,
-        Edge::Back => matches!(deed, Fallen | Allocated | Pledged),
+        Edge::Level => past || matches!(deed, Released | Unpledged),
+        Edge::Over => past,
+        Edge::Back => matches!(deed, Fallen | Allocated | Pledged | RevisedDown | ValueUp),
     }
 }
 
@@ -155,6 +198,12 @@ impl Deed {
             Fallen => "fallen",
             Same => "same margin",
             Retired => "retired",
+            ValueUp => "value up",
+            ValueDown => "value down",
+            ValueSame => "same value",
+            RevisedUp => "revised up",
+            RevisedDown => "revised down",
+            RevisedSame => "revised to the same",
         }
     }
 }

@@ -55,8 +55,8 @@ fn changed_words(before: &Table, now: &Table) -> Vec<String> {
 /// One call as a line of a story, its book aside.
 fn call_line(call: &Call, serial: u16) -> String {
     let name = call.name();
-    let line = match call.by_rule().0 {
-        Call::IsSound(_) | Call::TakeOver(_) | Call::Old(_) => name.to_string(),
+    let line = match call {
+        Call::IsSound(_) | Call::TakeOver(_) => name.to_string(),
         Call::Standing(_, account) => format!("{name} {account}"),
         Call::CarryOut(_, record) => format!("{name} {}", record_words(record, serial)),
         Call::CarryOutNext(_, piece, number)
@@ -113,7 +113,7 @@ pub fn short(call: &Call) -> String {
         line += " ..";
     }
     if let Some(book) = call.book() {
-        let mut faults = book.faults_by(call.by_rule().1);
+        let mut faults = book.faults_by(call.rule());
         faults.sort();
         faults.dedup();
         faults.truncate(6);

@@ -1,6 +1,6 @@
-//! Document 01, "A sound book", with K2, K3 and K7, clause by clause and of any
-//! words at all: sums are of 128 bits, and no clause trusts another. Cover and
-//! kept needs go by a rule, all else by none.
+//! Document 01, "A sound book", with K2, K3, K7 and K8, clause by clause and of
+//! any words at all: sums are of 128 bits, and no clause trusts another. Kept
+//! needs go by a rule, and the old one alone asks for cover.
 
 use super::*;
 use crate::book::CEILING;
@@ -39,7 +39,7 @@ pub enum Fault {
     PastCeiling(usize),
     /// "Allocated is at most received in each kind."
     AllocatedPast(usize),
-    /// "The CM's need is at most the CM's collateral."
+    /// "The CM's need is at most the CM's collateral", by the old rule.
     NotCovered,
     /// "Only a live TM or the CM can be in the mode": sort, live.
     ModeOn(u64, u64),
@@ -54,7 +54,7 @@ const AMOUNTS: std::ops::RangeInclusive<usize> = RECEIVED..=MARGIN;
 impl Fault {
     /// All those that a book can have as its only fault. A row that names no
     /// known sort as its TM always comes with that row's own fault.
-    pub fn all() -> Vec<Fault> {
+    pub fn all(rule: Rule) -> Vec<Fault> {
         use Fault::*;
         let mut all = vec![NoAccounts, TooManyAccounts];
         all.extend([TopIsNoCm, TopIsRetired, TopHasTm]);
@@ -68,7 +68,9 @@ impl Fault {
         let limited = (RECEIVED..RECEIVED + KINDS).chain([PLEDGED, MARGIN]);
         all.extend(limited.map(PastCeiling));
         all.extend((ALLOCATED..ALLOCATED + KINDS).map(AllocatedPast));
-        all.push(NotCovered);
+        if rule == Rule::Old {
+            all.push(NotCovered);
+        }
         all.extend([ModeOn(TRADING, 0), ModeOn(CLIENT, 0), ModeOn(CLIENT, 1)]);
         all.extend([ModeOn(CP, 0), ModeOn(CP, 1)]);
         all.extend([KeptNeed(CM, 1, false), KeptNeed(CM, 1, true)]);
@@ -188,13 +190,14 @@ impl Table {
                 faults.push(Fault::KeptNeed(place[SORT], place[LIVE], kept > need));
             }
         }
-        if !self.is_covered(rule) {
+        if rule == Rule::Old && afresh[0] > collateral(&self.places[0], rule) {
             faults.push(Fault::NotCovered);
         }
     }
 
-    pub fn is_covered(&self, rule: Rule) -> bool {
-        self.needs_afresh(rule)[0] <= collateral(&self.places[0], rule)
+    /// "The CM's need less its collateral, or 0."
+    pub fn shortfall(&self) -> u128 {
+        deemed(self.needs_afresh(Rule::New)[0], &self.places[0], Rule::New)
     }
 
     /// What must be kept at each place: the CM's need at place 0, each TM's at

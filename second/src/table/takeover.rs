@@ -1,14 +1,14 @@
-//! K7: "One more call takes a book over to the new rule."
+//! K7: "One more call takes a book over to the new rule." K8: it "judges the
+//! book by the old rule as before, and no longer asks for cover by the new".
 
 use super::*;
 
 impl Table {
-    /// "1 and the same book if it isn't sound by the old rule or isn't covered
-    /// by the new, otherwise the book with its kept needs worked out afresh and
-    /// nothing else changed." None stands for 1.
+    /// "1 and the same book if it isn't sound by the old rule .., otherwise the
+    /// book with its kept needs worked out afresh and nothing else changed."
+    /// None stands for 1.
     pub fn taken_over(&self) -> Option<Table> {
-        let may_be = self.is_sound_by(Rule::Old) && self.is_covered(Rule::New);
-        may_be.then(|| self.settled(Rule::New))
+        self.is_sound_by(Rule::Old).then(|| self.settled(Rule::New))
     }
 
     /// With its kept needs worked out afresh, as far as their word goes.

@@ -29,12 +29,12 @@ fn made_books_are_sound() {
 fn every_fault_by_itself() {
     let mut rng = Rng::new(2, 2);
     for rule in [Rule::Old, Rule::New] {
-        for fault in Fault::all() {
+        for fault in Fault::all(rule) {
             for _ in 0..12 {
                 let table = unsound(fault, rule, &mut rng);
                 let alone = Fault::alone(&table.faults_by(rule));
                 assert!(alone.contains(&fault), "{rule:?} {fault:?}");
-                assert!(table.book_by(rule).is_none());
+                assert!(!table.is_sound_by(rule));
             }
         }
     }
@@ -56,12 +56,10 @@ fn a_whole_round_meets_everything() {
         assert_eq!(met.missed(), Vec::<String>::new());
     }
     let outcomes = 2 + 3 + 15 + 17 + 4 + 6 + 5 + 4 + 3;
-    let old_outcomes = outcomes - 6 - 5;
-    let edges = 5 + 5 + 6 + 5 + 5 + 5 + 6 + 4;
-    let old_edges = edges - 5 - 5;
-    let taken_over = 2 + 4 + 6;
-    let outcomes = outcomes + old_outcomes + edges + old_edges + taken_over;
-    let all = outcomes + 3 * Fault::all().len() + ENDINGS.len();
+    let edges = 5 + 5 + 6 + 5 + 5 + 5 + 8 + 3 + 3 + 3 + 8;
+    let taken_over = 2 + 3 + 6;
+    let faults = Fault::all(Rule::Old).len() + Fault::all(Rule::New).len();
+    let all = outcomes + edges + taken_over + faults + ENDINGS.len();
     assert_eq!(Met::default().missed().len(), all);
 }
 

@@ -119,7 +119,7 @@ fn a_book_lasts_the_night() {
     let words = [book.clone()];
     assert_eq!(
         programs::standings(&words, &|| Ok(Vec::new())).unwrap(),
-        b"end 0 0\n0 cm live 0 10 9 9 0 1 on\n1 tm live 0 0 9 0 9 0 on\n"
+        b"end 0 0\n0 cm live 0 10 9 9 0 1 on 0\n1 tm live 0 0 9 0 9 0 on 0\n"
     );
     assert_eq!(
         programs::needs(&words, &|| Ok(Vec::new())).unwrap(),

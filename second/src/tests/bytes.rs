@@ -14,7 +14,7 @@ fn an_empty_day() {
     assert_eq!(print::day(&[]), b"end 0 0\n");
     assert_eq!(
         print::standings(&[]),
-        b"end 0 0\n0 cm live 0 0 0 0 0 0 off\n"
+        b"end 0 0\n0 cm live 0 0 0 0 0 0 off 0\n"
     );
     assert_eq!(print::needs(&[]), b"end 0 0\n0 0\n");
 }
@@ -59,11 +59,11 @@ fn standings_lines() {
     let said =
         "tm\nclient 1\ncp\nclient 1\nretire 4\npledge 0 10\npledge 1 3\nmargin 2 5\nmargin 3 1";
     let want = "end 9 9
-0 cm live 0 10 3 3 0 7 off
-1 tm live 0 3 5 3 2 0 on
-2 client live 1 0 5 0 5 0 off
-3 cp live 0 0 1 0 1 0 off
-4 client retired 1 0 0 0 0 0 off
+0 cm live 0 10 3 3 0 7 off 0
+1 tm live 0 3 5 3 2 0 on 0
+2 client live 1 0 5 0 5 0 off 0
+3 cp live 0 0 1 0 1 0 off 0
+4 client retired 1 0 0 0 0 0 off 0
 ";
     assert_eq!(
         String::from_utf8(print::standings(&piece(said))).unwrap(),

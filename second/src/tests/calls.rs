@@ -48,29 +48,29 @@ fn is_sound() {
     assert_eq!(start("is_sound"), "1");
 }
 
-/// Refusal, collateral, need, blocked, deemed, free, mode.
+/// Refusal, collateral, need, blocked, deemed, free, mode, shortfall.
 #[test]
 fn standing() {
-    assert_eq!(answer("standing 0"), "0 0 0 0 0 0 0");
+    assert_eq!(answer("standing 0"), "0 0 0 0 0 0 0 0");
     let margin = "do margin 2 900\n";
     assert_eq!(
         start(&format!("{margin}standing 2")),
-        "0 300 900 300 600 0 0"
+        "0 300 900 300 600 0 0 0"
     );
     assert_eq!(
         start(&format!("{margin}standing 1")),
-        "0 500 600 500 100 0 1"
+        "0 500 600 500 100 0 1 0"
     );
     assert_eq!(
         start(&format!("{margin}standing 0")),
-        "0 1000 100 100 0 900 0"
+        "0 1000 100 100 0 900 0 0"
     );
     for account in [4, 5, 255, 256, 65_535] {
-        assert_eq!(start(&format!("standing {account}")), "7 0 0 0 0 0 0");
+        assert_eq!(start(&format!("standing {account}")), "7 0 0 0 0 0 0 0");
     }
-    assert_eq!(start("set 0 margin 1\nstanding 0"), "1 0 0 0 0 0 0");
-    assert_eq!(start("set 0 margin 1\nstanding 9"), "1 0 0 0 0 0 0");
-    assert_eq!(start("set 0 mode 1\nstanding 0"), "0 1000 0 0 0 1000 1");
+    assert_eq!(start("set 0 margin 1\nstanding 0"), "1 0 0 0 0 0 0 0");
+    assert_eq!(start("set 0 margin 1\nstanding 9"), "1 0 0 0 0 0 0 0");
+    assert_eq!(start("set 0 mode 1\nstanding 0"), "0 1000 0 0 0 1000 1 0");
 }
 
 #[test]
@@ -78,7 +78,7 @@ fn carry_out_in_order() {
     let serial = 9;
     for (record, names, refusal) in [
         ("serial 8 pledge 9 1", "8 8 9", 3),
-        ("values 9 12 255 9 1 1 1 1 1 1", "9 12 9", 4),
+        ("values 9 14 255 9 1 1 1 1 1 1", "9 14 9", 4),
         ("values 9 0 0 0 0 0 0 0 0 0", "9 0 0", 4),
         ("values 9 8 32 9 1 1 1 1 1 1", "9 8 9", 5),
         ("values 9 8 80 9 0 0 0 0 1 0", "9 8 9", 5),
@@ -203,12 +203,12 @@ fn carry_out_next() {
     }
     assert_eq!(start("carry_out_next 0"), "0 0 0 end 0 0 same");
     assert_eq!(
-        start("carry_out_next 0 raw 0C FF 0009 0000"),
+        start("carry_out_next 0 raw 0E FF 0009 0000"),
         "0 0 0 2 0 0 same"
     );
     assert_eq!(
-        start("carry_out_next 0 raw 0C FF 0009 0001 ; zeros 65"),
-        "9 12 1 4 0 70 5 10"
+        start("carry_out_next 0 raw 0E FF 0009 0001 ; zeros 65"),
+        "9 14 1 4 0 70 5 10"
     );
     assert_eq!(
         start(&format!("count 0\ncarry_out_next 99 {two}")),
@@ -253,8 +253,8 @@ fn read_at() {
         "0 14 77 10 300 32 0 0 0 0 0 0"
     );
     assert_eq!(
-        answer("read_at 0 raw 0C01 0005 0006 ; zeros 8"),
-        "4 14 5 12 6"
+        answer("read_at 0 raw 0E01 0005 0006 ; zeros 8"),
+        "4 14 5 14 6"
     );
     assert_eq!(
         answer("read_at 0 raw 04FF 0005 0006 ; zeros 64"),
@@ -281,7 +281,7 @@ fn write() {
         answer("write values 0 1 0 5 0 0 0 0 0 0 room 6"),
         "0 6 1 0 0 0 0 5"
     );
-    assert_eq!(answer("write values 0 12 255 5 1 1 1 1 1 1 room 0"), "4 0");
+    assert_eq!(answer("write values 0 14 255 5 1 1 1 1 1 1 room 0"), "4 0");
     assert_eq!(answer("write values 0 4 0 5 1 0 0 0 0 0 room 1"), "5 0 1");
     assert_eq!(answer("write values 0 4 3 5 1 0 0 0 0 0 room 1"), "6 0 1");
     assert_eq!(answer("write values 0 4 1 5 1 1 0 0 0 0 room 1"), "6 0 1");
@@ -418,7 +418,7 @@ fn the_largest_words() {
         ] {
             call.lay(&mut bytes);
         }
-        let want = "0\n1 0 0 0 0 0 0\n0 0 0 1 0 18446744073709551615 same\n1 0 1\n1\n";
+        let want = "0\n1 0 0 0 0 0 0 0\n0 0 0 1 0 18446744073709551615 same\n1 0 1\n1\n";
         assert_eq!(String::from_utf8(answered(&bytes)).unwrap(), want);
         assert_eq!(Calls::of(&bytes).count(), 5);
     }

@@ -3,7 +3,7 @@
 
 use super::*;
 use crate::book::{Sort, CEILING};
-use crate::closeout::{close_out_bytes, CloseOut, Payment};
+use crate::closeout::{close_out, close_out_bytes, CloseOut, Payment};
 use crate::make::{kind_named, losses, make, NO_LIMIT, ROUND};
 
 /// Books and close-outs as a comparison meets them; and how many were refused.
@@ -45,15 +45,20 @@ fn tms(book: &Book) -> Vec<usize> {
 fn demand_three() {
     let (list, refused) = made(990);
     assert!((200..700).contains(&refused), "{refused}");
+    let mut shorts = 0;
     for (book, answer) in &list {
+        let (short, mut beyond_margins) = (book.standings()[0].shortfall, 0);
+        shorts += usize::from(short > 0);
         for account in 0..book.count {
             let (row, paid) = (&book.rows[account], &answer.payments[account]);
             let loss = answer.losses[account];
             assert_eq!(paid.own + paid.tm + paid.cm + paid.uncovered, loss);
-            assert!(paid.uncovered <= loss.saturating_sub(row.margin));
-            assert!(paid.own <= loss.min(row.collateral(book.rule)));
+            let beyond = loss.saturating_sub(row.margin);
+            assert!(paid.uncovered <= beyond || short > 0);
+            beyond_margins += beyond;
+            assert!(paid.own <= loss.min(row.collateral()));
             if is_client_or_cp(book, account) {
-                assert_eq!(paid.own, loss.min(row.collateral(book.rule)));
+                assert_eq!(paid.own, loss.min(row.collateral()));
             }
             assert!(paid.tm == 0 || row.sort == Sort::Client);
         }
@@ -69,7 +74,24 @@ fn demand_three() {
         assert!(answer.payments[0].own + of_others <= book.collateral(0));
         let uncovered = answer.payments.iter().map(|paid| paid.uncovered);
         assert_eq!(uncovered.sum::<u64>(), answer.total);
+        assert!(answer.total <= short + beyond_margins);
     }
+    assert!(shorts > 60, "{shorts}");
+}
+
+/// "Round one pays in order until collateral is gone": with losses at the
+/// margins the total is the shortfall.
+#[test]
+fn losses_at_the_margins() {
+    let mut shorts = 0;
+    for (book, _) in made(500).0 {
+        let short = book.standings()[0].shortfall;
+        let losses = book.rows[..book.count].iter().map(|row| row.margin);
+        let closed = close_out(&book, losses.collect()).unwrap();
+        assert_eq!(closed.total, short);
+        shorts += usize::from(short > 0);
+    }
+    assert!(shorts > 30, "{shorts}");
 }
 
 /// What each gets of a purse: it reaches to its own sum with those before it.
@@ -101,7 +123,7 @@ fn within_margin(book: &Book, losses: &[u64], account: usize) -> u64 {
     let row = &book.rows[account];
     let within = losses[account].min(row.margin);
     if is_client_or_cp(book, account) {
-        within.saturating_sub(losses[account].min(row.collateral(book.rule)))
+        within.saturating_sub(losses[account].min(row.collateral()))
     } else {
         within
     }
@@ -111,11 +133,7 @@ fn first_round(book: &Book, losses: &[u64]) -> (Vec<u64>, Vec<u64>) {
     let wanted: Vec<u64> = (0..book.count)
         .map(|account| within_margin(book, losses, account))
         .collect();
-    let collateral: Vec<u64> = book
-        .rows
-        .iter()
-        .map(|row| row.collateral(book.rule))
-        .collect();
+    let collateral: Vec<u64> = book.rows.iter().map(|row| row.collateral()).collect();
     one_round(book, &wanted, &collateral)
 }
 
@@ -161,7 +179,8 @@ fn two_rounds_by_the_letter() {
 /// loses beyond its margin, all others keep what is within theirs.
 #[test]
 fn blocked_stays_for_those_it_was_blocked_for() {
-    for (book, answer) in made(220).0 {
+    let covered = |(book, _): &(Book, CloseOut)| book.standings()[0].shortfall == 0;
+    for (book, answer) in made(220).0.into_iter().filter(covered) {
         for greedy in (0..book.count).filter(|&account| book.rows[account].live) {
             let mut losses: Vec<u64> = (0..book.count)
                 .map(|account| answer.losses[account].min(book.rows[account].margin))
@@ -214,11 +233,7 @@ fn losses_meet_the_edges() {
     for (book, answer) in &made(204).0 {
         for account in (0..book.count).filter(|&account| book.rows[account].live) {
             let row = &book.rows[account];
-            let (loss, own, margin) = (
-                answer.losses[account],
-                row.collateral(book.rule),
-                row.margin,
-            );
+            let (loss, own, margin) = (answer.losses[account], row.collateral(), row.margin);
             let edges = [
                 loss == 0,
                 loss == CEILING,

@@ -7,7 +7,7 @@ use crate::day::Closing;
 use crate::dayfile::{Next, Reader};
 use crate::make::{kind_named, make, NO_LIMIT, ROUND};
 use crate::tally::Tally;
-use crate::{holds, moves, tenths};
+use crate::{holds, moves, shorts, tenths};
 
 /// Need as the paper says it, with no walk order and nothing kept.
 fn need(book: &Book, account: usize) -> u64 {
@@ -30,6 +30,11 @@ fn standing(book: &Book, account: usize) -> Standing {
         deemed: need - blocked,
         free: collateral - blocked,
         mode: book.modes[account],
+        shortfall: if account == 0 {
+            need.saturating_sub(collateral)
+        } else {
+            0
+        },
     }
 }
 
@@ -113,6 +118,7 @@ fn a_tally_knows_what_it_missed() {
         moves::Kind::all().len(),
         holds::Kind::all().len(),
         tenths::Kind::all().len(),
+        shorts::Kind::all().len(),
     ];
     assert_eq!(Tally::default().missed().len(), all.iter().sum::<usize>());
 }

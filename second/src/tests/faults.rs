@@ -107,7 +107,14 @@ fn amounts() {
     }
     assert_eq!(set(2, ALLOCATED, 8), [AllocatedPast(ALLOCATED)]);
     assert_eq!(set(2, ALLOCATED + 3, 1), [AllocatedPast(ALLOCATED + 3)]);
-    assert_eq!(set(0, MARGIN, 48), [NotCovered]);
+    let past_cover = |rule: Rule| {
+        let mut table = start();
+        table.places[0][MARGIN] = 48;
+        table = table.settled(rule);
+        table.faults_by(rule)
+    };
+    assert_eq!(past_cover(Rule::New), []);
+    assert_eq!(past_cover(Rule::Old), [NotCovered]);
     let past = of(|table| {
         table.places[0][PLEDGED] = CEILING;
         table.places[4][MARGIN] = CEILING + 1;

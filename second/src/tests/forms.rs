@@ -22,17 +22,17 @@ margin 65535 18446744073709551615
 retire 2
 serial 3 retire 2
 margin 2 0
-raw 0C0100000000
+raw 0E0100000000
 ";
     assert_eq!(text::read(&piece(said)), said);
 }
 
 #[test]
 fn loose_ways_of_saying_it() {
-    let loose = "# a day\n\n  tm # the first\nreceive 1 securities 4 cash 7\r\nraw 0c 00 0002 0000";
+    let loose = "# a day\n\n  tm # the first\nreceive 1 securities 4 cash 7\r\nraw 0e 00 0002 0000";
     assert_eq!(
         text::read(&piece(loose)),
-        "tm\nreceive 1 cash 7 securities 4\nraw 0C0000020000\n"
+        "tm\nreceive 1 cash 7 securities 4\nraw 0E0000020000\n"
     );
     assert_eq!(piece("serial 0 tm\ntm"), piece("tm\nserial 1 tm"));
 }
@@ -40,7 +40,7 @@ fn loose_ways_of_saying_it() {
 /// A raw record that bears the running serial moves it on, as in the book.
 #[test]
 fn running_serial() {
-    let said = "raw 0C0000000000\ntm\nserial 9 tm\ntm\n";
+    let said = "raw 0E0000000000\ntm\nserial 9 tm\ntm\n";
     let bytes = piece(said);
     assert_eq!(refusals_of(&bytes), [4, 0, 3, 0]);
     assert_eq!(text::read(&bytes), said);

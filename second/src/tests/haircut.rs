@@ -7,7 +7,7 @@ use crate::make::{kind_named, make, MILLION_KIND, NO_LIMIT, ROUND};
 use crate::mode::Mode;
 use crate::table::{Table, MODE};
 use crate::tenths::{Kind, Tenths};
-use crate::{bookfile, calls, story};
+use crate::{calls, story};
 
 fn collateral(paise: u64) -> u64 {
     let said = format!("receive 0 securities {paise}\nallocate 0 securities {paise}");
@@ -124,26 +124,14 @@ fn answers(said: &str) -> Vec<String> {
     out.lines().map(String::from).collect()
 }
 
-/// Covered at face value only.
-const FACE_ONLY: &str = "do receive 0 securities 100\ndo allocate 0 securities 100
-old do margin 0 100";
-
+/// Covered at face value only: taken over, the CM is short of a tenth.
 #[test]
 fn covered_at_face_value_only() {
-    let said = format!(
-        "{FACE_ONLY}\nis_sound\nold is_sound\nstanding 0\nold standing 0\ntake_over
-old do receive 0 cash 10\nold do allocate 0 cash 9\ntake_over\nold do allocate 0 cash 1\ntake_over"
-    );
-    let want = [
-        "0",
-        "1",
-        "1 0 0 0 0 0 0",
-        "0 100 100 100 0 0 1",
-        "1 same",
-        "1 same",
-        "0 same",
-    ];
-    assert_eq!(answers(&said), want);
+    let said =
+        "do receive 0 securities 100\ndo allocate 0 securities 100\nset 0 margin 100\nsettle old
+is_sound\ntake_over\nstanding 0\nset 0 margin 101\nsettle old\nis_sound\ntake_over";
+    let want = ["1", "0 same", "0 90 100 90 10 0 0 10", "1", "1 same"];
+    assert_eq!(answers(said), want);
 }
 
 /// "The book with its kept needs worked out afresh and nothing else changed",
@@ -151,53 +139,25 @@ old do receive 0 cash 10\nold do allocate 0 cash 9\ntake_over\nold do allocate 0
 #[test]
 fn taken_over_and_once_more() {
     let said = "do tm\ndo client 1\ndo receive 2 securities 100\ndo allocate 2 securities 100
-do pledge 0 1000\nold do margin 2 100\nset 1 mode 1\ntake_over\nsettle\ntake_over\nold is_sound\nis_sound";
+do pledge 0 1000\ndo revise 2 100\nset 1 mode 1\nsettle old\ntake_over\nis_sound\nsettle\ntake_over\nis_sound";
     let bytes = story::write(said.as_bytes()).unwrap();
     let calls: Vec<calls::Call> = calls::Calls::of(&bytes).collect();
     let tables: Vec<&Table> = calls.iter().map(|call| call.book().unwrap()).collect();
     let after = tables[0].taken_over().unwrap();
-    assert!(after == *tables[1]);
+    assert!(after == *tables[2]);
     assert_eq!(after.places[1][MODE], 1);
-    assert_eq!(answers(said)[1..], ["1 same", "0", "1"]);
+    assert_eq!(answers(said)[1..], ["0", "1 same", "1"]);
     assert!(answers(said)[0].starts_with("0 3 6 0 "));
 }
 
-/// 26 and 27 are no calls.
+/// The old rule's calls are gone.
 #[test]
-fn calls_that_have_no_old_rule() {
-    for byte in ["14", "1A", "1B", "1E"] {
-        let said = format!("is_sound\nbytes {byte}\nis_sound");
+fn no_calls_of_the_old_rule() {
+    for byte in 20..=30 {
+        let said = format!("is_sound\nbytes {byte:02X}\nis_sound");
         assert_eq!(answers(&said), ["1", "bad 1"], "{byte}");
     }
-    assert!(story::write(b"old read_at 0").is_err());
-    assert!(story::write(b"old take_over").is_err());
-}
-
-#[test]
-fn stories_of_the_old_rule_come_back() {
-    let said = format!("{FACE_ONLY}\nold standing 0\nold carry_out margin 0 3\nold day 9 tm ; cp\nold needs room 1\nold close_out room 4 losses 5\nold carry_out_next 0 tm\ntake_over\n");
-    let bytes = story::write(said.as_bytes()).unwrap();
-    assert!(story::write(story::read(&bytes).as_bytes()).unwrap() == bytes);
-}
-
-/// By the old rule 12 is document 01's: more than is free.
-#[test]
-fn the_old_rules_twelve() {
-    let said = "do cp\ndo receive 1 cash 10 securities 11\ndo allocate 1 cash 10 securities 11
-old do margin 1 15\nold carry_out release 1 securities 6\nold carry_out release 1 securities 7
-old carry_out release 1 cash 3 securities 3\nold carry_out release 1 cash 3 securities 4";
-    let refusals: Vec<String> = answers(said)
-        .iter()
-        .map(|line| line.split(' ').nth(3).unwrap().to_string())
-        .collect();
-    assert_eq!(refusals, ["0", "12", "0", "12"]);
-}
-
-#[test]
-fn a_book_file_of_either_rule_is_one_form() {
-    let said = format!("{FACE_ONLY}\nis_sound");
-    let bytes = story::write(said.as_bytes()).unwrap();
-    assert!(bookfile::table(&bytes[1..]).unwrap().is_sound_by(Rule::Old));
+    assert!(story::write(b"old is_sound").is_err());
 }
 
 fn tenths(bytes: &[u8]) -> Tenths<'_> {

@@ -39,22 +39,21 @@ fn down_and_up() {
     }
 }
 
-/// Only a book that isn't covered could tell the lines apart, and no record
-/// makes one: here the CM's pledge has lost value.
+/// Only a book that isn't covered tells the lines apart: here the CM's pledge
+/// has lost value.
 #[test]
 fn a_book_that_is_not_covered() {
-    let mut book = book_after(FULL);
-    book.rows[0].pledged = 60;
-    assert!(!book.is_sound());
+    let mut book = book_after(&format!("{FULL}\nrevalue 0 60"));
+    assert!(book.standings()[0].shortfall > 0);
     for (said, refusal) in [
-        ("serial 10 margin 2 50", 0),
-        ("serial 11 margin 2 51", 13),
-        ("serial 12 margin 2 49", 0),
-        ("serial 13 margin 2 50", 13),
-        ("serial 14 margin 0 30", 0),
-        ("serial 15 margin 3 30", 0),
-        ("serial 16 margin 1 19", 0),
-        ("serial 17 margin 0 31", 13),
+        ("serial 11 margin 2 50", 0),
+        ("serial 12 margin 2 51", 13),
+        ("serial 13 margin 2 49", 0),
+        ("serial 14 margin 2 50", 13),
+        ("serial 15 margin 0 30", 0),
+        ("serial 16 margin 3 30", 0),
+        ("serial 17 margin 1 19", 0),
+        ("serial 18 margin 0 31", 13),
     ] {
         let bytes = piece(said);
         let Next::Record(record) = Reader::new(&bytes).next() else {
@@ -64,7 +63,8 @@ fn a_book_that_is_not_covered() {
     }
 }
 
-/// The margins of one day, whose answers the old line must give too.
+/// The margins of one day, whose answers the old line must give too where
+/// there is no shortfall.
 fn margins(bytes: &[u8]) -> Margins<'_> {
     let mut margins = Margins::from(&Book::fresh(), bytes);
     print::day_seen(bytes, |answer, book| assert!(margins.after(answer, book)));

@@ -16,6 +16,7 @@ mod margins;
 mod modes;
 mod needs;
 mod refusals;
+mod shorts;
 mod soundness;
 mod stories;
 

@@ -121,7 +121,7 @@ fn kept_by_records_of_others() {
     }
     for (said, refusal) in [
         ("serial 9 margin 1 0", 3),
-        ("raw 0C0000050001", 4),
+        ("raw 0E0000050001", 4),
         ("margin 1 101", 13),
         ("unpledge 1 14", 17),
         ("handback 1 cash 1", 11),

@@ -197,8 +197,8 @@ fn moves(bytes: &[u8]) -> Moves {
     moves
 }
 
-/// By sort of account: 12 of the CM's records, 22 of TMs', 31 of clients' and
-/// 22 of CPs'.
+/// By sort of account: 27 of the CM's records, 38 of TMs', 57 of clients' and
+/// 38 of CPs'.
 #[test]
 fn how_many_kinds() {
     let many = |sort| {
@@ -208,7 +208,7 @@ fn how_many_kinds() {
             .count()
     };
     let sorts = [Sort::Cm, Sort::Tm, Sort::Client, Sort::Cp];
-    assert_eq!(sorts.map(many), [12, 22, 31, 22]);
+    assert_eq!(sorts.map(many), [27, 38, 57, 38]);
 }
 
 /// Every kind of move in every day made for them, be it one of a bundle.
@@ -218,7 +218,25 @@ fn moved_days_meet_every_kind() {
     for seed in 0..400 {
         for room in [NO_LIMIT, ROOM] {
             let met = moves(&make(kind, seed, room)).met;
-            assert_eq!(met.kinds(), Kind::all().len(), "seed {seed}");
+            for kind in Kind::all().iter().filter(|kind| !kind.is_k8()) {
+                assert!(met.times(kind) > 0, "seed {seed}: {kind:?}");
+            }
+        }
+    }
+}
+
+/// Those of K8 likewise, and nothing that such a day says is refused.
+#[test]
+fn valued_days_meet_every_kind() {
+    let kind = kind_named("valued").unwrap();
+    for seed in 0..400 {
+        for room in [NO_LIMIT, ROOM] {
+            let bytes = make(kind, seed, room);
+            let met = moves(&bytes).met;
+            for kind in Kind::all().iter().filter(|kind| kind.is_k8()) {
+                assert!(met.times(kind) > 0, "seed {seed}: {kind:?}");
+            }
+            assert!(refusals_of(&bytes).iter().all(|&refusal| refusal == 0));
         }
     }
 }
@@ -256,7 +274,7 @@ fn moving_days_come_to_every_edge() {
     for seed in 0..40 {
         met.add(&moves(&make(kind, seed, NO_LIMIT)).met);
     }
-    for kind in Kind::all() {
-        assert!(met.times(&kind) > 2, "{kind:?}");
+    for kind in Kind::all().iter().filter(|kind| !kind.is_k8()) {
+        assert!(met.times(kind) > 2, "{kind:?}");
     }
 }

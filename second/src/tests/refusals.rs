@@ -39,7 +39,7 @@ fn three_serial() {
 fn serial_moves_after_others() {
     let said = "serial 5 tm\nserial 0 retire 0\nserial 0 tm\nserial 1 tm\nserial 2 tm";
     assert_eq!(refusals(said), [3, 8, 3, 0, 0]);
-    let said = "raw 0C0000000000\nraw 010100010000 0000000000000001\nserial 2 pledge 0 0
+    let said = "raw 0E0000000000\nraw 010100010000 0000000000000001\nserial 2 pledge 0 0
 serial 3 retire 9\nserial 4 unpledge 0 1\nserial 5 margin 0 1\nserial 6 tm";
     assert_eq!(refusals(said), [4, 5, 6, 7, 11, 13, 0]);
     let said = "serial 0 pledge 0 9\nserial 1 margin 0 9\nserial 2 unpledge 0 1\nserial 3 tm";
@@ -60,7 +60,7 @@ fn serial_goes_round() {
 #[test]
 fn four_code() {
     assert_eq!(refusals("raw 000000000000"), [4]);
-    assert_eq!(refusals("raw 0C0000000000"), [4]);
+    assert_eq!(refusals("raw 0E0000000000"), [4]);
     assert_eq!(refusals("tm\nraw 0B0000010001"), [0, 0]);
     assert_eq!(refusals("raw 010000000000"), [0]);
 }
@@ -68,7 +68,7 @@ fn four_code() {
 /// "It knows where a record ends even if the code is unknown."
 #[test]
 fn four_has_a_length() {
-    let said = "raw 0CC100000000 0000000000000000 0000000000000000 0000000000000000\ntm";
+    let said = "raw 0EC100000000 0000000000000000 0000000000000000 0000000000000000\ntm";
     assert_eq!(refusals(said), [4, 0]);
 }
 
@@ -76,15 +76,15 @@ fn four_has_a_length() {
 fn suits_by_the_table(code: u8, mark: u8) -> bool {
     match code {
         4..=7 => (1..=15).contains(&mark),
-        8 | 9 => mark == 16,
-        10 => mark == 32,
+        8 | 9 | 12 => mark == 16,
+        10 | 13 => mark == 32,
         _ => mark == 0,
     }
 }
 
 #[test]
 fn five_mark() {
-    for code in 1..=11 {
+    for code in 1..=13 {
         for mark in 0..=255u8 {
             let mut bytes = vec![code, mark, 0, 0, 0, 0];
             for _ in 0..mark.count_ones() {
@@ -301,8 +301,8 @@ fn fifteen_and_sixteen() {
 #[test]
 fn order_of_checking() {
     let huge = "FFFFFFFFFFFFFFFF";
-    assert_eq!(last(&format!("raw 0C10 0009 0009 {huge}")), 3);
-    assert_eq!(last(&format!("raw 0C10 0000 0009 {huge}")), 4);
+    assert_eq!(last(&format!("raw 0E10 0009 0009 {huge}")), 3);
+    assert_eq!(last(&format!("raw 0E10 0000 0009 {huge}")), 4);
     assert_eq!(last(&format!("raw 0A10 0000 0009 {huge}")), 5);
     assert_eq!(last(&format!("raw 0A20 0000 0009 {huge}")), 6);
     assert_eq!(last("raw 0A20 0000 0009 0000000000000001"), 7);

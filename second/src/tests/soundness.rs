@@ -52,11 +52,12 @@ fn amounts() {
     assert!(breached(|book| book.rows[2].pledged = CEILING + 1));
     assert!(breached(|book| book.rows[2].allocated[0] = 8));
     assert!(breached(|book| book.rows[2].allocated[3] = 1));
-    assert!(breached(|book| {
+    // "A sound book no longer has to be covered" (K8).
+    assert!(!breached(|book| {
         book.rows[0].margin = 6;
         book.needs[0] = 6;
     }));
-    assert!(breached(|book| {
+    assert!(!breached(|book| {
         book.rows[2].margin = 6;
         book.needs[..2].fill(6);
     }));

@@ -3,7 +3,6 @@ use mathlib.Core.Bool.{true}
 use mathlib.Core.Path.{_≡_, sym, ap, _∙_}
 use borrow.Author.Needs.{needs}
 use borrow.Author.Tests.{not-true, not-false}
-use Rattle.rows.specs.declared.Rule.the-variants.{New}
 use Rattle.rows.specs.Inner.{Ranged}
 use Rattle.table.specs.Words.{marksOf, turnedBack}
 use Rattle.table.specs.Inner.{amountSum}
@@ -26,7 +25,7 @@ start c = c .before .before .before .before .before .before .before .before
 tested : (c : tie.After-table-sound) → c .table-sound .result ≡ soundB (turnedBack (start c .args .t1))
 tested c =
     let t = start c .args .t1 in
-    c .table-sound .ensures ∙ sound-serial New (t .count) (t .serial) (marksOf t) (t .amounts) (t .modes) (t .needs)
+    c .table-sound .ensures ∙ sound-serial (t .count) (t .serial) (marksOf t) (t .amounts) (t .modes) (t .needs)
 
 returns : tie.Need-returns
 returns c =

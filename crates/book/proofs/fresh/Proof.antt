@@ -6,7 +6,6 @@ use Prim.Native.Nat.{ℕ, zero, suc, _+_, _*_}
 use lib.ListN.{getD, set, replicate}
 use borrow.Author.Needs.{needs}
 use Rattle.sums.proofs.Lists.{list-is, getD-same}
-use Rattle.rows.specs.declared.Rule.the-variants.{New}
 use Rattle.rows.specs.Rows.{noRow, rowAt, freshBook}
 use Rattle.table.specs.Words.{wordAt, rowFrom, Marks, marksFrom, rowIn, rowsOf}
 use Rattle.table.proofs.Gathered.{row-eq}
@@ -36,8 +35,8 @@ row i = sym (row-eq (getD (marks .sort) i 0) (getD (marks .live) i false) (getD 
 returns : tie.Need-returns
 unfolding rowsOf freshBook
 returns c =
-    turned-from New _ freshBook (record { sorts = refl; lives = refl; tms = refl; words = refl })
-    (ap (λ l. record { rule = New; count = 1; serial = 0; rows = l; modes = replicate 256 false; needs = replicate 256 0 }) (list-is (rowIn marks words) 256 noRow (freshBook .rows) refl (λ i l. row i)))
+    turned-from _ freshBook (record { sorts = refl; lives = refl; tms = refl; words = refl })
+    (ap (λ l. record { count = 1; serial = 0; rows = l; modes = replicate 256 false; needs = replicate 256 0 }) (list-is (rowIn marks words) 256 noRow (freshBook .rows) refl (λ i l. row i)))
 
 pub fresh-spec : {M : Type 1} → statement M
 fresh-spec = tie.close (tie.spec array-write-live returns)

@@ -26,7 +26,7 @@ abbrev In : Type 0
 In = tie.After-slice-known
 
 abbrev Bk : In → Book
-Bk c = let a = c .before .before .args in bookFrom (a .rule) (a .count) 0 (marksFrom (a .sort .now) (a .live .now) (a .tm .now)) (a .w .now) [] (a .needs .now)
+Bk c = let a = c .before .before .args in bookFrom (a .count) 0 (marksFrom (a .sort .now) (a .live .now) (a .tm .now)) (a .w .now) [] (a .needs .now)
 
 abbrev Ls : In → List ℕ
 Ls c = c .before .before .args .losses .now

@@ -3,7 +3,7 @@ use mathlib.Core.List.{List}
 use Prim.Native.Nat.{ℕ}
 use Rattle.table.specs.Words.{Marks, marksFrom}
 use Rattle.codes.specs.Own.{deemedUnderIn}
-use Rattle.codes.proofs.ByCode.{last-code, receive-answered, hands-back, allocate-answered, release-answered, pledge-answered, unpledge-answered, sets-margin, retire-answered}
+use Rattle.codes.proofs.ByCode.{last-code, receive-answered, hands-back, allocate-answered, release-answered, pledge-answered, unpledge-answered, sets-margin, sets-pledged, revises-margin, retire-answered}
 use borrow.Author.Needs.{needs}
 use Rattle.codes.proofs.amend.Statement.{statement}
 use Rattle.codes.proofs.amend.Tie as tie
@@ -47,50 +47,66 @@ unpledge-requires c κs = search needs
 set-margin-requires : tie.Need-set-margin-requires
 set-margin-requires c κs = search needs
 
+set-pledged-requires : tie.Need-set-pledged-requires
+set-pledged-requires c κs = search needs
+
+revise-margin-requires : tie.Need-revise-margin-requires
+revise-margin-requires c κs = search needs
+
 retire-requires : tie.Need-retire-requires
 retire-requires c κs = search needs
 
 returns : tie.Need-returns
 returns c =
     let s = c .before .before .before .before .before in
-    receive-answered (s .args .rule) (s .args .count) (marks s) (s .args .w .now) (under s) (s .args .on) (s .args .r) (c .before .before .before .match .keys1) (c .receive .ensures)
+    receive-answered (s .args .count) (marks s) (s .args .w .now) (under s) (s .args .on) (s .args .r) (c .before .before .before .match .keys1) (c .receive .ensures)
 
 returns-2 : tie.Need-returns-2
 returns-2 c =
     let s = c .before .before .before .before .before in
-    hands-back (s .args .rule) (s .args .count) (marks s) (s .args .w .now) (under s) (s .args .on) (s .args .r) (c .before .before .before .match .keys2) (c .hand-back .ensures)
+    hands-back (s .args .count) (marks s) (s .args .w .now) (under s) (s .args .on) (s .args .r) (c .before .before .before .match .keys2) (c .hand-back .ensures)
 
 returns-3 : tie.Need-returns-3
 returns-3 c =
     let s = c .before .before .before .before .before in
-    allocate-answered (s .args .rule) (s .args .count) (marks s) (s .args .w .now) (under s) (s .args .on) (s .args .r) (c .before .before .before .match .keys3) (c .allocate .ensures)
+    allocate-answered (s .args .count) (marks s) (s .args .w .now) (under s) (s .args .on) (s .args .r) (c .before .before .before .match .keys3) (c .allocate .ensures)
 
 returns-4 : tie.Need-returns-4
 returns-4 c =
     let s = c .before .before .before .before .before in
-    release-answered (s .args .rule) (s .args .count) (marks s) (s .args .w .now) (under s) (s .args .on) (s .args .r) (c .before .before .before .match .keys4) (c .release .ensures)
+    release-answered (s .args .count) (marks s) (s .args .w .now) (under s) (s .args .on) (s .args .r) (c .before .before .before .match .keys4) (c .release .ensures)
 
 returns-5 : tie.Need-returns-5
 returns-5 c =
     let s = c .before .before .before .before .before in
-    pledge-answered (s .args .rule) (s .args .count) (marks s) (s .args .w .now) (under s) (s .args .on) (s .args .r) (c .before .before .before .match .keys5) (c .pledge .ensures)
+    pledge-answered (s .args .count) (marks s) (s .args .w .now) (under s) (s .args .on) (s .args .r) (c .before .before .before .match .keys5) (c .pledge .ensures)
 
 returns-6 : tie.Need-returns-6
 returns-6 c =
     let s = c .before .before .before .before .before in
-    unpledge-answered (s .args .rule) (s .args .count) (marks s) (s .args .w .now) (under s) (s .args .on) (s .args .r) (c .before .before .before .match .keys6) (c .unpledge .ensures)
+    unpledge-answered (s .args .count) (marks s) (s .args .w .now) (under s) (s .args .on) (s .args .r) (c .before .before .before .match .keys6) (c .unpledge .ensures)
 
 returns-7 : tie.Need-returns-7
 returns-7 c =
     let s = c .before .before .before .before .before in
-    sets-margin (s .args .rule) (s .args .count) (marks s) (s .args .w .now) (under s) (s .args .on) (s .args .r) (c .before .before .before .match .keys7) (s .pre .amounts .margin) (c .set-margin .ensures)
+    sets-margin (s .args .count) (marks s) (s .args .w .now) (under s) (s .args .on) (s .args .r) (c .before .before .before .match .keys7) (s .pre .amounts .margin) (c .set-margin .ensures)
 
 returns-8 : tie.Need-returns-8
 returns-8 c =
     let s = c .before .before .before .before .before in
+    sets-pledged (s .args .count) (marks s) (s .args .w .now) (under s) (s .args .on) (s .args .r) (c .before .before .before .match .keys8) (c .set-pledged .ensures)
+
+returns-9 : tie.Need-returns-9
+returns-9 c =
+    let s = c .before .before .before .before .before in
+    revises-margin (s .args .count) (marks s) (s .args .w .now) (under s) (s .args .on) (s .args .r) (c .before .before .before .match .keys9) (c .revise-margin .ensures)
+
+returns-10 : tie.Need-returns-10
+returns-10 c =
+    let s = c .before .before .before .before .before in
     let g = c .before .before .before .match .rest in
-    retire-answered (s .args .rule) (s .args .count) (marks s) (s .args .w .now) (under s) (s .args .on) (s .args .r)
-    (last-code (s .args .r .code) (s .pre .known) (s .pre .low) (g .0 .0 .0 .0 .0 .0 .1) (g .0 .0 .0 .0 .0 .1) (g .0 .0 .0 .0 .1) (g .0 .0 .0 .1) (g .0 .0 .1) (g .0 .1) (g .1)) (c .retire .ensures)
+    retire-answered (s .args .count) (marks s) (s .args .w .now) (under s) (s .args .on) (s .args .r)
+    (last-code (s .args .r .code) (s .pre .known) (s .pre .low) (g .0 .0 .0 .0 .0 .0 .0 .0 .1) (g .0 .0 .0 .0 .0 .0 .0 .1) (g .0 .0 .0 .0 .0 .0 .1) (g .0 .0 .0 .0 .0 .1) (g .0 .0 .0 .0 .1) (g .0 .0 .0 .1) (g .0 .0 .1) (g .0 .1) (g .1)) (c .retire .ensures)
 
 pub amend-spec : {M : Type 1} → statement M
 amend-spec =
@@ -104,6 +120,8 @@ amend-spec =
     pledge-requires
     unpledge-requires
     set-margin-requires
+    set-pledged-requires
+    revise-margin-requires
     retire-requires
     returns
     returns-2
@@ -112,4 +130,6 @@ amend-spec =
     returns-5
     returns-6
     returns-7
-    returns-8)
+    returns-8
+    returns-9
+    returns-10)

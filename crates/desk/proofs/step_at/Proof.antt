@@ -3,7 +3,7 @@ use mathlib.Core.Path.{_≡_, refl, ap, _∙_}
 use borrow.Author.Needs.{needs}
 use Rattle.sums.specs.Choice.{pick}
 use Rattle.table.specs.Words.{marksFrom, marksOf, bookFrom}
-use Rattle.steps.specs.Steps.{modesIn}
+use Rattle.steps.specs.Steps.{bookAt}
 use Rattle.steps.proofs.Entering.{adds-up, looks-up, sound-enters}
 use Rattle.desk.proofs.Doing.{stepped-over}
 use Rattle.desk.proofs.step_at.Statement.{statement}
@@ -35,7 +35,7 @@ deemed-under-requires : tie.Need-deemed-under-requires
 deemed-under-requires c κs =
     let s = called (c .before .before .before .before) in
     let t = s .args .t in
-    let g = adds-up (s .args .rule) (t .count) (t .serial) (marksOf t) (t .amounts) (t .modes) (t .needs) (s .pre) in
+    let g = adds-up (t .count) (t .serial) (marksOf t) (t .amounts) (t .modes) (t .needs) (s .pre) in
     (g .0, g .1, refl)
 
 look-all-requires : tie.Need-look-all-requires
@@ -43,7 +43,7 @@ look-all-requires c κs =
     let u = c .before .before .before .before .before in
     let s = called (sized u) in
     let t = s .args .t in
-    (adds-up (s .args .rule) (t .count) (t .serial) (marksOf t) (t .amounts) (t .modes) (t .needs) (s .pre), looks-up (s .args .rule) (t .count) (t .serial) (marksOf t) (t .amounts) (t .modes) (t .needs) (s .pre) _ (u .deemed-under .ensures))
+    (adds-up (t .count) (t .serial) (marksOf t) (t .amounts) (t .modes) (t .needs) (s .pre), looks-up (t .count) (t .serial) (marksOf t) (t .amounts) (t .modes) (t .needs) (s .pre) _ (u .deemed-under .ensures))
 
 step-requires : tie.Need-step-requires
 step-requires c κs =
@@ -52,7 +52,7 @@ step-requires c κs =
     let z = sized u in
     let s = called z in
     let t = s .args .t in
-    sound-enters (s .args .rule) (t .count) (t .serial) (marksOf t) (t .amounts) (t .modes) (t .needs) (s .pre) (z .before .before .sizes .ensures) (z .before .size .ensures) (z .size2 .ensures) _ _ (u .deemed-under .ensures) (l .look-all .ensures)
+    sound-enters (t .count) (t .serial) (marksOf t) (t .amounts) (t .modes) (t .needs) (s .pre) (z .before .before .sizes .ensures) (z .before .size .ensures) (z .size2 .ensures) _ _ (u .deemed-under .ensures) (l .look-all .ensures)
 
 outcome-of-requires : tie.Need-outcome-of-requires
 outcome-of-requires c κs = search needs
@@ -74,8 +74,8 @@ returns c =
     let u = x .1 .1 .1 .0 in
     let after = c .before .on .result in
     stepped-over _ (s .args .r) (s .pre) _ _ _ _ (c .before .before .outcome-of .ensures) (h .refusal) (h .given) (h .ready .size)
-    (ap (λ l. bookFrom (s .args .rule) (after .count) (after .serial) n u l (x .1 .1 .1 .1 .1 .0)) (c .modes-of .ensures)
-    ∙ ap (λ a. bookFrom (s .args .rule) (a .count) (a .serial) n u (modesIn (a .waiting) (s .args .t .modes) (x .1 .1 .1 .1 .0)) (x .1 .1 .1 .1 .1 .0)) (c .before .on .ensures) ∙ h .book)
+    (ap (λ l. bookFrom (after .count) (after .serial) n u l (x .1 .1 .1 .1 .1 .0)) (c .modes-of .ensures)
+    ∙ ap (λ a. bookAt a n u (s .args .t .modes) (x .1 .1 .1 .1 .0) (x .1 .1 .1 .1 .1 .0)) (c .before .on .ensures) ∙ h .book)
 
 pub step-at-spec : {M : Type 1} → statement M
 step-at-spec =

@@ -9,10 +9,9 @@ use lib.Seq.{length-take-le}
 use borrow.Author.Needs.{needs}
 use Rattle.sums.specs.Choice.{pick}
 use Rattle.rows.specs.declared.Book.{Book}
-use Rattle.rows.specs.declared.Rule.the-variants.{New}
 use Rattle.table.specs.declared.Table.{Table}
 use Rattle.table.specs.Words.{marksOf, bookFrom, marksFrom, turned, turnedBack}
-use Rattle.table.proofs.Turning.{back-and-over, turned-by}
+use Rattle.table.proofs.Turning.{back-and-over}
 use Rattle.book.proofs.SoundTest.{sound←}
 use Rattle.steps.specs.declared.At.{At}
 use Rattle.steps.specs.Steps.{bookAt, Going}
@@ -26,7 +25,7 @@ use Rattle.feed.proofs.in_turns.Tie as tie
 
 abbrev Inv-loop : tie.InvT-loop
 Inv-loop program printing space₀ numbers₀ text₀ sort₀ live₀ tm₀ amounts₀ needs₀ was excess₀ modes₀ at₀ rest₀ read₀ done₀ ended₀ space numbers text sort live tm amounts needs excess modes at rest read done ended =
-    Feeding (bookFrom (at₀ .rule) (at₀ .count) (at₀ .serial) (marksFrom sort₀ live₀ tm₀) amounts₀ was needs₀) space (bookAt at (marksFrom sort live tm) amounts was modes needs) rest read done
+    Feeding (bookFrom (at₀ .count) (at₀ .serial) (marksFrom sort₀ live₀ tm₀) amounts₀ was needs₀) space (bookAt at (marksFrom sort live tm) amounts was modes needs) rest read done
     × Going at (marksFrom sort live tm) amounts was modes needs excess
     × (length numbers ≡ 3200)
     × (length text ≡ 20480)
@@ -72,12 +71,12 @@ handed t = called (sized (summed (started t .before))) .args .t
 
 -- the same by the words that the loop starts from
 abbrev first : tie.At-loop Inv-loop μ-loop → Book
-first t = let at = started t .starting .result in let h = handed t in bookFrom (at .rule) (at .count) (at .serial) (marksOf h) (h .amounts) (h .modes) (h .needs)
+first t = let at = started t .starting .result in let h = handed t in bookFrom (at .count) (at .serial) (marksOf h) (h .amounts) (h .modes) (h .needs)
 
 is-first : (t : tie.At-loop Inv-loop μ-loop) → first t ≡ turnedBack (handed t)
 is-first t =
     let h = handed t in
-    ap (λ (at : At). bookFrom (at .rule) (at .count) (at .serial) (marksOf h) (h .amounts) (h .modes) (h .needs)) (started t .starting .ensures)
+    ap (λ (at : At). bookFrom (at .count) (at .serial) (marksOf h) (h .amounts) (h .modes) (h .needs)) (started t .starting .ensures)
 
 -- what the turn came to
 abbrev ran : tie.After-carry-on Inv-loop μ-loop → Ran
@@ -114,7 +113,7 @@ deemed-under-requires : tie.Need-deemed-under-requires Inv-loop μ-loop
 deemed-under-requires c κs =
     let s = called (c .before .before .before .before) in
     let t = s .args .t in
-    let g = adds-up New (t .count) (t .serial) (marksOf t) (t .amounts) (t .modes) (t .needs) (s .pre) in
+    let g = adds-up (t .count) (t .serial) (marksOf t) (t .amounts) (t .modes) (t .needs) (s .pre) in
     (g .0, g .1, refl)
 
 look-all-requires : tie.Need-look-all-requires Inv-loop μ-loop
@@ -123,7 +122,7 @@ look-all-requires c κs =
     let s = called (sized u) in
     let t = s .args .t in
     let h = s .pre in
-    (adds-up New (t .count) (t .serial) (marksOf t) (t .amounts) (t .modes) (t .needs) h, looks-up New (t .count) (t .serial) (marksOf t) (t .amounts) (t .modes) (t .needs) h _ (u .deemed-under .ensures))
+    (adds-up (t .count) (t .serial) (marksOf t) (t .amounts) (t .modes) (t .needs) h, looks-up (t .count) (t .serial) (marksOf t) (t .amounts) (t .modes) (t .needs) h _ (u .deemed-under .ensures))
 
 starting-requires : tie.Need-starting-requires Inv-loop μ-loop
 starting-requires c κs = search needs
@@ -138,7 +137,7 @@ loop-holds c =
     let t = s .args .t in
     rw (c .starting .ensures) (
       nothing-read (turnedBack t) _ (sym (blanked z .blank .ensures)),
-      sound-enters New (t .count) (t .serial) (marksOf t) (t .amounts) (t .modes) (t .needs) (s .pre) (z .before .before .sizes .ensures) (z .before .size .ensures) (z .size2 .ensures) _ _ (u .deemed-under .ensures) (l .look-all .ensures),
+      sound-enters (t .count) (t .serial) (marksOf t) (t .amounts) (t .modes) (t .needs) (s .pre) (z .before .before .sizes .ensures) (z .before .size .ensures) (z .size2 .ensures) _ _ (u .deemed-under .ensures) (l .look-all .ensures),
       length-replicate {A = ℕ} 3200 0,
       length-replicate {A = ℕ} 20480 0,
     )
@@ -223,7 +222,7 @@ returns-2 c =
     let at = t .carry-on .result .went .at in
     let n = marksFrom (x .0) (x .1 .0) (x .1 .1 .0) in
     came-over (is-first (turn (filled t))) (last-turn-came (piece t) _ (s .stops .result) (s .stops .ensures) (c .before .if2 .taken) _
-    (ap (λ (l : List Bool). turned (bookFrom (at .rule) (at .count) (at .serial) n (x .1 .1 .1 .0) l (x .1 .1 .1 .1 .1 .0))) (sym (c .modes-of .ensures)) ∙ turned-by (at .rule) _ ∙ back-and-over _ (t .carry-on .ensures .1 .0 .size)))
+    (ap (λ (l : List Bool). turned (bookFrom (at .count) (at .serial) n (x .1 .1 .1 .0) l (x .1 .1 .1 .1 .1 .0))) (sym (c .modes-of .ensures)) ∙ back-and-over _ (t .carry-on .ensures .1 .0 .size)))
 
 pub in-turns-spec : {M : Type 1} → statement M
 in-turns-spec =

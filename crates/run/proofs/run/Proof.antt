@@ -37,7 +37,7 @@ deemed-under-requires : tie.Need-deemed-under-requires
 deemed-under-requires c κs =
     let s = called (c .before .before .before .before) in
     let t = s .args .t in
-    let g = adds-up (s .args .rule) (t .count) (t .serial) (marksOf t) (t .amounts) (t .modes) (t .needs) (s .pre .0) in
+    let g = adds-up (t .count) (t .serial) (marksOf t) (t .amounts) (t .modes) (t .needs) (s .pre .0) in
     (g .0, g .1, refl)
 
 look-all-requires : tie.Need-look-all-requires
@@ -45,7 +45,7 @@ look-all-requires c κs =
     let u = c .before .before .before .before .before in
     let s = called (sized u) in
     let t = s .args .t in
-    (adds-up (s .args .rule) (t .count) (t .serial) (marksOf t) (t .amounts) (t .modes) (t .needs) (s .pre .0), looks-up (s .args .rule) (t .count) (t .serial) (marksOf t) (t .amounts) (t .modes) (t .needs) (s .pre .0) _ (u .deemed-under .ensures))
+    (adds-up (t .count) (t .serial) (marksOf t) (t .amounts) (t .modes) (t .needs) (s .pre .0), looks-up (t .count) (t .serial) (marksOf t) (t .amounts) (t .modes) (t .needs) (s .pre .0) _ (u .deemed-under .ensures))
 
 go-requires : tie.Need-go-requires
 go-requires c κs =
@@ -54,7 +54,7 @@ go-requires c κs =
     let z = sized u in
     let s = called z in
     let t = s .args .t in
-    (sound-enters (s .args .rule) (t .count) (t .serial) (marksOf t) (t .amounts) (t .modes) (t .needs) (s .pre .0) (z .before .before .sizes .ensures) (z .before .size .ensures) (z .size2 .ensures) _ _ (u .deemed-under .ensures) (l .look-all .ensures), s .pre .1)
+    (sound-enters (t .count) (t .serial) (marksOf t) (t .amounts) (t .modes) (t .needs) (s .pre .0) (z .before .before .sizes .ensures) (z .before .size .ensures) (z .size2 .ensures) _ _ (u .deemed-under .ensures) (l .look-all .ensures), s .pre .1)
 
 modes-of-requires : tie.Need-modes-of-requires
 modes-of-requires c κs = search needs
@@ -69,8 +69,8 @@ returns c =
     let x = g .go .last in
     let w = g .go .result in
     let n = marksFrom (x .0) (x .1 .0) (x .1 .1 .0) in (
-      left-over (w .at .rule) _ _ (g .go .ensures .1 .0 .size)
-          (ap {B = Ran} (λ (l : List Bool). record { book = bookFrom (w .at .rule) (w .at .count) (w .at .serial) n (x .1 .1 .1 .0) l (x .1 .1 .1 .1 .1 .0); place = w .place; closing = w .closing; read = w .read; done = w .done }) (c .modes-of .ensures) ∙ g .go .ensures .0),
+      left-over _ _ (g .go .ensures .1 .0 .size)
+          (ap {B = Ran} (λ (l : List Bool). record { book = bookFrom (w .at .count) (w .at .serial) n (x .1 .1 .1 .0) l (x .1 .1 .1 .1 .1 .0); place = w .place; closing = w .closing; read = w .read; done = w .done }) (c .modes-of .ensures) ∙ g .go .ensures .0),
       g .go .ensures .1 .1,
     )
 

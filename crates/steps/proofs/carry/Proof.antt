@@ -8,7 +8,7 @@ decide-requires : tie.Need-decide-requires
 decide-requires c κs = c .before .before .before .before .pre
 
 gone-with-requires : tie.Need-gone-with-requires
-gone-with-requires c κs = λ e o. opening-has-room _ _ _ _ _ _ _ _ _ _ _ (c .before .before .decide .ensures) e o
+gone-with-requires c κs = λ e o. opening-has-room _ _ _ _ _ _ _ _ _ _ (c .before .before .decide .ensures) e o
 
 returns : tie.Need-returns
 returns c = rw (c .gone-with .ensures) (c .before .before .before .decide .ensures)

@@ -2,7 +2,7 @@
 use borrow.Author.Needs.{needs}
 use borrow.Author.Tests.{eqb-true, eqb-false, not-true}
 use mathlib.Core.Bool.{Bool, true, false, not, _&&_, _||_}
-use lib.Dec.{leb, ltb, eqb}
+use lib.Dec.{leb, eqb}
 use mathlib.Core.Logic.{_⊎_, inl, inr, ⊎-elim}
 use mathlib.Core.Path.{_≡_, refl, sym}
 use Rattle.sums.proofs.Choices.{and-split}
@@ -32,7 +32,7 @@ settled l = l .before .before .before .before .before .before .before
 -- the record moves figures, and it is carried out
 module _ (t : tie.Then1) where
   abbrev still : Bool
-  still = let r = called (past (decided t)) .args .r in leb (r .code) 5 || ltb 10 (r .code)
+  still = let r = called (past (decided t)) .args .r in leb (r .code) 5 || eqb (r .code) 11
 
   both : (not still ≡ true) × (eqb (decided t .carry .result .refusal) 0 ≡ true)
   both = and-split (not still) (eqb (decided t .carry .result .refusal) 0) (t .if1 .taken)

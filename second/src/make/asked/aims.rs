@@ -2,6 +2,7 @@
 
 use super::{books, breaches, lists, overs, pieces, records};
 use crate::calls::Call;
+use crate::dayfile::*;
 use crate::rng::Rng;
 use crate::rule::Rule;
 use crate::table::{Fault, Table};
@@ -31,6 +32,12 @@ pub enum Aim {
     /// Six for an amount that isn't named.
     Unnamed,
     AnyValues,
+    /// A record with this code and refusal, or carried out, under a shortfall.
+    Under(u8, u8),
+    CodeFourteen,
+    /// A book with a shortfall of a paisa, or covered to the paisa.
+    Short(u64),
+    StandingShort,
     /// A record with this refusal, out of a piece.
     Next(u8),
     NextAt(pieces::Spot),
@@ -49,17 +56,30 @@ pub enum Aim {
 /// The refusals of a record that is handed over as values, and 0.
 pub const REFUSALS: [u8; 14] = [0, 3, 4, 5, 6, 7, 8, 9, 10, 11, 12, 13, 14, 17];
 
+/// Code and refusal under a shortfall.
+const UNDER: [(u8, u8); 12] = [
+    (SET_MARGIN, 13),
+    (SET_MARGIN, 0),
+    (RELEASE, 0),
+    (RELEASE, 12),
+    (RELEASE, 17),
+    (UNPLEDGE, 0),
+    (UNPLEDGE, 12),
+    (UNPLEDGE, 17),
+    (REVALUE, 0),
+    (REVISE, 0),
+    (ALLOCATE, 0),
+    (PLEDGE, 0),
+];
+
 impl Aim {
-    /// Each with the rule that it goes by.
-    pub fn round() -> Vec<(Aim, Rule)> {
+    pub fn round() -> Vec<Aim> {
         let over = overs::OVERS.map(Aim::TakeOver);
         let mut aims = over.to_vec();
-        aims.extend(Fault::all().into_iter().map(Aim::FaultOver));
+        aims.extend(Fault::all(Rule::Old).into_iter().map(Aim::FaultOver));
         aims.extend(Aim::without_book());
         aims.extend(Aim::with_book());
-        let old = Aim::with_book().into_iter();
-        let both = aims.into_iter().map(|aim| (aim, Rule::New));
-        both.chain(old.map(|aim| (aim, Rule::Old))).collect()
+        aims
     }
 
     fn without_book() -> Vec<Aim> {
@@ -74,8 +94,8 @@ impl Aim {
 
     fn with_book() -> Vec<Aim> {
         let mut aims = Vec::new();
-        aims.extend(Fault::all().into_iter().map(Aim::Fault));
-        aims.extend(Fault::all().into_iter().map(Aim::FaultElsewhere));
+        aims.extend(Fault::all(Rule::New).into_iter().map(Aim::Fault));
+        aims.extend(Fault::all(Rule::New).into_iter().map(Aim::FaultElsewhere));
         aims.extend([Aim::Several; 8]);
         aims.extend([Aim::Garbage; 8]);
         aims.extend([Aim::OneWord; 48]);
@@ -87,10 +107,13 @@ impl Aim {
         for _ in 0..2 {
             aims.extend(REFUSALS.map(Aim::Values));
             aims.extend(REFUSALS.map(Aim::Next));
-            aims.extend((1..=11).map(Aim::Done));
+            aims.extend((1..=LAST_CODE).map(Aim::Done));
         }
         aims.extend([Aim::Unnamed; 3]);
         aims.extend([Aim::AnyValues; 12]);
+        aims.extend(UNDER.map(|(code, refusal)| Aim::Under(code, refusal)));
+        aims.extend([Aim::CodeFourteen, Aim::Short(0), Aim::Short(1)]);
+        aims.extend([Aim::StandingShort; 4]);
         aims.extend(pieces::SPOTS.map(Aim::NextAt));
         for day in pieces::DAYS {
             aims.extend(pieces::NUMBERS.map(|number| Aim::Day(day, number)));
@@ -102,40 +125,40 @@ impl Aim {
         aims
     }
 
-    pub fn call(self, rule: Rule, rng: &mut Rng) -> Call {
-        let call = self.call_on(rule, rng);
-        call.clone().under(rule).unwrap_or(call)
-    }
-
-    /// The call with a book for this rule.
-    fn call_on(self, rule: Rule, rng: &mut Rng) -> Call {
+    pub fn call(self, rng: &mut Rng) -> Call {
         match self {
-            Aim::Fault(fault) => Call::IsSound(breaches::with(fault, rule, rng)),
-            Aim::FaultElsewhere(fault) => asked_elsewhere(breaches::with(fault, rule, rng), rng),
-            Aim::Several => asked_anyhow(breaches::with_several(rule, rng), rng),
-            Aim::Garbage => asked_anyhow(books::garbage(rule, rng), rng),
-            Aim::OneWord => asked_anyhow(books::one_word_anew(rule, rng), rng),
-            Aim::Sound => Call::IsSound(books::sound(rule, rng)),
+            Aim::Fault(fault) => Call::IsSound(breaches::with(fault, Rule::New, rng)),
+            Aim::FaultElsewhere(fault) => {
+                asked_elsewhere(breaches::with(fault, Rule::New, rng), rng)
+            }
+            Aim::Several => asked_anyhow(breaches::with_several(Rule::New, rng), rng),
+            Aim::Garbage => asked_anyhow(books::garbage(rng), rng),
+            Aim::OneWord => asked_anyhow(books::one_word_anew(Rule::New, rng), rng),
+            Aim::Sound => Call::IsSound(books::sound(rng)),
             Aim::LastSerial => {
-                let mut book = books::sound(rule, rng);
+                let mut book = books::sound(rng);
                 book.serial = u16::MAX;
                 Call::IsSound(book)
             }
             Aim::Over(over) => Call::IsSound(overs::book(over, rng)),
             Aim::OverElsewhere(over) => asked_elsewhere(overs::book(over, rng), rng),
-            Aim::Standing(who) => lists::standing(who, rule, rng),
-            Aim::Values(refusal) => records::refused_with(refusal, rule, rng),
-            Aim::Done(code) => records::done_with(code, rule, rng),
-            Aim::Unnamed => records::unnamed(rule, rng),
-            Aim::AnyValues => any_record(books::sound(rule, rng), rng),
-            Aim::Next(refusal) => pieces::next_with(refusal, rule, rng),
-            Aim::NextAt(spot) => pieces::next_at(spot, rule, rng),
-            Aim::Day(day, number) => pieces::day(day, number, rule, rng),
+            Aim::Standing(who) => lists::standing(who, rng),
+            Aim::Values(refusal) => records::refused_with(refusal, rng),
+            Aim::Done(code) => records::done_with(code, rng),
+            Aim::Unnamed => records::unnamed(rng),
+            Aim::AnyValues => any_record(books::sound(rng), rng),
+            Aim::Under(code, refusal) => records::under_shortfall(code, refusal, rng),
+            Aim::CodeFourteen => records::code_14(rng),
+            Aim::Short(by) => Call::IsSound(books::short_by(by, rng)),
+            Aim::StandingShort => lists::standing_short(rng),
+            Aim::Next(refusal) => pieces::next_with(refusal, rng),
+            Aim::NextAt(spot) => pieces::next_at(spot, rng),
+            Aim::Day(day, number) => pieces::day(day, number, rng),
             Aim::Read(refusal) => pieces::read(refusal, rng),
-            Aim::ReadAt(spot) => pieces::read_at(spot, rule, rng),
+            Aim::ReadAt(spot) => pieces::read_at(spot, rng),
             Aim::Write(fit, room) => records::write(fit, room, rng),
-            Aim::CloseOut(losses, length) => lists::close_out(losses, length, rule, rng),
-            Aim::Needs(length) => lists::needs(length, rule, rng),
+            Aim::CloseOut(losses, length) => lists::close_out(losses, length, rng),
+            Aim::Needs(length) => lists::needs(length, rng),
             Aim::TakeOver(over) => Call::TakeOver(overs::book(over, rng)),
             Aim::FaultOver(fault) => Call::TakeOver(breaches::with(fault, Rule::Old, rng)),
         }

@@ -1,14 +1,18 @@
 //! Books to hand over: grown by a made-up day, or put together word by word.
 
-use crate::book::{Book, CEILING, KINDS, MOST_ACCOUNTS};
-use crate::day::{run, MILLION};
+use crate::book::{CEILING, KINDS, MOST_ACCOUNTS};
+use crate::day;
 use crate::make::{make, Kind, ROUND};
 use crate::rng::Rng;
 use crate::rule::Rule;
 use crate::table::*;
 
+pub fn sound(rng: &mut Rng) -> Table {
+    sound_by(Rule::New, rng)
+}
+
 /// A book that is sound by this rule.
-pub fn sound(rule: Rule, rng: &mut Rng) -> Table {
+pub fn sound_by(rule: Rule, rng: &mut Rng) -> Table {
     let mut table = match rng.below(12) {
         0 => Table::fresh(),
         1..=5 => grown(rule, rng),
@@ -29,9 +33,11 @@ fn grown(rule: Rule, rng: &mut Rng) -> Table {
         .collect();
     let kind = rng.pick(&kinds);
     let room = rng.pick(&[400, 3_000, 12_000]);
-    let mut book = Book::fresh_by(rule);
-    run(&mut book, &make(kind, rng.next(), room), MILLION, |_, _| {});
+    let (book, _) = day::run_fresh(&make(kind, rng.next(), room));
     let mut table = Table::of(&book);
+    if rule == Rule::Old {
+        cover(&mut table, rule, rng);
+    }
     if rng.one_in(3) {
         turn_modes(&mut table, rng);
     }
@@ -70,6 +76,9 @@ pub fn direct(rule: Rule, rng: &mut Rng) -> Table {
         }
     }
     cover(&mut table, rule, rng);
+    if rule == Rule::New && rng.one_in(3) {
+        fall_short(&mut table, rng);
+    }
     turn_modes(&mut table, rng);
     table
 }
@@ -156,6 +165,36 @@ pub fn cover(table: &mut Table, rule: Rule, rng: &mut Rng) {
     }
 }
 
+/// Leaves the CM a paisa short of its need, or more, or with nothing.
+fn fall_short(table: &mut Table, rng: &mut Rng) {
+    let need = table.places[0][NEED];
+    let left = rng.below(need.max(1));
+    let left = rng.pick(&[need.saturating_sub(1), left, 0]);
+    fund(&mut table.places[0], left, Rule::New);
+}
+
+/// By so much, to the paisa.
+pub fn short_by(less: u64, rng: &mut Rng) -> Table {
+    let mut table = direct(Rule::New, rng);
+    cover(&mut table, Rule::New, rng);
+    table.places[0][MARGIN] = table.places[0][MARGIN].clamp(1, CEILING - 1);
+    settle(&mut table, Rule::New);
+    let need = table.places[0][NEED];
+    fund(&mut table.places[0], need - less, Rule::New);
+    table
+}
+
+/// A sound book with a shortfall.
+pub fn short(rng: &mut Rng) -> Table {
+    loop {
+        let mut table = direct(Rule::New, rng);
+        fall_short(&mut table, rng);
+        if table.shortfall() > 0 {
+            return table;
+        }
+    }
+}
+
 /// Makes the collateral this much, at most all amounts at the ceiling.
 pub fn fund(place: &mut Place, amount: u64, rule: Rule) {
     let mut left = amount;
@@ -206,8 +245,8 @@ fn within(word: usize, value: u64) -> u64 {
 }
 
 /// "Books may hold anything in every word."
-pub fn garbage(rule: Rule, rng: &mut Rng) -> Table {
-    let mut table = sound(rule, rng);
+pub fn garbage(rng: &mut Rng) -> Table {
+    let mut table = sound(rng);
     table.count = rng.pick(&[0, 1, 2, 9, 255, 256, 257, 512, 65_535]);
     table.serial = rng.next() as u16;
     let wild = rng.one_in(2);
@@ -227,7 +266,7 @@ pub fn garbage(rule: Rule, rng: &mut Rng) -> Table {
 
 /// One word of one place, the count or the serial.
 pub fn one_word_anew(rule: Rule, rng: &mut Rng) -> Table {
-    let mut table = sound(rule, rng);
+    let mut table = sound_by(rule, rng);
     match rng.below(30) {
         0 => table.count = rng.near(u64::from(table.count)) as u16,
         1 => table.serial = rng.next() as u16,

@@ -11,21 +11,21 @@ const TRIES: usize = 200;
 
 /// A book whose only fault by this rule is this one.
 pub fn with(fault: Fault, rule: Rule, rng: &mut Rng) -> Table {
-    let mut table = sound(rule, rng);
+    let mut table = sound_by(rule, rng);
     for _ in 0..TRIES {
         if breach(&mut table, fault, rule, rng).is_some() && only(&table, fault, rule) {
             break;
         }
-        table = sound(rule, rng);
+        table = sound_by(rule, rng);
     }
     table
 }
 
 /// Two to four faults one after the other, and whatever comes of it.
 pub fn with_several(rule: Rule, rng: &mut Rng) -> Table {
-    let mut table = sound(rule, rng);
+    let mut table = sound_by(rule, rng);
     for _ in 0..rng.between(2, 4) {
-        let fault = rng.pick(&Fault::all());
+        let fault = rng.pick(&Fault::all(rule));
         let mut next = table.clone();
         if breach(&mut next, fault, rule, rng).is_some() {
             table = next;

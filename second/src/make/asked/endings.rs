@@ -6,13 +6,12 @@ use crate::bookfile::{self, LENGTH, PLACE, PLACES};
 use crate::calls::{Call, LIST_MOST, PIECE_MOST};
 use crate::dayfile::Values;
 use crate::rng::Rng;
-use crate::rule::Rule;
 
 type Ending = (&'static str, fn(&mut Vec<u8>, &mut Rng));
 
 /// An odd number, so that inputs fed in small pieces (one in four) have every
 /// ending.
-pub const ENDINGS: [Ending; 27] = [
+pub const ENDINGS: [Ending; 21] = [
     ("the end", |_, _| {}),
     ("an unknown call", unknown),
     ("call 1 cut", |out, rng| cut(1, out, rng)),
@@ -25,13 +24,7 @@ pub const ENDINGS: [Ending; 27] = [
     ("call 8 cut", |out, rng| cut(8, out, rng)),
     ("call 9 cut", |out, rng| cut(9, out, rng)),
     ("call 10 cut", |out, rng| cut(10, out, rng)),
-    ("call 21 cut", |out, rng| cut(21, out, rng)),
-    ("call 22 cut", |out, rng| cut(22, out, rng)),
-    ("call 23 cut", |out, rng| cut(23, out, rng)),
-    ("call 24 cut", |out, rng| cut(24, out, rng)),
-    ("call 25 cut", |out, rng| cut(25, out, rng)),
-    ("call 28 cut", |out, rng| cut(28, out, rng)),
-    ("call 29 cut", |out, rng| cut(29, out, rng)),
+    ("a call of the old rule", of_old_rule),
     ("a piece too long", long_piece),
     ("a room too long", long_room),
     ("a list too long", long_list),
@@ -63,14 +56,22 @@ fn good_calls(out: &mut Vec<u8>, rng: &mut Rng) {
     }
 }
 
-/// 0, what no request has brought yet, and the old rule's calls without a
-/// book. All that they would have to read stands behind the byte.
+/// 0, and what no request has brought yet. All that a call reads stands behind
+/// the byte.
 fn unknown(out: &mut Vec<u8>, rng: &mut Rng) {
     let unknown: Vec<u8> = (0..=255).filter(|&byte| !Call::is_known(byte)).collect();
     let drawn = rng.pick(&unknown);
     let start = out.len();
     any_call(rng).lay(out);
-    out[start] = rng.pick(&[unknown[0], unknown[1], 20, 26, 27, 30, drawn, 255]);
+    out[start] = rng.pick(&[unknown[0], unknown[1], drawn, 255]);
+    good_calls(out, rng);
+}
+
+/// "K7's old call goes": 21 to 29 are no calls any more.
+fn of_old_rule(out: &mut Vec<u8>, rng: &mut Rng) {
+    let start = out.len();
+    any_call(rng).lay(out);
+    out[start] = 20 + rng.between(1, 9) as u8;
     good_calls(out, rng);
 }
 
@@ -98,8 +99,8 @@ fn long_piece(out: &mut Vec<u8>, rng: &mut Rng) {
     let piece = vec![1; PIECE_MOST + 1];
     let call = match rng.below(3) {
         0 => Call::ReadAt(piece, 0),
-        1 => Call::Day(books::sound(Rule::New, rng), piece, 5),
-        _ => Call::CarryOutNext(books::sound(Rule::New, rng), piece, 0),
+        1 => Call::Day(books::sound(rng), piece, 5),
+        _ => Call::CarryOutNext(books::sound(rng), piece, 0),
     };
     call.lay(out);
     good_calls(out, rng);
@@ -109,15 +110,15 @@ fn long_room(out: &mut Vec<u8>, rng: &mut Rng) {
     let room = LIST_MOST + 1;
     let call = match rng.below(3) {
         0 => Call::Write(Values::default(), room),
-        1 => Call::Needs(books::sound(Rule::New, rng), room),
-        _ => Call::CloseOut(books::sound(Rule::New, rng), Vec::new(), room),
+        1 => Call::Needs(books::sound(rng), room),
+        _ => Call::CloseOut(books::sound(rng), Vec::new(), room),
     };
     call.lay(out);
     good_calls(out, rng);
 }
 
 fn long_list(out: &mut Vec<u8>, rng: &mut Rng) {
-    Call::CloseOut(books::sound(Rule::New, rng), vec![0; LIST_MOST + 1], 4).lay(out);
+    Call::CloseOut(books::sound(rng), vec![0; LIST_MOST + 1], 4).lay(out);
     good_calls(out, rng);
 }
 

@@ -1,6 +1,6 @@
 //! Account numbers, lists of losses and rooms.
 
-use super::books::{self, append, cover, find, row};
+use super::books::{self, append, find, row, settle};
 use crate::book::{CEILING, MOST_ACCOUNTS};
 use crate::calls::Call;
 use crate::make::losses;
@@ -35,8 +35,8 @@ pub const WHO: [Who; 14] = [
     Who::PastTable,
 ];
 
-pub fn standing(who: Who, rule: Rule, rng: &mut Rng) -> Call {
-    let mut book = books::sound(rule, rng);
+pub fn standing(who: Who, rng: &mut Rng) -> Call {
+    let mut book = books::sound(rng);
     let held = book.held();
     let account = match who {
         Who::Cm => 0,
@@ -48,6 +48,14 @@ pub fn standing(who: Who, rule: Rule, rng: &mut Rng) -> Call {
             rng.pick(&[256, 256 + given, 65_280 + given, 65_535])
         }
     };
+    Call::Standing(book, account as u16)
+}
+
+/// The CM's or any other's under a shortfall.
+pub fn standing_short(rng: &mut Rng) -> Call {
+    let book = books::short(rng);
+    let drawn = rng.below(u64::from(book.count));
+    let account = rng.pick(&[0, drawn]);
     Call::Standing(book, account as u16)
 }
 
@@ -73,15 +81,20 @@ pub enum Losses {
     OneMore,
     None,
     Most,
+    /// Each at its margin, without a shortfall and with one.
+    AtMargins,
+    AtMarginsShort,
     /// Both past the ceiling and one too many: 15 comes first.
     PastAndMore,
 }
 
-pub const LOSSES: [Losses; 12] = [
+pub const LOSSES: [Losses; 14] = [
     Losses::Good,
     Losses::Good,
     Losses::Good,
     Losses::Good,
+    Losses::AtMargins,
+    Losses::AtMarginsShort,
     Losses::AtCeiling,
     Losses::PastCeiling,
     Losses::OfRetired,
@@ -122,20 +135,24 @@ fn room(length: Length, wanted: usize) -> usize {
     }
 }
 
-pub fn needs(length: Length, rule: Rule, rng: &mut Rng) -> Call {
-    let book = books::sound(rule, rng);
+pub fn needs(length: Length, rng: &mut Rng) -> Call {
+    let book = books::sound(rng);
     let room = room(length, book.held());
     Call::Needs(book, room)
 }
 
-pub fn close_out(losses: Losses, length: Length, rule: Rule, rng: &mut Rng) -> Call {
-    let mut book = books::sound(rule, rng);
+pub fn close_out(losses: Losses, length: Length, rng: &mut Rng) -> Call {
+    let mut book = match losses {
+        Losses::AtMargins => books::short_by(0, rng),
+        Losses::AtMarginsShort => books::short(rng),
+        _ => books::sound(rng),
+    };
     let of_retired = match losses {
         Losses::OfRetired => retired(&mut book, rng),
         _ => 0,
     };
-    cover(&mut book, rule, rng);
-    let mut list = match book.book_by(rule) {
+    settle(&mut book, Rule::New);
+    let mut list = match book.book() {
         Some(sound) => losses::good(&sound, rng.next()),
         None => vec![0; book.held()],
     };
@@ -143,6 +160,10 @@ pub fn close_out(losses: Losses, length: Length, rule: Rule, rng: &mut Rng) -> C
     let past = rng.pick(&[CEILING + 1, CEILING + 1, 1 << 63, u64::MAX]);
     match losses {
         Losses::Good => {}
+        Losses::AtMargins | Losses::AtMarginsShort => {
+            let margins = book.places.iter().map(|place| place[MARGIN]);
+            list = margins.take(list.len()).collect();
+        }
         Losses::AtCeiling => at_ceiling(&book, &mut list, rng),
         Losses::PastCeiling => list[one] = past,
         Losses::OfRetired => list[of_retired] = rng.pick(&[1, 1_000, CEILING]),

@@ -1,4 +1,4 @@
-//! Books that the two rules judge differently, or just don't: K7.
+//! Books that the two rules judge differently, or just don't: K7 and K8.
 
 use super::books::{self, cover, direct, fund, settle};
 use super::breaches;
@@ -80,23 +80,22 @@ fn tried(over: Over, rng: &mut Rng) -> Table {
             table
         }
         Over::NewNeeds => direct(Rule::New, rng),
-        Over::Any => books::sound(Rule::Old, rng),
+        Over::Any => books::sound_by(Rule::Old, rng),
         Over::Several => breaches::with_several(Rule::Old, rng),
-        Over::Garbage => books::garbage(Rule::Old, rng),
+        Over::Garbage => books::garbage(rng),
         Over::OneWord => books::one_word_anew(Rule::Old, rng),
     }
 }
 
 fn fits(over: Over, table: &Table) -> bool {
     let is_settled = table.settled(Rule::New) == *table;
+    let (old, is_short) = (table.is_sound_by(Rule::Old), table.shortfall() > 0);
     match over {
-        Over::Moves => table.taken_over().is_some() && !is_settled,
-        Over::JustCovered => table.taken_over().is_some(),
-        Over::APaisaShort | Over::FaceOnly => {
-            table.is_sound_by(Rule::Old) && !table.is_covered(Rule::New)
-        }
-        Over::Stays => table.is_sound_by(Rule::Old) && table.is_sound_by(Rule::New),
-        Over::NewNeeds => table.is_sound_by(Rule::New) && !table.is_sound_by(Rule::Old),
+        Over::Moves => old && !is_short && !is_settled,
+        Over::JustCovered => old && !is_short,
+        Over::APaisaShort | Over::FaceOnly => old && is_short,
+        Over::Stays => old && is_settled,
+        Over::NewNeeds => table.is_sound() && !old,
         _ => true,
     }
 }

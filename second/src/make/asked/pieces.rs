@@ -7,7 +7,6 @@ use crate::make::maker::Maker;
 use crate::make::mixed::any_step;
 use crate::make::{make, ROUND};
 use crate::rng::Rng;
-use crate::rule::Rule;
 use crate::table::Table;
 
 /// Where in a piece a record is looked for.
@@ -99,8 +98,8 @@ pub fn some_piece(rng: &mut Rng) -> Vec<u8> {
 }
 
 /// Steps on this book, and so records that it answers in every way.
-pub fn steps(book: &Table, many: u64, rule: Rule, rng: &mut Rng) -> Vec<u8> {
-    let Some(book) = book.book_by(rule) else {
+pub fn steps(book: &Table, many: u64, rng: &mut Rng) -> Vec<u8> {
+    let Some(book) = book.book() else {
         return Vec::new();
     };
     let mut maker = Maker::over(book, rng.next());
@@ -126,8 +125,8 @@ fn random_bytes(many: u64, rng: &mut Rng) -> Vec<u8> {
 }
 
 /// The record stands behind other bytes and before others.
-pub fn next_with(refusal: u8, rule: Rule, rng: &mut Rng) -> Call {
-    let found = records::seek(rule, rng, |answer| answer.refusal() == refusal);
+pub fn next_with(refusal: u8, rng: &mut Rng) -> Call {
+    let found = records::seek(rng, |answer| answer.refusal() == refusal);
     let (book, bytes) = found.unwrap_or_else(|| (Table::fresh(), Vec::new()));
     let before = rng.pick(&[0, 0, 6, 14, 100]);
     let after = rng.pick(&[0, 1, 6, 70]);
@@ -137,8 +136,8 @@ pub fn next_with(refusal: u8, rule: Rule, rng: &mut Rng) -> Call {
 }
 
 /// A piece and a place of it.
-fn spotted(book: &Table, spot: Spot, rule: Rule, rng: &mut Rng) -> (Vec<u8>, u64) {
-    let mut piece = steps(book, rng.pick(&[1, 3, 12]), rule, rng);
+fn spotted(book: &Table, spot: Spot, rng: &mut Rng) -> (Vec<u8>, u64) {
+    let mut piece = steps(book, rng.pick(&[1, 3, 12]), rng);
     if let Spot::Empty = spot {
         piece.clear();
     }
@@ -164,14 +163,14 @@ fn spotted(book: &Table, spot: Spot, rule: Rule, rng: &mut Rng) -> (Vec<u8>, u64
     (piece, place)
 }
 
-pub fn next_at(spot: Spot, rule: Rule, rng: &mut Rng) -> Call {
-    let book = books::sound(rule, rng);
-    let (piece, place) = spotted(&book, spot, rule, rng);
+pub fn next_at(spot: Spot, rng: &mut Rng) -> Call {
+    let book = books::sound(rng);
+    let (piece, place) = spotted(&book, spot, rng);
     Call::CarryOutNext(book, piece, place)
 }
 
-pub fn read_at(spot: Spot, rule: Rule, rng: &mut Rng) -> Call {
-    let (piece, place) = spotted(&books::sound(rule, rng), spot, rule, rng);
+pub fn read_at(spot: Spot, rng: &mut Rng) -> Call {
+    let (piece, place) = spotted(&books::sound(rng), spot, rng);
     Call::ReadAt(piece, place)
 }
 
@@ -193,16 +192,16 @@ pub fn read(refusal: u8, rng: &mut Rng) -> Call {
     Call::ReadAt(Vec::new(), 0)
 }
 
-pub fn day(day: Day, number: Number, rule: Rule, rng: &mut Rng) -> Call {
-    let book = books::sound(rule, rng);
+pub fn day(day: Day, number: Number, rng: &mut Rng) -> Call {
+    let book = books::sound(rng);
     let mut piece = match day {
         Day::Empty => Vec::new(),
         Day::Garbage => {
             let many = rng.below(300);
             random_bytes(many, rng)
         }
-        Day::Longest => longest(&book, rule, rng),
-        _ => steps(&book, rng.pick(&[1, 4, 40]), rule, rng),
+        Day::Longest => longest(&book, rng),
+        _ => steps(&book, rng.pick(&[1, 4, 40]), rng),
     };
     match day {
         Day::Bent => bend(&mut piece, rng),
@@ -236,9 +235,9 @@ fn bend(piece: &mut [u8], rng: &mut Rng) {
 }
 
 /// Exactly 65,536 bytes; the last record may be cut by that.
-fn longest(book: &Table, rule: Rule, rng: &mut Rng) -> Vec<u8> {
-    let mut piece = steps(book, rng.pick(&[40, 400, 3_000]), rule, rng);
-    let filler = steps(book, 20, rule, rng);
+fn longest(book: &Table, rng: &mut Rng) -> Vec<u8> {
+    let mut piece = steps(book, rng.pick(&[40, 400, 3_000]), rng);
+    let filler = steps(book, 20, rng);
     while !filler.is_empty() && piece.len() < PIECE_MOST {
         piece.extend_from_slice(&filler);
     }

@@ -8,7 +8,6 @@ use crate::dayfile::*;
 use crate::make::maker::Maker;
 use crate::make::mixed::any_step;
 use crate::rng::Rng;
-use crate::rule::Rule;
 use crate::table::Table;
 
 /// How many steps are tried on one book, and how many books.
@@ -16,15 +15,30 @@ const STEPS: usize = 120;
 const BOOKS: usize = 60;
 
 /// A book and the bytes of a record that it answers in the way wanted.
-pub fn seek(
-    rule: Rule,
-    rng: &mut Rng,
-    wanted: impl Fn(&Answer) -> bool,
-) -> Option<(Table, Vec<u8>)> {
+pub fn seek(rng: &mut Rng, wanted: impl Fn(&Answer) -> bool) -> Option<(Table, Vec<u8>)> {
     (0..BOOKS).find_map(|_| {
-        let table = books::sound(rule, rng);
-        seek_on(table.book_by(rule)?, rng, &wanted)
+        let table = books::sound(rng);
+        seek_on(table.book()?, rng, &|answer, _| wanted(answer))
     })
+}
+
+/// A record under a shortfall, with this code and this refusal or 0.
+pub fn under_shortfall(code: u8, refusal: u8, rng: &mut Rng) -> Call {
+    let found = (0..BOOKS).find_map(|_| {
+        let table = books::short(rng);
+        seek_on(table.book()?, rng, &|answer, before| {
+            answer.code == code && answer.refusal() == refusal && before.deemed(0) > 0
+        })
+    });
+    sought(found)
+}
+
+/// A record with the first code that there isn't.
+pub fn code_14(rng: &mut Rng) -> Call {
+    let book = books::sound(rng);
+    let mut record = good_values(rng);
+    (record.code, record.serial) = (LAST_CODE + 1, book.serial);
+    Call::CarryOut(book, record)
 }
 
 /// The maker aims at the edges of the rules; its records are followed one by
@@ -32,7 +46,7 @@ pub fn seek(
 fn seek_on(
     book: Book,
     rng: &mut Rng,
-    wanted: &impl Fn(&Answer) -> bool,
+    wanted: &impl Fn(&Answer, &Book) -> bool,
 ) -> Option<(Table, Vec<u8>)> {
     let mut model = book.clone();
     let mut maker = Maker::over(book, rng.next());
@@ -45,10 +59,10 @@ fn seek_on(
             let Next::Record(record) = reader.next() else {
                 break;
             };
-            let before = Table::of(&model);
-            if wanted(&carry(&mut model, &record)) {
+            let before = model.clone();
+            if wanted(&carry(&mut model, &record), &before) {
                 let bytes = &maker.bytes[place + start..place + reader.place()];
-                return Some((before, bytes.to_vec()));
+                return Some((Table::of(&before), bytes.to_vec()));
             }
         }
         place += reader.place();
@@ -68,19 +82,19 @@ fn sought(found: Option<(Table, Vec<u8>)>) -> Call {
     Call::CarryOut(book, values_of(&bytes))
 }
 
-pub fn refused_with(refusal: u8, rule: Rule, rng: &mut Rng) -> Call {
-    sought(seek(rule, rng, |answer| answer.refusal() == refusal))
+pub fn refused_with(refusal: u8, rng: &mut Rng) -> Call {
+    sought(seek(rng, |answer| answer.refusal() == refusal))
 }
 
-pub fn done_with(code: u8, rule: Rule, rng: &mut Rng) -> Call {
-    sought(seek(rule, rng, |answer| {
+pub fn done_with(code: u8, rng: &mut Rng) -> Call {
+    sought(seek(rng, |answer| {
         answer.refusal() == 0 && answer.code == code
     }))
 }
 
 /// A good record but for an amount that it doesn't name.
-pub fn unnamed(rule: Rule, rng: &mut Rng) -> Call {
-    let call = sought(seek(rule, rng, |answer| answer.refusal() == 0));
+pub fn unnamed(rng: &mut Rng) -> Call {
+    let call = sought(seek(rng, |answer| answer.refusal() == 0));
     let Call::CarryOut(book, mut record) = call else {
         return call;
     };
@@ -110,11 +124,11 @@ pub fn any_values(rng: &mut Rng) -> Values {
 
 /// In range for any code, of some account.
 fn good_values(rng: &mut Rng) -> Values {
-    let code = rng.between(1, 11) as u8;
+    let code = rng.between(1, u64::from(LAST_CODE)) as u8;
     let mark = match code {
         RECEIVE..=RELEASE => rng.between(1, 15) as u8,
-        PLEDGE | UNPLEDGE => 1 << PLEDGED,
-        SET_MARGIN => 1 << MARGIN,
+        PLEDGE | UNPLEDGE | REVALUE => 1 << PLEDGED,
+        SET_MARGIN | REVISE => 1 << MARGIN,
         _ => 0,
     };
     let mut amounts = [0; 6];
@@ -124,8 +138,8 @@ fn good_values(rng: &mut Rng) -> Values {
             *amount = rng.pick(&[1, drawn, CEILING]);
         }
     }
-    if code == SET_MARGIN && rng.one_in(3) {
-        amounts[MARGIN] = 0;
+    if code >= SET_MARGIN && rng.one_in(3) {
+        amounts = [0; 6];
     }
     Values {
         serial: rng.next() as u16,
@@ -195,11 +209,11 @@ fn fitted(fit: Fit, rng: &mut Rng) -> Values {
     let named = |record: &Values| (0..6).find(|bit| record.mark & (1 << bit) != 0);
     match fit {
         Fit::Good => {}
-        Fit::UnknownCode => record.code = rng.pick(&[0, 12, 13, 14, 128, 255]),
+        Fit::UnknownCode => record.code = rng.pick(&[0, 14, 14, 15, 128, 255]),
         Fit::UnsuitedMark => record.mark ^= rng.pick(&[0x30, 0x40, 0x80, 0xC0]),
         Fit::Unnamed => put_unnamed(&mut record, rng),
         Fit::TooLarge | Fit::Nothing => {
-            while named(&record).is_none() || record.code == SET_MARGIN {
+            while named(&record).is_none() || record.code >= SET_MARGIN {
                 record = good_values(rng);
             }
             let bit = named(&record).unwrap_or(0);

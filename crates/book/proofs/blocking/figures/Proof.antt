@@ -1,11 +1,19 @@
 -- `book::blocking::figures` meets its contract.
 use mathlib.Core.Path.{_≡_, sym, ap, _∙_}
+use Prim.Native.Nat.{ℕ}
 use native.Mathlib.Omega.{arith}
+use native.Mathlib.Decide.{ℕ-discrete}
 use borrow.Author.Needs.{needs}
-use Rattle.rows.specs.View.{need}
+use borrow.Author.Tests.{ne-eqb}
+use lib.Dec.{eqb}
+use Rattle.sums.specs.Sum.{only}
+use Rattle.rows.specs.View.{View, need, blocked, deemed, free}
+use Rattle.rows.specs.Facts.{Shaped}
 use Rattle.rows.specs.Rows.{view}
 use Rattle.rows.specs.DeemedUnder.{accountAt, needBy}
+use Rattle.rows.proofs.BySort.{need-CM}
 use Rattle.rows.proofs.KeptNeeds.{need-by}
+use Rattle.book.specs.Asked.{shortfall}
 use Rattle.table.specs.Facts.{seenBook}
 use Rattle.book.proofs.blocking.figures.Statement.{statement}
 use Rattle.book.proofs.blocking.figures.Tie as tie
@@ -19,11 +27,11 @@ need-by-requires c κs = search needs
 -- the need is the account's
 need-is : (c : tie.After-need-by) →
     let a = c .before .before .args in
-    c .need-by .result ≡ need (view (seenBook (a .rule) (a .count) (a .sort .now) (a .tm .now) (a .w .now))) (a .i)
+    c .need-by .result ≡ need (view (seenBook (a .count) (a .sort .now) (a .tm .now) (a .w .now))) (a .i)
 need-is c =
     let start = c .before .before in
     let a = start .args in
-    let v = view (seenBook (a .rule) (a .count) (a .sort .now) (a .tm .now) (a .w .now)) in
+    let v = view (seenBook (a .count) (a .sort .now) (a .tm .now) (a .w .now)) in
     c .need-by .ensures ∙ ap (λ x. needBy x (a .kept)) (c .before .account-at .ensures) ∙ ap (needBy (accountAt v (a .i))) (start .pre .3)
     ∙ sym (need-by v (start .pre .1) (a .i) (start .pre .2))
 
@@ -36,10 +44,31 @@ sub-t13 c = search needs
 sub-t14 : tie.Need-sub-t14
 sub-t14 c = search needs
 
+sub-only-if : tie.Need-sub-only-if
+sub-only-if c = search needs
+
+only-if-requires : tie.Need-only-if-requires
+only-if-requires c κs = search needs
+
+-- what is shown as the shortfall: of account 0 what it is deemed, which is its need less its collateral
+shown : (v : View) → Shaped v → (i : ℕ) → only (eqb i 0) (deemed v i) ≡ only (eqb i 0) (shortfall v)
+shown v s i = by (ℕ-discrete i 0)
+  where
+    by : Dec (i ≡ 0) → only (eqb i 0) (deemed v i) ≡ only (eqb i 0) (shortfall v)
+    by (yes e) = rw e (omega (arith, need-CM v 0 (s .top)))
+    by (no n) = rw (ne-eqb i 0 n)
+
 returns : tie.Need-returns
-returns c = rw (c .blocked-of .ensures, need-is (c .before), c .before .before .account-at .ensures)
+returns c =
+    let k = c .before in
+    let start = k .before .before .before in
+    let a = start .args in
+    let v = view (seenBook (a .count) (a .sort .now) (a .tm .now) (a .w .now)) in
+    rw (c .only-if .ensures, k .blocked-of .ensures, need-is (k .before), k .before .before .account-at .ensures)
+    (ap (λ (x : ℕ). record { refusal = 0; collateral = v .collateral (a .i); need = need v (a .i); blocked = blocked v (a .i); deemed = deemed v (a .i); free = free v (a .i); mode = a .mode; shortfall = x })
+    (shown v (start .pre .1) (a .i)))
 
 pub figures-spec : {M : Type 1} → statement M
 figures-spec =
     tie.close
-    (tie.spec account-at-requires need-by-requires blocked-of-requires sub-t13 sub-t14 returns)
+    (tie.spec account-at-requires need-by-requires blocked-of-requires sub-t13 sub-t14 sub-only-if only-if-requires returns)

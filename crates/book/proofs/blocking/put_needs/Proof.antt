@@ -15,14 +15,14 @@ use Rattle.book.proofs.blocking.put_needs.Tie as tie
 
 -- the room's first i places are put
 abbrev Inv-loop : tie.InvT-loop
-Inv-loop sort tm w needs count room₀ rule n i₀ room i =
-    (n ≡ count) × (i ≤ n) × (length room ≡ count) × ((j : ℕ) → j < i → getD room j 0 ≡ need (view (seenBook rule count sort tm w)) j)
+Inv-loop sort tm w needs count room₀ n i₀ room i =
+    (n ≡ count) × (i ≤ n) × (length room ≡ count) × ((j : ℕ) → j < i → getD room j 0 ≡ need (view (seenBook count sort tm w)) j)
 
 abbrev μ-loop : tie.MeasureT-loop
-μ-loop sort tm w needs count room₀ rule n i₀ room i = n - i
+μ-loop sort tm w needs count room₀ n i₀ room i = n - i
 
 abbrev seen : tie.Start Inv-loop μ-loop → View
-seen c = view (seenBook (c .args .rule) (c .args .count) (c .args .sort .now) (c .args .tm .now) (c .args .w .now))
+seen c = view (seenBook (c .args .count) (c .args .sort .now) (c .args .tm .now) (c .args .w .now))
 
 -- an account's place is in the table
 inside : (c : tie.In-loop Inv-loop μ-loop) → c .before .loop .i < 256

@@ -6,7 +6,6 @@ use lib.ListN.{getD}
 use borrow.Author.Needs.{needs}
 use borrow.Author.Tests.{lt-ltb, le-ltb}
 use Rattle.sums.proofs.Choices.{pick-first, pick-second}
-use Rattle.rows.specs.declared.Rule.the-variants.{New}
 use Rattle.rows.specs.Inner.{Slot}
 use Rattle.table.specs.Words.{marksFrom, rowIn, bookFrom}
 use Rattle.book.specs.Sound.{goodRow, rowSound}
@@ -39,7 +38,7 @@ no-amounts-requires-2 c κs = search needs
 at-slot : {x : Bool} (c : tie.After-mark-at2) →
     let a = c .before .before .before .args in
     let m = marksFrom (a .sort .now) (a .live .now) (a .tm .now) in
-    x ≡ goodRow (a .n) (a .i) (rowIn m (a .w .now) (a .i)) (rowIn m (a .w .now) (c .before .slot .result)) → x ≡ rowSound (bookFrom New (a .n) 0 m (a .w .now) [] []) (a .i)
+    x ≡ goodRow (a .n) (a .i) (rowIn m (a .w .now) (a .i)) (rowIn m (a .w .now) (c .before .slot .result)) → x ≡ rowSound (bookFrom (a .n) 0 m (a .w .now) [] []) (a .i)
 at-slot c =
     let a = c .before .before .before .args in
     let slot : Slot (getD (a .tm .now) (a .i) 0) (c .before .slot .result) = rw (c .before .before .mark-at .ensures) at (c .before .slot .ensures) in

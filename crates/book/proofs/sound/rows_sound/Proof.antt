@@ -6,7 +6,6 @@ use Prim.Native.Nat.{ℕ, _-_, _≤_}
 use native.Mathlib.Omega.{arith}
 use Rattle.sums.specs.Sum.{all}
 use Rattle.sums.proofs.Sums.{all-none, all-step}
-use Rattle.rows.specs.declared.Rule.the-variants.{New}
 use Rattle.rows.specs.declared.Book.{Book}
 use Rattle.table.specs.Words.{marksFrom, bookFrom}
 use Rattle.book.specs.Sound.{rowSound}
@@ -14,13 +13,13 @@ use Rattle.book.proofs.sound.rows_sound.Statement.{statement}
 use Rattle.book.proofs.sound.rows_sound.Tie as tie
 
 abbrev Inv-loop : tie.InvT-loop
-Inv-loop sort live tm w count n ok₀ i₀ ok i = (n ≡ count) × (i ≤ 256) × (ok ≡ all i (rowSound (bookFrom New count 0 (marksFrom sort live tm) w [] [])))
+Inv-loop sort live tm w count n ok₀ i₀ ok i = (n ≡ count) × (i ≤ 256) × (ok ≡ all i (rowSound (bookFrom count 0 (marksFrom sort live tm) w [] [])))
 
 abbrev μ-loop : tie.MeasureT-loop
 μ-loop sort live tm w count n ok₀ i₀ ok i = 256 - i
 
 abbrev bookOf : tie.Start Inv-loop μ-loop → Book
-bookOf c = bookFrom New (c .args .count) 0 (marksFrom (c .args .sort .now) (c .args .live .now) (c .args .tm .now)) (c .args .w .now) [] []
+bookOf c = bookFrom (c .args .count) 0 (marksFrom (c .args .sort .now) (c .args .live .now) (c .args .tm .now)) (c .args .w .now) [] []
 
 loop-holds : tie.Need-loop-holds Inv-loop μ-loop
 loop-holds c = (refl, omega arith, sym (all-none (rowSound (bookOf c))))

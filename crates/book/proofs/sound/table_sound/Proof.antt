@@ -1,153 +1,15 @@
--- `book::sound::table_sound` meets its contract: number, rows, modes, kept needs, cover, in this order. Rows that have passed keep the sums behind needs within a word.
-use mathlib.Core.Bool.{true, and-false}
-use mathlib.Core.Path.{_≡_, sym, ap, subst, _∙_}
-use Prim.Native.Nat.{_≤_, _<_}
-use native.Mathlib.Omega.{arith}
-use lib.Dec.{eqb}
+-- `book::sound::table_sound` meets its contract.
 use borrow.Author.Needs.{needs}
-use borrow.Author.Tests.{lt-leb, le-leb, eq-eqb, not-true, not-false}
-use Rattle.sums.specs.Sum.{all}
-use Rattle.sums.proofs.Sums.{all-at}
-use Rattle.rows.specs.declared.Book.{Book}
-use Rattle.rows.specs.View.{View}
-use Rattle.rows.specs.Rows.{view}
-use Rattle.rows.specs.Facts.{NoneBeyond}
-use Rattle.rows.specs.KeptNeeds.{allKept}
-use Rattle.rows.proofs.KeptNeeds.{kept-CM}
-use Rattle.rows.specs.Inner.{Ranged}
-use Rattle.table.specs.Words.{Marks, marksFrom, bookFrom}
-use Rattle.table.specs.Facts.{seenBook}
-use Rattle.table.proofs.Gathered.{rows-length}
-use Rattle.table.proofs.Seen.{seen-view, seen-account, seen-ranged}
-use Rattle.book.specs.Sound.{rowSound, modeSound, formedB, keptB, coveredB, soundB}
-use Rattle.book.proofs.RowTests.{rows-ranged}
-use Rattle.book.proofs.SoundTest.{shaped-rows, blank-beyond, kept→}
-use Rattle.book.proofs.SoundInPlace.{rows-modes, modes-in-place}
+use Rattle.book.specs.Sound.{soundB}
 use Rattle.book.proofs.sound.table_sound.Statement.{statement}
 use Rattle.book.proofs.sound.table_sound.Tie as tie
 
-abbrev marksIn : tie.Start → Marks
-marksIn c = marksFrom (c .args .sort .now) (c .args .live .now) (c .args .tm .now)
-
-abbrev bookOf : tie.Start → Book
-bookOf c = bookFrom (c .args .rule) (c .args .count) 0 (marksIn c) (c .args .w .now) (c .args .modes .now) (c .args .needs .now)
+table-kept-requires : tie.Need-table-kept-requires
+table-kept-requires c κs = search needs
 
 returns : tie.Need-returns
-unfolding soundB formedB
-returns c = simp (lt-leb 1 (c .before .args .count) (c .if1 .taken))
-
-returns-2 : tie.Need-returns-2
-unfolding soundB formedB
-returns-2 c = simp (lt-leb (c .before .before .args .count) 256 (c .if2 .taken), and-false)
-
-rows-sound-requires : tie.Need-rows-sound-requires
-rows-sound-requires c κs = search needs
-
--- the rows' test, as the book's
-rows-tested : (c : tie.After-rows-sound) → all 256 (rowSound (bookOf (c .before .before .before))) ≡ c .rows-sound .result
-rows-tested c =
-    let start = c .before .before .before in
-    sym (c .rows-sound .ensures ∙ rows-modes (start .args .rule) (start .args .count) (marksIn start) (start .args .w .now) (start .args .modes .now) (start .args .needs .now))
-
-returns-3 : tie.Need-returns-3
-unfolding soundB formedB
-returns-3 c = simp (rows-tested (c .before) ∙ not-true _ (c .if3 .taken), and-false)
-
-modes-sound-requires : tie.Need-modes-sound-requires
-modes-sound-requires c κs = search needs
-
--- past the tests of the number and of the rows
-rows-hold : (c : tie.Else3) → all 256 (rowSound (bookOf (c .before .before .before .before))) ≡ true
-rows-hold c = rows-tested (c .before) ∙ not-false _ (c .if3 .left)
-
-modes-tested : (c : tie.After-modes-sound) → all 256 (modeSound (bookOf (c .before .before .before .before .before))) ≡ c .modes-sound .result
-modes-tested c =
-    let start = c .before .before .before .before .before in
-    sym (c .modes-sound .ensures ∙ modes-in-place (start .args .rule) (start .args .count) (marksIn start) (start .args .w .now) (start .args .modes .now) (start .args .needs .now))
-
-returns-4 : tie.Need-returns-4
-unfolding soundB formedB
-returns-4 c = simp (modes-tested (c .before) ∙ not-true _ (c .if4 .taken), and-false)
-
-ranged : (c : tie.Else4) →
-    let a = c .before .before .before .before .before .before .args in
-    Ranged (seenBook (a .rule) (a .count) (a .sort .now) (a .tm .now) (a .w .now))
-ranged c =
-    let past = c .before .before in
-    let start = past .before .before .before .before in
-    let a = start .args in
-    seen-ranged (a .rule) (a .count) 0 (marksIn start) (a .w .now) (a .modes .now) (a .needs .now)
-    (rows-ranged (bookOf start) (rows-length (marksIn start) (a .w .now)) (past .before .before .if2 .left) (rows-hold past))
-
--- the view of the words is the book's
-abbrev seen : tie.Else4 → View
-seen c = let a = c .before .before .before .before .before .before .args in view (seenBook (a .rule) (a .count) (a .sort .now) (a .tm .now) (a .w .now))
-
-is-seen : (c : tie.Else4) → seen c ≡ view (bookOf (c .before .before .before .before .before .before))
-is-seen c =
-    let start = c .before .before .before .before .before .before in
-    let a = start .args in
-    seen-view (a .rule) (a .count) 0 (marksIn start) (a .w .now) (a .modes .now) (a .needs .now)
-
-needs-kept-requires : tie.Need-needs-kept-requires
-needs-kept-requires c κs =
-    let rows = c .before .before in
-    let start = rows .before .before .before .before in
-    let b = bookOf start in
-    let some : 0 < b .count = omega arith in
-    let most : b .count ≤ 256 = omega arith in
-    let table = rows-length (marksIn start) (start .args .w .now) in
-    let row = all-at 256 (rowSound b) (rows-hold rows) in
-    (ranged c, rw (is-seen c) (shaped-rows b some most table row), subst NoneBeyond (sym (is-seen c)) (λ i l. ap (λ r. eqb (r .sort) 1) (blank-beyond b some most table row i l)))
-
-kept-tested : (c : tie.After-needs-kept) → keptB (bookOf (c .before .before .before .before .before .before .before)) ≡ c .needs-kept .result
-kept-tested c =
-    let start = c .before .before .before .before .before .before .before in
-    sym (c .needs-kept .ensures ∙ ap (λ v. allKept v (start .args .needs .now)) (is-seen (c .before)))
-
-returns-5 : tie.Need-returns-5
 unfolding soundB
-returns-5 c = simp (kept-tested (c .before) ∙ not-true _ (c .if5 .taken), and-false)
-
-account-at-requires : tie.Need-account-at-requires
-account-at-requires c κs = (omega arith, ranged (c .before .before) .ranges 0 (omega arith))
-
-element-copy-out-result : tie.Need-element-copy-out-result
-element-copy-out-result c = search needs
-
-returns-6 : tie.Need-returns-6
-unfolding soundB formedB coveredB
-returns-6 c =
-    let kept = c .before .before .before in
-    let modes = kept .before .before in
-    let rows = modes .before .before in
-    let start = rows .before .before .before .before in
-    let a = start .args in
-    let m = marksIn start in
-    let holds : keptB (bookOf start) ≡ true = kept-tested (kept .before) ∙ not-false _ (kept .if5 .left) in
-    simp (
-      ap (λ x. x .collateral) (c .before .before .account-at .ensures ∙ seen-account (a .rule) (a .count) 0 m (a .w .now) (a .modes .now) (a .needs .now) 0),
-      kept→ (view (bookOf start)) (a .needs .now) holds 0 (omega arith) ∙ kept-CM (view (bookOf start)),
-      holds,
-      le-leb 1 (a .count) (omega arith),
-      le-leb (a .count) 256 (omega arith),
-      rows-hold rows,
-      eq-eqb _ 256 (rows-length m (a .w .now)),
-      modes-tested (modes .before) ∙ not-false _ (modes .if4 .left),
-    )
+returns c = c .table-kept .ensures
 
 pub table-sound-spec : {M : Type 1} → statement M
-table-sound-spec =
-    tie.close
-    (tie.spec
-    returns
-    returns-2
-    rows-sound-requires
-    returns-3
-    modes-sound-requires
-    returns-4
-    needs-kept-requires
-    returns-5
-    account-at-requires
-    element-copy-out-result
-    returns-6)
+table-sound-spec = tie.close (tie.spec table-kept-requires returns)

@@ -19,8 +19,8 @@ lesser-requires c κs = search needs
 lesser-requires-2 : tie.Need-lesser-requires-2
 lesser-requires-2 c κs = search needs
 
-sub-t9 : tie.Need-sub-t9
-sub-t9 c = omega (arith, c .lesser2 .ensures)
+sub-t8 : tie.Need-sub-t8
+sub-t8 c = omega (arith, c .lesser2 .ensures)
 
 sub-lesser : tie.Need-sub-lesser
 sub-lesser c = omega (arith, c .lesser2 .ensures, c .before .lesser .ensures)
@@ -28,8 +28,8 @@ sub-lesser c = omega (arith, c .lesser2 .ensures, c .before .lesser .ensures)
 lesser-requires-3 : tie.Need-lesser-requires-3
 lesser-requires-3 c κs = search needs
 
-sub-t12 : tie.Need-sub-t12
-sub-t12 c = omega (arith, c .lesser3 .ensures)
+sub-t11 : tie.Need-sub-t11
+sub-t11 c = omega (arith, c .lesser3 .ensures)
 
 returns : tie.Need-returns
 returns c =
@@ -40,4 +40,4 @@ returns c =
 pub after-own-spec : {M : Type 1} → statement M
 after-own-spec =
     tie.close
-    (tie.spec account-of-requires free-with-requires lesser-requires lesser-requires-2 sub-t9 sub-lesser lesser-requires-3 sub-t12 returns)
+    (tie.spec account-of-requires free-with-requires lesser-requires lesser-requires-2 sub-t8 sub-lesser lesser-requires-3 sub-t11 returns)

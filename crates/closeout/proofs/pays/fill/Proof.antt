@@ -18,11 +18,11 @@ use Rattle.closeout.proofs.pays.fill.Statement.{statement}
 use Rattle.closeout.proofs.pays.fill.Tie as tie
 
 abbrev Inv-loop : tie.InvT-loop
-Inv-loop sort live tm w needs count losses room₀ rule left₀ free₀ cm₀ cm-free₀ uncovered₀ n i₀ room left free cm cm-free unpaid i =
-    Passed (bookFrom rule count 0 (marksFrom sort live tm) w [] needs) losses room₀ room left free cm cm-free unpaid i × (i ≤ count)
+Inv-loop sort live tm w needs count losses room₀ left₀ free₀ cm₀ cm-free₀ uncovered₀ n i₀ room left free cm cm-free unpaid i =
+    Passed (bookFrom count 0 (marksFrom sort live tm) w [] needs) losses room₀ room left free cm cm-free unpaid i × (i ≤ count)
 
 abbrev μ-loop : tie.MeasureT-loop
-μ-loop sort live tm w needs count losses room₀ rule left₀ free₀ cm₀ cm-free₀ uncovered₀ n i₀ room left free cm cm-free unpaid i =
+μ-loop sort live tm w needs count losses room₀ left₀ free₀ cm₀ cm-free₀ uncovered₀ n i₀ room left free cm cm-free unpaid i =
     count - i
 
 -- in a turn: what the checks say, where the pass stands, and which accounts are there
@@ -34,7 +34,7 @@ called c = c .before .before .before .before .before .before .before .before .be
 
 -- the book that the arrays are, as far as the pass looks at it
 abbrev bookOf : tie.Start Inv-loop μ-loop → Book
-bookOf s = let a = s .args in bookFrom (a .rule) (a .count) 0 (marksFrom (a .sort .now) (a .live .now) (a .tm .now)) (a .w .now) [] (a .needs .now)
+bookOf s = let a = s .args in bookFrom (a .count) 0 (marksFrom (a .sort .now) (a .live .now) (a .tm .now)) (a .w .now) [] (a .needs .now)
 
 abbrev Bk : Turn → Book
 Bk c = bookOf (called c)
@@ -105,7 +105,7 @@ loop-holds c =
     let pre = s .pre in (
       pass-start (bookOf s) (s .args .losses .now) _ _ _ _ (pre .sound) (ap length (c .before .before .before .before .before .before .zeros .ensures)) (ap length (c .before .before .before .before .before .zeros2 .ensures))
           (need-kept (bookOf s) (pre .sound) 0 (pre .sound .shaped .some) (all-under (c .before)))
-          (c .after-own .ensures ∙ ap (λ q. afterOwn (accountOf (s .args .rule) q) (getD (s .args .losses .now) 0 0) (c .before .less .result)) (top (c .before .before .before .before))),
+          (c .after-own .ensures ∙ ap (λ q. afterOwn (accountOf q) (getD (s .args .losses .now) 0 0) (c .before .less .result)) (top (c .before .before .before .before))),
       omega arith,
     )
 
@@ -242,7 +242,7 @@ next c =
     (set (set (l .free) (q .tm) (getD (l .free) (q .tm) 0 - p .second .tm)) (l .i) (p .second .left))
     (l .cm - p .first .cm) (l .cm-free - p .second .cm) (l .uncovered + p .second .unpaid) (l .i + 1)) (sym (row r))
     (pass-turn (checked t .sound) (inside t) (here t) (under .less2 .result) (need-kept (Bk t) (checked t .sound) _ (inside t) (deemed-under under))
-    (c .before .before .before .before .before .before .before .before .before .before .before .rounds .ensures ∙ ap (λ q. roundsBy (accountOf (Bk t .rule) q) (getD (Ls t) (l .i) 0) (under .less2 .result) (getD (l .left) (q .tm) 0) (l .cm) (getD (l .free) (q .tm) 0) (l .cm-free)) (row r))
+    (c .before .before .before .before .before .before .before .before .before .before .before .rounds .ensures ∙ ap (λ q. roundsBy (accountOf q) (getD (Ls t) (l .i) 0) (under .less2 .result) (getD (l .left) (q .tm) 0) (l .cm) (getD (l .free) (q .tm) 0) (l .cm-free)) (row r))
     (put .ensures) (put .kept .0))
 
 add-uncovered : tie.Need-add-uncovered Inv-loop μ-loop

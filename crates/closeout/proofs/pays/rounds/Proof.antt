@@ -68,17 +68,17 @@ only-if-requires-3 c κs = search needs
 pay-requires-2 : tie.Need-pay-requires-2
 pay-requires-2 c κs = search needs
 
+add-t19 : tie.Need-add-t19
+add-t19 c = omega (arith, c .before .before .before .before .before .before .before .before .before .before .before .before .before .before .before .fits, both-within (c .before .before .before .before .before))
+
 add-t20 : tie.Need-add-t20
-add-t20 c = omega (arith, c .before .before .before .before .before .before .before .before .before .before .before .before .before .before .before .fits, both-within (c .before .before .before .before .before))
+add-t20 c = omega (arith, c .before .before .before .before .before .before .before .before .before .before .before .before .before .before .before .before .fits, all-within (c .before .before))
 
 add-t21 : tie.Need-add-t21
-add-t21 c = omega (arith, c .before .before .before .before .before .before .before .before .before .before .before .before .before .before .before .before .fits, all-within (c .before .before))
+add-t21 c = omega (arith, c .before .before .before .before .before .before .before .before .before .before .before .before .before .before .before .before .before .before .fits, all-within (c .before .before .before .before))
 
 add-t22 : tie.Need-add-t22
-add-t22 c = omega (arith, c .before .before .before .before .before .before .before .before .before .before .before .before .before .before .before .before .before .before .fits, all-within (c .before .before .before .before))
-
-add-t23 : tie.Need-add-t23
-add-t23 c = omega (arith, c .before .before .before .before .before .before .before .before .before .before .before .before .before .before .before .before .before .before .before .before .fits, all-within (c .before .before .before .before .before .before))
+add-t22 c = omega (arith, c .before .before .before .before .before .before .before .before .before .before .before .before .before .before .before .before .before .before .before .before .fits, all-within (c .before .before .before .before .before .before))
 
 returns : tie.Need-returns
 returns c =
@@ -108,8 +108,8 @@ rounds-spec =
     sub-left-2
     only-if-requires-3
     pay-requires-2
+    add-t19
     add-t20
     add-t21
     add-t22
-    add-t23
     returns)

@@ -29,8 +29,8 @@ row-at-requires c κs = search needs
 account-of-requires : tie.Need-account-of-requires
 account-of-requires c κs = rw (c .row-at .ensures) (c .before .pre .0 .ranges 0 (omega arith))
 
-top-is : (c : tie.After-account-of) → c .account-of .result ≡ accountIn (start c .args .rule) (marks (start c)) (start c .args .w .now) 0
-top-is c = c .account-of .ensures ∙ ap (accountOf (start c .args .rule)) (c .before .row-at .ensures)
+top-is : (c : tie.After-account-of) → c .account-of .result ≡ accountIn (marks (start c)) (start c .args .w .now) 0
+top-is c = c .account-of .ensures ∙ ap accountOf (c .before .row-at .ensures)
 
 with-margin-requires : tie.Need-with-margin-requires
 with-margin-requires c κs = search needs
@@ -46,18 +46,16 @@ account-of-requires-3 c κs = new-in (c .before)
 
 deemed-under-after-at-requires : tie.Need-deemed-under-after-at-requires
 deemed-under-after-at-requires c κs =
-    let s = start (topped (new c)) in
-    let pre = s .pre in
-    change-in-range (s .args .rule) _ _ _ _ (pre .0) (pre .2) (c .before .account-of2 .ensures) (c .account-of3 .ensures) (new-in (new c))
+    let pre = start (topped (new c)) .pre in
+    change-in-range _ _ _ _ (pre .0) (pre .2) (c .before .account-of2 .ensures) (c .account-of3 .ensures) (new-in (new c))
 
 need-passes-with-requires : tie.Need-need-passes-with-requires
 need-passes-with-requires c κs =
     let b = c .before in
     let t = topped (new b) in
-    let rule = start t .args .rule in
     let pre = start t .pre in
-    let g = change-in-range rule _ _ _ _ (pre .0) (pre .2) (b .before .account-of2 .ensures) (b .account-of3 .ensures) (new-in (new b)) in
-    (rw (top-is t) (pre .0 .ranges 0 (omega arith) .margin), pre .1, omega (arith, deemed-under-most rule (b .before .account-of2 .result) (b .account-of3 .result) _ (pre .0) (g .1) (g .3) (c .deemed-under-after-at .ensures)))
+    let g = change-in-range _ _ _ _ (pre .0) (pre .2) (b .before .account-of2 .ensures) (b .account-of3 .ensures) (new-in (new b)) in
+    (rw (top-is t) (pre .0 .ranges 0 (omega arith) .margin), pre .1, omega (arith, deemed-under-most (b .before .account-of2 .result) (b .account-of3 .result) _ (pre .0) (g .1) (g .3) (c .deemed-under-after-at .ensures)))
 
 returns : tie.Need-returns
 returns c =
@@ -65,7 +63,7 @@ returns c =
     let n = new b in
     let t = topped n in
     let s = start t in
-    sym (need-passes-is (s .args .rule) (marks s) (s .args .w .now) (deemedUnderIn (s .args .w .now) (s .args .needs .now)) (s .args .i) (s .args .y) _ _ _ _ _ _ _ (s .pre .2) (n .with-margin .ensures) (b .before .account-of2 .ensures)
+    sym (need-passes-is (marks s) (s .args .w .now) (deemedUnderIn (s .args .w .now) (s .args .needs .now)) (s .args .i) (s .args .y) _ _ _ _ _ _ _ (s .pre .2) (n .with-margin .ensures) (b .before .account-of2 .ensures)
     (b .account-of3 .ensures) (top-is t) (c .before .deemed-under-after-at .ensures) (c .need-passes-with .ensures))
 
 pub need-passes-after-spec : {M : Type 1} → statement M

@@ -26,7 +26,7 @@ abbrev after : tie.Start → Row → Row
 after s q = withAllocated q (lessKinds (q .allocated) (s .args .k))
 
 abbrev own : tie.Start → Row → List Line
-own s q = releaseLines q (s .args .on) (leavesBelow (s .args .rule) q (after s q) (getD (deemedUnderIn (s .args .w .now) (s .args .needs .now)) (s .args .i) 0)) (s .args .k)
+own s q = releaseLines q (s .args .on) (leavesBelow q (after s q) (getD (deemedUnderIn (s .args .w .now) (s .args .needs .now)) (s .args .i) 0)) (s .args .k)
 
 test-is : (c : tie.After-kinds-within) → not (kindsWithin (start c .args .k) (c .before .row-at .result .allocated)) ≡ not (c .kinds-within .result)
 test-is c = ap not (sym (c .kinds-within .ensures))
@@ -63,7 +63,7 @@ number c =
     let s = start t in
     let under = getD (deemedUnderIn (s .args .w .now) (s .args .needs .now)) (s .args .i) 0 in
     first-line-fails 11 _ _ _ (test-is t ∙ c .before .before .before .before .if1 .left)
-    (c .taking .ensures ∙ ap (λ q. first (takingLines (s .args .on) (leavesBelow (s .args .rule) (t .before .row-at .result) q under))) (made (c .before .before)))
+    (c .taking .ensures ∙ ap (λ q. first (takingLines (s .args .on) (leavesBelow (t .before .row-at .result) q under))) (made (c .before .before)))
 
 returns-2 : tie.Need-returns-2
 returns-2 c = let t = tests (c .before .before .before) in refused-answers _ (own (start t)) _ (t .before .row-at .ensures) (number (c .before)) (c .if2 .taken)

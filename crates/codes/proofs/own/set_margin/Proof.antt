@@ -29,7 +29,7 @@ marks s = marksFrom (s .args .sort .now) (s .args .live .now) (s .args .tm .now)
 
 -- the code's own line, by the row
 abbrev passed : tie.Start → Bool
-passed s = needPassesIn (s .args .rule) (marks s) (s .args .w .now) (deemedUnderIn (s .args .w .now) (s .args .needs .now)) (s .args .i) (s .args .y)
+passed s = needPassesIn (marks s) (s .args .w .now) (deemedUnderIn (s .args .w .now) (s .args .needs .now)) (s .args .i) (s .args .y)
 
 abbrev own : tie.Start → Row → List Line
 own s q = marginLines q (s .args .y) (passed s)

@@ -34,7 +34,7 @@ collateral-of-requires c κs = search needs
 
 below-is : (c : tie.After-collateral-of) →
     let a = c .before .before .before .before .before .args in
-    ltb (c .collateral-of .result) (c .before .blocked-with .result) ≡ leavesBelow (a .rule) (a .row) (a .new) (getD (deemedUnderIn (a .w .now) (a .needs .now)) (a .i) 0)
+    ltb (c .collateral-of .result) (c .before .blocked-with .result) ≡ leavesBelow (a .row) (a .new) (getD (deemedUnderIn (a .w .now) (a .needs .now)) (a .i) 0)
 below-is c =
     let a = c .before .before .before .before .before .args in
     let own = c .before .before .before .account-of in

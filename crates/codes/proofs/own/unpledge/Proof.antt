@@ -26,7 +26,7 @@ abbrev after : tie.Start → Row → Row
 after s q = withPledged q (q .pledged - s .args .y)
 
 abbrev own : tie.Start → Row → List Line
-own s q = unpledgeLines q (s .args .on) (leavesBelow (s .args .rule) q (after s q) (getD (deemedUnderIn (s .args .w .now) (s .args .needs .now)) (s .args .i) 0)) (s .args .y)
+own s q = unpledgeLines q (s .args .on) (leavesBelow q (after s q) (getD (deemedUnderIn (s .args .w .now) (s .args .needs .now)) (s .args .i) 0)) (s .args .y)
 
 row-at-requires : tie.Need-row-at-requires
 row-at-requires c κs = search needs
@@ -51,7 +51,7 @@ number c =
     let s = start e in
     let under = getD (deemedUnderIn (s .args .w .now) (s .args .needs .now)) (s .args .i) 0 in
     first-line-fails 11 _ _ _ (le-ltb _ _ (e .if1 .left))
-    (c .taking .ensures ∙ ap (λ q. first (takingLines (s .args .on) (leavesBelow (s .args .rule) (e .before .before .row-at .result) q under))) (c .before .before .with-pledged .ensures))
+    (c .taking .ensures ∙ ap (λ q. first (takingLines (s .args .on) (leavesBelow (e .before .before .row-at .result) q under))) (c .before .before .with-pledged .ensures))
 
 returns-2 : tie.Need-returns-2
 returns-2 c = let e = enough (c .before .before .before) in refused-answers _ (own (start e)) _ (e .before .before .row-at .ensures) (number (c .before)) (c .if2 .taken)

@@ -29,8 +29,8 @@ is-under s j l e = e ∙ sym (under-is (s .args .w .now) (s .args .needs .now) j
 member-in : (c : tie.After-row-at) → InRange (c .row-at .result)
 member-in c = rw (c .row-at .ensures) (start c .pre .0 .ranges (start c .args .old .tm) (start c .pre .1))
 
-member-is : (c : tie.After-account-of) → (let a = start (c .before) .args in c .account-of .result ≡ accountIn (a .rule) (marksFrom (a .sort .now) (a .live .now) (a .tm .now)) (a .w .now) (a .old .tm))
-member-is c = c .account-of .ensures ∙ ap (accountOf (start (c .before) .args .rule)) (c .before .row-at .ensures)
+member-is : (c : tie.After-account-of) → (let a = start (c .before) .args in c .account-of .result ≡ accountIn (marksFrom (a .sort .now) (a .live .now) (a .tm .now)) (a .w .now) (a .old .tm))
+member-is c = c .account-of .ensures ∙ ap accountOf (c .before .row-at .ensures)
 
 cast-t : tie.Need-cast-t
 cast-t c = search needs

@@ -4,7 +4,7 @@ use lib.Dec.{leb}
 use borrow.Author.Needs.{needs}
 use borrow.Author.Tests.{eqb-true, leb-true}
 use Rattle.sums.proofs.Choices.{and-split}
-use Rattle.dayfile.specs.Records.{bit}
+use Rattle.dayfile.specs.Records.{bit, leastPledged}
 use Rattle.dayfile.specs.Taking.{markOf}
 use Rattle.dayfile.proofs.Judging.{kinds-suit, one-suits, no-other, no-kinds, unnamed-amount}
 use Rattle.dayfile.proofs.records.good_amounts.Statement.{statement}
@@ -32,16 +32,16 @@ returns c =
     let r = start .args .record in
     let e = kinds-suit (r .code) (r .named) (sym (n .before .names-kinds .ensures) ∙ n .if1 .taken) in
     let o = no-other (r .named) (leb-true (r .named) 15 (and-split (leb 1 (r .named)) (leb (r .named) 15) (e ∙ start .pre .1) .1)) in
-    cc (unnamed-amount (bit 4 (r .named)) 1 (r .pledged) (o .0), unnamed-amount (bit 5 (r .named)) 0 (r .margin) (o .1))
+    cc (unnamed-amount (bit 4 (r .named)) (leastPledged (r .code)) (r .pledged) (o .0), unnamed-amount (bit 5 (r .named)) 0 (r .margin) (o .1))
 
 no-kinds-requires : tie.Need-no-kinds-requires
 no-kinds-requires c κs = search needs
 
-good-amount-requires-5 : tie.Need-good-amount-requires-5
-good-amount-requires-5 c κs = search needs
+good-pledged-requires : tie.Need-good-pledged-requires
+good-pledged-requires c κs = search needs
 
-good-margin-requires : tie.Need-good-margin-requires
-good-margin-requires c κs = search needs
+good-set-requires : tie.Need-good-set-requires
+good-set-requires c κs = search needs
 
 returns-2 : tie.Need-returns-2
 returns-2 c =
@@ -68,6 +68,6 @@ good-amounts-spec =
     good-amount-requires-4
     returns
     no-kinds-requires
-    good-amount-requires-5
-    good-margin-requires
+    good-pledged-requires
+    good-set-requires
     returns-2)

@@ -21,20 +21,25 @@ put-numbers-requires c κs = search needs
 put-mode-requires : tie.Need-put-mode-requires
 put-mode-requires c κs = search needs
 
+put-number-requires-2 : tie.Need-put-number-requires-2
+put-number-requires-2 c κs = search needs
+
 same-length : tie.Need-same-length
 same-length c = search needs
 
 returns : tie.Need-returns
 unfolding standingLine
 returns c =
-    let m = c .before .before in
+    let f = c .before .before in
+    let m = f .before .before .before .before in
     let n = m .before .before .before .before in
     let s = n .before .before .before .before in
     let k = s .before .before .before .before in
     let i = k .before .before .before .before in (
       and-then _ _ (i .put-number .ensures .0)
           (and-then _ _ (k .put-sort .ensures .0)
-          (and-then _ _ (s .put-state .ensures .0) (and-then _ _ (n .put-numbers .ensures .0) (m .put-mode .ensures .0)))),
+          (and-then _ _ (s .put-state .ensures .0)
+          (and-then _ _ (n .put-numbers .ensures .0) (and-then _ _ (m .put-mode .ensures .0) (f .put-number2 .ensures .0))))),
       omega arith,
     )
 
@@ -47,5 +52,6 @@ put-standing-spec =
     put-state-requires
     put-numbers-requires
     put-mode-requires
+    put-number-requires-2
     same-length
     returns)

@@ -1,4 +1,4 @@
--- `report::standing::put_standings` meets its contract. The invariant: the lines of the accounts below i stand in the room, at most 166 bytes each.
+-- `report::standing::put_standings` meets its contract. The invariant: the lines of the accounts below i stand in the room, at most 187 bytes each.
 use borrow.Author.Needs.{needs}
 use mathlib.Core.Path.{_≡_, sym, _∙_}
 use Prim.Native.Nat.{_*_, _-_, _≤_}
@@ -13,7 +13,7 @@ use Rattle.report.proofs.standing.put_standings.Statement.{statement}
 use Rattle.report.proofs.standing.put_standings.Tie as tie
 
 abbrev Inv-loop : tie.InvT-loop
-Inv-loop room₀ n t at₀ i₀ room at i = Puts room₀ 0 (standingLines (turnedBack t) i) room at × (at ≤ 166 * i) × (i ≤ n)
+Inv-loop room₀ n t at₀ i₀ room at i = Puts room₀ 0 (standingLines (turnedBack t) i) room at × (at ≤ 187 * i) × (i ≤ n)
 
 abbrev μ-loop : tie.MeasureT-loop
 μ-loop room₀ n t at₀ i₀ room at i = n - i

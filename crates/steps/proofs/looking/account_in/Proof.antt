@@ -12,7 +12,7 @@ account-of-requires : tie.Need-account-of-requires
 account-of-requires c κs = rw (c .row-at .ensures) (c .before .pre .0 .ranges (c .before .args .j) (c .before .pre .1))
 
 returns : tie.Need-returns
-returns c = c .account-of .ensures ∙ ap (accountOf (c .before .before .args .rule)) (c .before .row-at .ensures)
+returns c = c .account-of .ensures ∙ ap accountOf (c .before .row-at .ensures)
 
 pub account-in-spec : {M : Type 1} → statement M
 account-in-spec = tie.close (tie.spec row-at-requires account-of-requires returns)

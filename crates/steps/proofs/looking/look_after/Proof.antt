@@ -9,7 +9,7 @@ use Rattle.steps.proofs.looking.look_after.Statement.{statement}
 use Rattle.steps.proofs.looking.look_after.Tie as tie
 
 new-modest : (c : tie.After-account-in) → Modest (c .account-in .result)
-new-modest c = rw (c .account-in .ensures) (modest-in (c .before .before .before .args .rule) (c .before .before .before .pre .0) (c .before .before .before .pre .4 .inside))
+new-modest c = rw (c .account-in .ensures) (modest-in (c .before .before .before .pre .0) (c .before .before .before .pre .4 .inside))
 
 account-in-requires : tie.Need-account-in-requires
 account-in-requires c κs = (c .before .before .pre .0, c .before .before .pre .4 .inside)
@@ -35,7 +35,7 @@ returns c =
     let a = s .args in
     let m = marksFrom (a .sort .now) (a .live .now) (a .tm .now) in
     let e = c .before .before .before .before .settle-excess .ensures ∙ ap (λ x. excessAfter (a .excess .now) (a .past .place) (a .past .own) x (a .past .its)) (c .before .before .before .before .before .before .account-in .ensures) in
-    (e, c .look-on .ensures ∙ ap (λ u. lookedOn (a .rule) m (a .w .now) u (modesIn (a .waiting) (a .was .now) (a .modes .now)) (a .modes .now) (a .past .place) (a .past .own .tm)) e)
+    (e, c .look-on .ensures ∙ ap (λ u. lookedOn m (a .w .now) u (modesIn (a .waiting) (a .was .now) (a .modes .now)) (a .modes .now) (a .past .place) (a .past .own .tm)) e)
 
 pub look-after-spec : {M : Type 1} → statement M
 look-after-spec = tie.close (tie.spec account-in-requires settle-excess-requires cast-look-on look-on-requires returns)

@@ -1,4 +1,5 @@
 -- `steps::looking::look_at` meets its contract.
+use Rattle.rows.specs.declared.Rule.the-variants.{New}
 use Rattle.rows.proofs.Counted.{collateral-most}
 use borrow.Author.Needs.{needs}
 use mathlib.Core.Path.{_∙_}
@@ -19,7 +20,7 @@ look-requires : tie.Need-look-requires
 look-requires c κs =
     let s = c .before .before in
     let r = s .pre .0 .ranges (s .args .j) (s .pre .2) in
-    rw (c .before .account-in .ensures) (omega (arith, r .margin), omega (arith, collateral-most (s .args .rule) _ r), s .pre .1 .most (s .args .j))
+    rw (c .before .account-in .ensures) (omega (arith, r .margin), omega (arith, collateral-most New _ r), s .pre .1 .most (s .args .j))
 
 returns : tie.Need-returns
 returns c = c .look .ensures ∙ rw (c .before .before .account-in .ensures)

@@ -26,10 +26,10 @@ account-in-requires-2 : tie.Need-account-in-requires-2
 account-in-requires-2 c κs = (c .before .before .pre .0, omega arith)
 
 new-modest : (c : tie.After-account-in2) → Modest (c .before .account-in .result)
-new-modest c = rw (c .before .account-in .ensures) (modest-in (start c .args .rule) (start c .pre .0) (start c .pre .1 .inside))
+new-modest c = rw (c .before .account-in .ensures) (modest-in (start c .pre .0) (start c .pre .1 .inside))
 
 top-modest : (c : tie.After-account-in2) → Modest (c .account-in2 .result)
-top-modest c = rw (c .account-in2 .ensures) (modest-in (start c .args .rule) (start c .pre .0) (omega arith))
+top-modest c = rw (c .account-in2 .ensures) (modest-in (start c .pre .0) (omega arith))
 
 deemed-under-after-requires : tie.Need-deemed-under-after-requires
 deemed-under-after-requires c κs =
@@ -85,7 +85,7 @@ returns c =
     let a = start r .args in
     let x = a .past in
     let new = r .before .account-in .ensures in
-    let d : o .deemed-under-after .result ≡ deemedUnderSince (a .rule) (marksFrom (a .sort .now) (a .live .now) (a .tm .now)) (a .w .now) x =
+    let d : o .deemed-under-after .result ≡ deemedUnderSince (marksFrom (a .sort .now) (a .live .now) (a .tm .now)) (a .w .now) x =
     o .deemed-under-after .ensures ∙ ap (λ q. deemedUnderAfter (x .under) (x .clients) (x .all) (x .own) q (x .its)) new in
     three-eq (a .needs .now) (x .place) (x .own .tm)
     (c .before .before .before .need-to-keep .ensures ∙ ap (λ q. needToKeep q (x .under)) new)

@@ -3,6 +3,7 @@ use mathlib.Core.Bool.{true}
 use mathlib.Core.Path.{_≡_, refl, _∙_}
 use Prim.Native.Nat.{_-_, _≤_, _<_}
 use native.Mathlib.Omega.{arith}
+use Rattle.rows.specs.declared.Rule.the-variants.{New}
 use Rattle.rows.specs.View.{View}
 use Rattle.rows.specs.Rows.{view}
 use Rattle.rows.specs.Inner.{inTenths}
@@ -15,13 +16,13 @@ use Rattle.table.proofs.modes.look_all.Statement.{statement}
 use Rattle.table.proofs.modes.look_all.Tie as tie
 
 abbrev Inv-loop : tie.InvT-loop
-Inv-loop sort tm w count excess modes rule after₀ n i₀ after i = (n ≡ count) × (i ≤ n) × Passed (view (seenBook rule count sort tm w)) modes after i
+Inv-loop sort tm w count excess modes after₀ n i₀ after i = (n ≡ count) × (i ≤ n) × Passed (view (seenBook count sort tm w)) modes after i
 
 abbrev μ-loop : tie.MeasureT-loop
-μ-loop sort tm w count excess modes rule after₀ n i₀ after i = n - i
+μ-loop sort tm w count excess modes after₀ n i₀ after i = n - i
 
 abbrev seen : tie.Start Inv-loop μ-loop → View
-seen c = view (seenBook (c .args .rule) (c .args .count) (c .args .sort .now) (c .args .tm .now) (c .args .w .now))
+seen c = view (seenBook (c .args .count) (c .args .sort .now) (c .args .tm .now) (c .args .w .now))
 
 -- an account's place is in the table
 inside : (c : tie.In-loop Inv-loop μ-loop) → c .before .loop .i < 256
@@ -52,10 +53,10 @@ look-requires c κs =
     let h = pre .0 .0 .ranges i (omega arith) in
     rw (at .account-at .ensures) (
       omega arith,
-      omega (arith, collateral-most (a .rule) _ h),
+      omega (arith, collateral-most New _ h),
       omega (
         arith,
-        under-cap (inTenths (seen start)) 100_000_000_000_000 (bounded-in true (seenBook (a .rule) (a .count) (a .sort .now) (a .tm .now) (a .w .now)) (pre .0 .0))
+        under-cap (inTenths (seen start)) 100_000_000_000_000 (bounded-in true New (seenBook (a .count) (a .sort .now) (a .tm .now) (a .w .now)) (pre .0 .0))
             (shaped-in true (pre .0 .1)) (a .excess .now) (pre .1 .1) i,
       ),
     )

@@ -7,7 +7,7 @@ use borrow.Author.Needs.{needs}
 use Rattle.rows.specs.declared.Kinds.{Kinds}
 use Rattle.rows.specs.declared.Row.{Row}
 use Rattle.rows.specs.declared.Rule.{Rule}
-use Rattle.rows.specs.Rows.{counted, accountOf}
+use Rattle.rows.specs.Rows.{counted, accountBy}
 use Rattle.rows.specs.Ranges.{ceilings}
 use Rattle.rows.specs.Facts.{InRange, KindsWithin}
 use Rattle.rows.proofs.Counted.{counted-most}
@@ -72,7 +72,7 @@ add-t20 c =
 
 -- the account made of words that are the row's
 made : (rule : Rule) (row : Row) (k : Kinds) {m p x : ℕ} → k ≡ row .allocated → m ≡ row .margin → p ≡ row .pledged → x ≡ counted rule (k .securities)
-    → record { sort = row .sort; tm = row .tm; margin = m; collateral = k .cash + k .deposits + k .guarantees + p + x } ≡ accountOf rule row
+    → record { sort = row .sort; tm = row .tm; margin = m; collateral = k .cash + k .deposits + k .guarantees + p + x } ≡ accountBy rule row
 made rule row k e f g h = cc
 
 returns : tie.Need-returns
@@ -82,7 +82,7 @@ returns c =
     let a = k .before .args in
     let m = marksFrom (a .sort .now) [] (a .tm .now) in
     made (a .rule) (rowIn m (a .w .now) (a .i)) (k .kinds-at .result) (k .kinds-at .ensures) (at .before .before .before .word-at .ensures) (at .word-at2 .ensures) (c .counted-of .ensures)
-    ∙ sym (ap (accountOf (a .rule)) (row-in m (a .w .now) (a .i) (k .before .pre .0)))
+    ∙ sym (ap (accountBy (a .rule)) (row-in m (a .w .now) (a .i) (k .before .pre .0)))
 
 pub account-at-spec : {M : Type 1} → statement M
 account-at-spec =

@@ -8,7 +8,7 @@ use borrow.Author.Needs.{needs}
 use Rattle.sums.specs.Sum.{only}
 use Rattle.rows.specs.declared.Account.{Account}
 use Rattle.rows.specs.View.{isClientOf, ownDeemed}
-use Rattle.rows.specs.Rows.{rowAt, accountOf, view}
+use Rattle.rows.specs.Rows.{rowAt, accountBy, viewBy}
 use Rattle.rows.specs.DeemedUnder.{accountAt, clientDue}
 use Rattle.rows.specs.Inner.{Slot, clientsBelow, accountAs, viewAs}
 use Rattle.rows.proofs.NeedSums.{clients-none, clients-step, due-most, due-at, add-at}
@@ -19,7 +19,7 @@ use Rattle.table.proofs.needs.client_sums.Tie as tie
 
 abbrev Inv-loop : tie.InvT-loop
 Inv-loop sort tm w count tenths under₀ rule n i₀ under i =
-    (n ≡ count) × (i ≤ n) × (length under ≡ 256) × ((t : ℕ) → t < 256 → getD under t 0 ≡ clientsBelow (viewAs tenths (view (seenBook rule count sort tm w))) t i)
+    (n ≡ count) × (i ≤ n) × (length under ≡ 256) × ((t : ℕ) → t < 256 → getD under t 0 ≡ clientsBelow (viewAs tenths (viewBy rule (seenBook count sort tm w))) t i)
 
 abbrev μ-loop : tie.MeasureT-loop
 μ-loop sort tm w count tenths under₀ rule n i₀ under i = n - i
@@ -31,7 +31,7 @@ loop-holds c =
       refl,
       omega arith,
       ap length zero ∙ length-replicate {A = ℕ} 256 0,
-      λ t h. ap (λ l. getD l t 0) zero ∙ getD-replicate 256 t 0 0 h ∙ sym (clients-none (viewAs (a .tenths) (view (seenBook (a .rule) (a .count) (a .sort .now) (a .tm .now) (a .w .now)))) t),
+      λ t h. ap (λ l. getD l t 0) zero ∙ getD-replicate 256 t 0 0 h ∙ sym (clients-none (viewAs (a .tenths) (viewBy (a .rule) (seenBook (a .count) (a .sort .now) (a .tm .now) (a .w .now)))) t),
     )
 
 account-as-requires : tie.Need-account-as-requires Inv-loop μ-loop
@@ -58,17 +58,17 @@ add-under c =
     let at = due .before .before .before .before in
     let start = at .before in
     let a = start .args in
-    let b = seenBook (a .rule) (a .count) (a .sort .now) (a .tm .now) (a .w .now) in
+    let b = seenBook (a .count) (a .sort .now) (a .tm .now) (a .w .now) in
     let i = at .loop .i in
     let t = due .before .slot .result in
     let most = start .pre .0 .most in
     omega (
       arith,
       at .loop .inv .3 t (due .before .slot .ensures .inside),
-      clients-most (viewAs (a .tenths) (view b)) 100_000_000_000_000 (bounded-in (a .tenths) b (start .pre .0)) t i (omega arith),
+      clients-most (viewAs (a .tenths) (viewBy (a .rule) b)) 100_000_000_000_000 (bounded-in (a .tenths) (a .rule) b (start .pre .0)) t i (omega arith),
       due .client-due .ensures ∙ ap clientDue (due .before .before .account-as .ensures),
-      due-most (accountAs (a .tenths) (accountOf (a .rule) (rowAt b i))),
-      bounded-in (a .tenths) b (start .pre .0) .margins i (omega arith),
+      due-most (accountAs (a .tenths) (accountBy (a .rule) (rowAt b i))),
+      bounded-in (a .tenths) (a .rule) b (start .pre .0) .margins i (omega arith),
     )
 
 mul-under-2 : tie.Need-mul-under-2 Inv-loop μ-loop
@@ -88,14 +88,14 @@ loop-again c =
     let due = c .before in
     let at = due .before .before .before .before in
     let a = at .before .args in
-    let b = seenBook (a .rule) (a .count) (a .sort .now) (a .tm .now) (a .w .now) in
+    let b = seenBook (a .count) (a .sort .now) (a .tm .now) (a .w .now) in
     let i = at .loop .i in
     let under = at .loop .under in
     let s = due .before .slot .result in
     let d = due .client-due .result in
     let inside = due .before .slot .ensures .inside in
     let is-account = due .before .before .account-as .ensures in
-    let v = viewAs (a .tenths) (view b) in
+    let v = viewAs (a .tenths) (viewBy (a .rule) b) in
     let is-due : d ≡ clientDue (accountAt v i) = due .client-due .ensures ∙ ap clientDue is-account in
     let is-slot : Slot (rowAt b i .tm) s = subst (λ (x : Account). Slot (x .tm) s) is-account (due .before .slot .ensures) in (
       refl,
@@ -112,7 +112,7 @@ returns c =
     let a = c .before .before .args in
     record {
       size = c .before .loop .inv .2;
-      each = λ t h. c .before .loop .inv .3 t h ∙ ap (clientsBelow (viewAs (a .tenths) (view (seenBook (a .rule) (a .count) (a .sort .now) (a .tm .now) (a .w .now)))) t) (omega arith);
+      each = λ t h. c .before .loop .inv .3 t h ∙ ap (clientsBelow (viewAs (a .tenths) (viewBy (a .rule) (seenBook (a .count) (a .sort .now) (a .tm .now) (a .w .now)))) t) (omega arith);
     }
 
 pub client-sums-spec : {M : Type 1} → statement M

@@ -16,7 +16,7 @@ returns : tie.Need-returns
 returns c = sym (pick-yes _ _ _ (le-leb _ _ (c .if1 .taken)))
 
 -- the account is one of the table's
-given : (c : tie.Else1) → (c .before .args .i < 256) × InRange (rowAt (seenBook (c .before .args .rule) 0 (c .before .args .sort .now) (c .before .args .tm .now) (c .before .args .w .now)) (c .before .args .i))
+given : (c : tie.Else1) → (c .before .args .i < 256) × InRange (rowAt (seenBook 0 (c .before .args .sort .now) (c .before .args .tm .now) (c .before .args .w .now)) (c .before .args .i))
 given c = let h = c .before .pre .0 in (omega (arith, h .most, c .if1 .left), h .ranges (c .before .args .i) (c .if1 .left))
 
 account-at-requires : tie.Need-account-at-requires
@@ -32,7 +32,7 @@ returns-2 c =
     let e = c .before .before .before in
     let a = e .before .args in
     ap (λ x. x .margin + a .under) (c .before .before .account-at .ensures)
-    ∙ ap (λ j. rowAt (seenBook (a .rule) 0 (a .sort .now) (a .tm .now) (a .w .now)) j .margin + a .under) (c .before .if2 .taken)
+    ∙ ap (λ j. rowAt (seenBook 0 (a .sort .now) (a .tm .now) (a .w .now)) j .margin + a .under) (c .before .if2 .taken)
     ∙ sym (pick-no _ _ _ (lt-leb _ _ (e .if1 .left)) ∙ pick-yes _ _ _ (eq-eqb _ 0 (c .before .if2 .taken)))
 
 need-to-keep-requires : tie.Need-need-to-keep-requires

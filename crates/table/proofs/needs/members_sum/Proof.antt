@@ -5,7 +5,7 @@ use native.Mathlib.Omega.{arith}
 use Rattle.rows.specs.declared.Account.{Account}
 use Rattle.rows.specs.declared.Book.{Book}
 use Rattle.rows.specs.View.{View}
-use Rattle.rows.specs.Rows.{view}
+use Rattle.rows.specs.Rows.{viewBy}
 use Rattle.rows.specs.DeemedUnder.{accountAt, memberDue}
 use Rattle.rows.specs.Inner.{clientsBelow, membersBelow, viewAs}
 use Rattle.rows.proofs.NeedSums.{members-none, members-step, member-most}
@@ -15,19 +15,19 @@ use Rattle.table.proofs.needs.members_sum.Statement.{statement}
 use Rattle.table.proofs.needs.members_sum.Tie as tie
 
 abbrev Inv-loop : tie.InvT-loop
-Inv-loop sort tm w count tenths under rule sum₀ n i₀ sum i = (n ≡ count) × (i ≤ n) × (sum ≡ membersBelow (viewAs tenths (view (seenBook rule count sort tm w))) i)
+Inv-loop sort tm w count tenths under rule sum₀ n i₀ sum i = (n ≡ count) × (i ≤ n) × (sum ≡ membersBelow (viewAs tenths (viewBy rule (seenBook count sort tm w))) i)
 
 abbrev μ-loop : tie.MeasureT-loop
 μ-loop sort tm w count tenths under rule sum₀ n i₀ sum i = n - i
 
 abbrev bookOf : tie.Start Inv-loop μ-loop → Book
-bookOf c = seenBook (c .args .rule) (c .args .count) (c .args .sort .now) (c .args .tm .now) (c .args .w .now)
+bookOf c = seenBook (c .args .count) (c .args .sort .now) (c .args .tm .now) (c .args .w .now)
 
 abbrev seen : tie.Start Inv-loop μ-loop → View
-seen c = viewAs (c .args .tenths) (view (bookOf c))
+seen c = viewAs (c .args .tenths) (viewBy (c .args .rule) (bookOf c))
 
 bounded : (c : tie.Start Inv-loop μ-loop) → Bounded (seen c) 100_000_000_000_000
-bounded c = bounded-in (c .args .tenths) (bookOf c) (c .pre .0)
+bounded c = bounded-in (c .args .tenths) (c .args .rule) (bookOf c) (c .pre .0)
 
 loop-holds : tie.Need-loop-holds Inv-loop μ-loop
 loop-holds c = (refl, omega arith, omega (arith, members-none (seen c)))

@@ -6,7 +6,7 @@ use lib.ListN.{length, getD, length-set}
 use lib.Seq.{getD-set-other}
 use Rattle.sums.proofs.Lists.{filled-step, list-is}
 use Rattle.rows.specs.View.{View}
-use Rattle.rows.specs.Rows.{ceiling, view}
+use Rattle.rows.specs.Rows.{ceiling, viewBy}
 use Rattle.rows.specs.DeemedUnder.{DeemedUnder}
 use Rattle.rows.specs.KeptNeeds.{keptNeed, needsAfresh}
 use Rattle.rows.specs.Inner.{keptWith}
@@ -18,21 +18,21 @@ use Rattle.table.proofs.needs.needs_afresh.Tie as tie
 
 abbrev Inv-loop : tie.InvT-loop
 Inv-loop sort tm w count under rule i₀ needs i =
-    (i ≤ 256) × DeemedUnder (view (seenBook rule count sort tm w)) under × (length needs ≡ 256)
-    × ((j : ℕ) → j < i → getD needs j 0 ≡ keptNeed (view (seenBook rule count sort tm w)) j) × ((j : ℕ) → i ≤ j → getD needs j 0 ≡ getD under j 0)
+    (i ≤ 256) × DeemedUnder (viewBy rule (seenBook count sort tm w)) under × (length needs ≡ 256)
+    × ((j : ℕ) → j < i → getD needs j 0 ≡ keptNeed (viewBy rule (seenBook count sort tm w)) j) × ((j : ℕ) → i ≤ j → getD needs j 0 ≡ getD under j 0)
 
 abbrev μ-loop : tie.MeasureT-loop
 μ-loop sort tm w count under rule i₀ needs i = 256 - i
 
 abbrev seen : tie.Start Inv-loop μ-loop → View
-seen c = view (seenBook (c .args .rule) (c .args .count) (c .args .sort .now) (c .args .tm .now) (c .args .w .now))
+seen c = viewBy (c .args .rule) (seenBook (c .args .count) (c .args .sort .now) (c .args .tm .now) (c .args .w .now))
 
-deemed-under-requires : tie.Need-deemed-under-requires Inv-loop μ-loop
-deemed-under-requires c κs = (c .before .pre .0, c .before .pre .1, c .before .pre .3)
+deemed-under-by-requires : tie.Need-deemed-under-by-requires Inv-loop μ-loop
+deemed-under-by-requires c κs = (c .before .pre .0, c .before .pre .1, c .before .pre .3)
 
 loop-holds : tie.Need-loop-holds Inv-loop μ-loop
 loop-holds c =
-    let h = c .deemed-under .ensures in
+    let h = c .deemed-under-by .ensures in
     (omega arith, h, h .size, λ j l. absurd (omega arith), λ j l. refl)
 
 mul-under : tie.Need-mul-under Inv-loop μ-loop
@@ -50,7 +50,7 @@ kept-at-requires c κs =
       omega (
         arith,
         l .inv .4 (l .i) (omega arith),
-        under-cap (seen start) ceiling (ranged-bounded (seenBook (a .rule) (a .count) (a .sort .now) (a .tm .now) (a .w .now)) (start .pre .0)) (start .pre .1)
+        under-cap (seen start) ceiling (ranged-bounded (a .rule) (seenBook (a .count) (a .sort .now) (a .tm .now) (a .w .now)) (start .pre .0)) (start .pre .1)
             _ (l .inv .1) (l .i),
       ),
     )
@@ -95,7 +95,7 @@ needs-afresh-spec =
     (tie.spec
     Inv-loop
     μ-loop
-    deemed-under-requires
+    deemed-under-by-requires
     loop-holds
     mul-under
     element-copy-out-under

@@ -8,7 +8,7 @@ use lib.Dec.{eqb}
 use lib.ListN.{getD}
 use Rattle.sums.specs.Sum.{all}
 use Rattle.sums.proofs.Sums.{all-none, all-step, all-eq}
-use Rattle.rows.specs.Rows.{view}
+use Rattle.rows.specs.Rows.{viewBy}
 use Rattle.rows.specs.KeptNeeds.{keptNeed, allKept}
 use Rattle.rows.proofs.KeptNeeds.{afresh-at}
 use Rattle.table.specs.Facts.{seenBook}
@@ -60,7 +60,7 @@ unfolding allKept
 returns c =
     let afresh = c .before .before in
     let a = afresh .before .before .args in
-    let v = view (seenBook (a .rule) (a .count) (a .sort .now) (a .tm .now) (a .w .now)) in
+    let v = viewBy (a .rule) (seenBook (a .count) (a .sort .now) (a .tm .now) (a .w .now)) in
     let fresh = afresh .needs-afresh .last .1 .1 .1 .1 .0 in
     c .before .loop .inv .1 ∙ ap (λ (k : ℕ). all k (same (a .needs .now) fresh)) (omega arith)
     ∙ all-eq 256 (same (a .needs .now) fresh) (λ j. eqb (getD (a .needs .now) j 0) (keptNeed v j))

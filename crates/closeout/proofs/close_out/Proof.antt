@@ -1,0 +1,63 @@
+-- `closeout::close_out` meets its contract.
+use borrow.Author.Tests.{not-true, not-false}
+use mathlib.Core.Bool.{true}
+use mathlib.Core.List.{List, []}
+use mathlib.Core.Path.{_≡_, refl, sym, _∙_}
+use borrow.Author.Needs.{needs}
+use Rattle.table.specs.declared.Table.{Table}
+use Rattle.table.specs.Words.{marksOf, bookFrom, turnedBack}
+use Rattle.book.specs.Sound.{soundB}
+use Rattle.book.specs.Facts.{Sound}
+use Rattle.book.proofs.Settled.{all-off}
+use Rattle.book.proofs.SoundAfter.{serial-sound}
+use Rattle.book.proofs.SoundTest.{sound→}
+use Rattle.book.proofs.SoundInPlace.{sound-serial}
+use Rattle.closeout.proofs.Answers.{refused-sound, answer-by-refusal, serial-and-modes-aside}
+use Rattle.closeout.proofs.close_out.Statement.{statement}
+use Rattle.closeout.proofs.close_out.Tie as tie
+
+table-sound-requires : tie.Need-table-sound-requires
+table-sound-requires c κs = search needs
+
+-- where the call begins
+abbrev start : tie.After-table-sound → tie.Start
+start c = c .before .before .before .before .before .before .before .before .before .before
+
+tested : (c : tie.After-table-sound) → c .table-sound .result ≡ soundB (turnedBack (start c .args .t1))
+tested c =
+    let t = start c .args .t1 in
+    c .table-sound .ensures ∙ sound-serial (t .count) (t .serial) (marksOf t) (t .amounts) (t .modes) (t .needs)
+
+refused-requires : tie.Need-refused-requires
+refused-requires c κs = search needs
+
+returns : tie.Need-returns
+returns c =
+    let b = turnedBack (start (c .before .before) .args .t1) in
+    answer-by-refusal b _ _ 1 (refused-sound b _ _ (sym (tested (c .before .before)) ∙ not-true _ (c .before .if1 .taken))) (c .refused .ensures) refl
+
+holds : (c : tie.Else1) → soundB (turnedBack (start (c .before) .args .t1)) ≡ true
+holds c = sym (tested (c .before)) ∙ not-false _ (c .if1 .left)
+
+-- it is sound with no mode on, and whatever its serial
+quiet : (t : Table) → Sound (turnedBack t) → Sound (bookFrom (t .count) 0 (marksOf t) (t .amounts) [] (t .needs))
+quiet t s = serial-sound _ 0 (all-off (turnedBack t) s)
+
+close-out-at-requires : tie.Need-close-out-at-requires
+close-out-at-requires c κs = let e = c .before .before .before .before .before .before .before in quiet (start (e .before) .args .t1) (sound→ _ (holds e))
+
+same-length : tie.Need-same-length
+same-length c = search needs
+
+returns-2 : tie.Need-returns-2
+returns-2 c =
+    let done = c .before .before in
+    let e = done .before .before .before .before .before .before .before .before in
+    let a = start (e .before) .args in
+    let t = a .t1 in
+    let same = serial-and-modes-aside (turnedBack t) 0 [] (a .losses .now) (a .room .now) (holds e) (quiet t (sound→ _ (holds e))) in
+    (done .close-out-at .ensures .0 ∙ same .0, done .close-out-at .ensures .1 ∙ same .1)
+
+pub close-out-spec : {M : Type 1} → statement M
+close-out-spec =
+    tie.close (tie.spec table-sound-requires refused-requires returns close-out-at-requires same-length returns-2)
