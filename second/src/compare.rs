@@ -3,6 +3,7 @@
 
 mod books;
 mod calls;
+mod margins;
 
 use crate::book::Book;
 use crate::child::{ask, Pace};
@@ -26,12 +27,14 @@ use crate::tenths::Tenths;
 use std::fs;
 use std::path::{Path, PathBuf};
 
-const VALUED: [&str; 11] = [
+const VALUED: [&str; 13] = [
     "--day",
     "--standings",
     "--closeouts",
     "--needs",
     "--take-over",
+    "--margins",
+    "--margin-runs",
     "--calls",
     "--call-inputs",
     "--books",
@@ -54,6 +57,7 @@ struct Programs<'a> {
     closeouts: Option<&'a str>,
     needs: Option<&'a str>,
     take_over: Option<&'a str>,
+    margins: Option<&'a str>,
     calls: Option<&'a str>,
     folder: PathBuf,
 }
@@ -75,12 +79,13 @@ pub fn compare(words: &[String]) -> Result<String, String> {
         closeouts: options.value("--closeouts"),
         needs: options.value("--needs"),
         take_over: options.value("--take-over"),
+        margins: options.value("--margins"),
         calls: options.value("--calls"),
         folder: std::env::temp_dir().join(format!("second-compare-{}", std::process::id())),
     };
-    if !programs.reads_days() && programs.calls.is_none() {
+    if !programs.reads_days() && programs.calls.or(programs.margins).is_none() {
         return Err(
-            "compare: name a program with --day, --standings, --closeouts, --needs, --take-over or --calls"
+            "compare: name a program with --day, --standings, --closeouts, --needs, --take-over, --margins or --calls"
                 .to_string(),
         );
     }
@@ -103,6 +108,9 @@ fn all(options: &Options, programs: &Programs) -> Result<Vec<String>, String> {
         if many > 0 {
             lines.push(books::all_books(options, programs, many)?.line());
         }
+    }
+    if let Some(program) = programs.margins {
+        lines.push(margins::all_runs(options, programs, program)?.line());
     }
     if let Some(program) = programs.calls {
         lines.extend(calls::all_inputs(options, programs, program)?.lines());

@@ -12,6 +12,7 @@ mod closeout;
 mod compare;
 mod day;
 mod dayfile;
+mod desk;
 mod difference;
 mod holds;
 mod looks;
@@ -50,6 +51,9 @@ second closeouts LOSSFILE [FROM] < DAYFILE
                                          TO: where to keep the book after the day
 second take_over FROM TO                 the book of FROM taken over to the new rule, kept as TO:
                                          0, or 1 and TO stays as it was
+second margins [--record] SERIAL ACCOUNT INITIAL < POSITIONS
+                                         a client's extreme loss and initial margin, or its record;
+                                         a line a position: USDINR futures 10000001
 second calls < CALLS                     a line per library call, `bad N` at what is none
 second make KIND SEED > DAYFILE          a made-up day: busy hostile bent bounds cuts serials
                                          openings retire shared spent warned wavering
@@ -57,7 +61,8 @@ second make KIND SEED > DAYFILE          a made-up day: busy hostile bent bounds
                                          tens valued short wanting falling million
 second losses SEED < DAYFILE > LOSSFILE  made-up losses for the book at that day's end
 second make-calls SEED > CALLS           made-up calls
-second compare [--day P] [--standings P] [--closeouts P] [--needs P] [--take-over P] [--calls P]
+second compare [--day P] [--standings P] [--closeouts P] [--needs P] [--take-over P] [--margins P]
+               [--calls P] [--margin-runs N]
                [--days N] [--seed S] [--millions K] [--books N] [--call-inputs N] [--trickle]
                                          other programs against this one: on made-up days, on N days
                                          in two pieces with book files, on N inputs of made-up calls
@@ -74,6 +79,7 @@ Calls, each handed the book as it is then:
   is_sound   standing ACCOUNT   carry_out RECORD   carry_out_next PLACE PIECE
   day NUMBER PIECE   read_at PLACE PIECE   write RECORD room N
   close_out room N losses LOSS ..   needs room N   take_over
+  margin SERIAL ACCOUNT INITIAL POSITION ; .., POSITION: PRODUCT SIDE NOTIONAL, PRODUCT a name or a number
 Other bytes:
   bytes HEX   cut N   # a comment
 WORD: sort live tm received.KIND allocated.KIND pledged margin mode need, KIND one of cash deposits
@@ -103,6 +109,7 @@ fn main() -> ExitCode {
         "standings" => programs::standings(&arguments[1..], &day_file),
         "needs" => programs::needs(&arguments[1..], &day_file),
         "closeouts" => programs::closeouts(&arguments[1..], &day_file),
+        "margins" => desk::lines::margins(&arguments[1..], &|| input(desk::lines::MOST as u64 + 1)),
         "take_over" => programs::take_over(&arguments[1..]),
         "make" => make_command(&words),
         "make-calls" => make_calls_command(&words),

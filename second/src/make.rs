@@ -11,6 +11,7 @@ pub mod losses;
 mod maker;
 mod mixed;
 mod moved;
+pub mod sheets;
 mod short;
 mod steer;
 mod uses;

@@ -22,4 +22,9 @@ pub enum Refusal {
     BadLoss = 16,
     /// K5; checked between 11 and 12.
     KeptIn = 17,
+    /// K9, by position; `WrongLength` for too many of them.
+    UnknownProduct = 18,
+    NotListed = 19,
+    PastLimit = 20,
+    SumPast = 21,
 }

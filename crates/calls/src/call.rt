@@ -4,6 +4,7 @@ ghost use lib.ListN.{length};
 use crate::asked;
 use crate::carried;
 use crate::closed;
+use crate::margins;
 use crate::pieces;
 use crate::taken::AFTER_BOOK;
 use desk::Table;
@@ -67,6 +68,7 @@ fn answer_first(bytes: &[u8], room: &mut [u8]) -> Told
         1..=5 | 8..=10 => with_book(bytes, room),
         6 => pieces::read_at(bytes, room),
         7 => pieces::write(bytes, room),
+        11 => margins::margin(bytes, room),
         _ => none(),
     }
 }

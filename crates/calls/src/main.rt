@@ -10,6 +10,7 @@ mod changed;
 mod closed;
 mod held;
 mod lines;
+mod margins;
 mod pieces;
 mod rooms;
 mod taken;

@@ -10,6 +10,7 @@ pub mod FallingMargins
 pub mod Haircut
 pub mod Shortfall
 pub mod Needs
+pub mod ExtremeLoss
 pub mod OneResult
 pub mod Quick
 pub mod Claim

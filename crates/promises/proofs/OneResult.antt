@@ -35,6 +35,7 @@ use Rattle.closeout.proofs as closeout
 use Rattle.feed.proofs as feed
 use Rattle.bookfile.proofs as bookfile
 use Rattle.report.proofs as report
+use Rattle.currency.proofs as currency
 use Rattle.promises.specs.OneResult.{Promise, OneResultOnly}
 
 -- two ends of a write that didn't fail
@@ -211,6 +212,12 @@ of-lines-closing-line κs a x y u v p q = (one-result (p .0) (q .0), ap (λ room
 -- the refusal or 0 with the total, and the room with each account's four amounts
 pub of-closeout-close-out : OneResultOnly closeout.close_out.ended closeout.close_out.Reads.Learnt
 of-closeout-close-out κs a x y u v p q = (one-result (p .0) (q .0), ap (λ room. (tt, (tt, (room, tt)))) (one-result (p .1) (q .1)))
+
+-- ---- currency
+
+-- the record that sets a margin, or the refusal
+pub of-currency-margin : OneResultOnly currency.margin.ended currency.margin.Reads.Learnt
+of-currency-margin κs a x y u v p q = (one-result p q, refl)
 
 -- ---- report. The last three also print the text whose length they give: no promise can say what standard output holds.
 

@@ -1,4 +1,4 @@
--- Document 01, 'Figures to hold against it': P1 to P11, P8 as K1 of document 02 has it; K2's case, the table of 004 Annexure 5; K3's list of needs at P4; and K7's tenth. In paise.
+-- Document 01, 'Figures to hold against it': P1 to P11, P8 as K1 of document 02 has it; K2's case, the table of 004 Annexure 5; K3's list of needs at P4; K7's tenth; and K9's charges. In paise.
 -- First the records of each case; then `cases`, the list of what is asked and the figures that the documents give; then what the rules say to it.
 use mathlib.Core.List.{List, [], _∷_, _++_, map}
 use Prim.Native.Nat.{ℕ, _+_, _*_}
@@ -16,6 +16,12 @@ use Rattle.closeout.specs.declared.Closed.{Closed}
 use Rattle.closeout.specs.Bound.{beyond}
 use Rattle.closeout.specs.Closing.{lossAt, closedOf, roomOf}
 use Rattle.sums.specs.Sum.{sum, only}
+use Rattle.currency.specs.declared.Side.{Side}
+use Rattle.currency.specs.declared.Side.the-variants.{Futures, Short, Spread}
+use Rattle.currency.specs.declared.Position.{Position}
+use Rattle.currency.specs.declared.Made.{Made}
+use Rattle.currency.specs.declared.Made.the-variants.{Given, Refused}
+use Rattle.currency.specs.Margins.{madeOf}
 use Rattle.promises.specs.Sequences.{afterAll}
 
 -- Records, by serial, code, account named and amount: an opening (1 a TM, 2 a client), which names the CM or the TM; cash received (4), allocated (6)
@@ -127,6 +133,10 @@ atK7 amount = opening 0 1 0 ∷ opening 1 2 1 ∷ securities 2 4 2 amount ∷ se
 abbrev full : ℕ → List ℕ
 full n = 4 ∷ 255 ∷ replicate n 0
 
+-- a position by product, side and notional: products are numbered in the order in which K9 lists them
+abbrev position : ℕ → Side → ℕ → Position
+position product side notional = record { product = product; side = side; notional = notional }
+
 -- What is asked, after records that were carried out from a fresh book:
 pub data Question : Type 0 where
   -- what is blocked of CM, TM-1, A and B, and what each is deemed
@@ -148,6 +158,10 @@ pub data Question : Type 0 where
   needsAfter : List Record → Question
   -- K7: an account's collateral
   collateralAfter : List Record → ℕ → Question
+  -- K9: with no initial margin, the refusal or 0 of one position and its margin
+  marginOf : Position → Question
+  -- K9: the same of a product's futures and of its short options, on a notional of 100,000
+  ratesOf : ℕ → Question
 
 -- what is asked, and the figures that a document gives for it
 pub record Case : Type 0 where
@@ -158,7 +172,7 @@ infix 20 _gives_
 abbrev _gives_ : Question → List ℕ → Case
 q gives l = record { asked = q; figures = l }
 
--- P1 to P11, Annexure 5, K3 and K7, in one list
+-- P1 to P11, Annexure 5, K3, K7 and K9, in one list
 unfoldable pub cases : List Case
 cases =
     (blockedAfter atP1 gives (0 ∷ 0 ∷ 0 ∷ 10000 ∷ []))  -- P1: B blocked 100, TM-1 0, CM 0
@@ -195,6 +209,18 @@ cases =
     ∷ (collateralAfter (atK7 21) 2 gives (18 ∷ []))
     ∷ (refusalAfter (atK7 11 ++ (margin 4 2 9 ∷ [])) (securities 5 7 2 1) gives (0 ∷ []))  -- K7: 11 to 10 paise, with nothing free
     ∷ (refusalAfter (atK7 10 ++ (margin 4 2 9 ∷ [])) (securities 5 7 2 1) gives (12 ∷ []))  -- K7: 10 to 9
+    ∷ (marginOf (position 5 Futures 10000001) gives (0 ∷ 50001 ∷ []))  -- K9: USDINR futures of 10,000,001 paise give 50,001
+    ∷ (marginOf (position 0 Spread 2000) gives (0 ∷ 1 ∷ []))  -- K9: rounded once, an EURINR spread of 2,000 gives 1
+    ∷ (ratesOf 0 gives (0 ∷ 150 ∷ 0 ∷ 750 ∷ []))  -- K9: EURINR 150, 750
+    ∷ (ratesOf 1 gives (0 ∷ 500 ∷ 0 ∷ 500 ∷ []))  -- EURUSD 500, 500
+    ∷ (ratesOf 2 gives (0 ∷ 250 ∷ 0 ∷ 750 ∷ []))  -- GBPINR 250, 750
+    ∷ (ratesOf 3 gives (0 ∷ 500 ∷ 0 ∷ 500 ∷ []))  -- GBPUSD 500, 500
+    ∷ (ratesOf 4 gives (0 ∷ 350 ∷ 0 ∷ 750 ∷ []))  -- JPYINR 350, 750
+    ∷ (ratesOf 5 gives (0 ∷ 500 ∷ 0 ∷ 750 ∷ []))  -- USDINR 500, 750
+    ∷ (ratesOf 6 gives (0 ∷ 500 ∷ 0 ∷ 500 ∷ []))  -- USDJPY 500, 500
+    ∷ (ratesOf 7 gives (0 ∷ 250 ∷ 0 ∷ 250 ∷ []))  -- interest rate 250, 250
+    ∷ (ratesOf 8 gives (0 ∷ 15 ∷ 19 ∷ 0 ∷ []))  -- 91 day T-bill 15, none
+    ∷ (ratesOf 9 gives (0 ∷ 500 ∷ 19 ∷ 0 ∷ []))  -- ONMIBOR 500, none
     ∷ []
 
 -- What the rules say to a question. Of the book after the records, f of CM, TM-1, A and B,
@@ -226,6 +252,17 @@ closedIn b losses closed room =
 abbrev pub zeros : List ℕ
 zeros = replicate 16 0
 
+-- of what is made for a client the refusal or 0 and the margin
+abbrev madeIn : Made → List ℕ
+madeIn (Given r) = 0 ∷ r .margin ∷ []
+madeIn (Refused n) = n ∷ 0 ∷ []
+
+abbrev pub marginIn : Position → List ℕ
+marginIn p = madeIn (madeOf 0 0 0 (p ∷ []) 1)
+
+abbrev pub ratesIn : ℕ → List ℕ
+ratesIn product = marginIn (position product Futures 100000) ++ marginIn (position product Short 100000)
+
 -- the book after records from a fresh book
 abbrev after : List Record → Book
 after rs = afterAll freshBook rs
@@ -241,6 +278,8 @@ byTheRules (excessAfter rs) = excessIn (after rs)
 byTheRules (usedAfter rs i) = usedIn (after rs) i
 byTheRules (needsAfter rs) = allNeeds (after rs) ++ each (needAt (after rs))
 byTheRules (collateralAfter rs i) = view (after rs) .collateral i ∷ []
+byTheRules (marginOf p) = marginIn p
+byTheRules (ratesOf product) = ratesIn product
 
 -- The one claim (`promises.Claim.figures`) is that these two lists are the same: what the rules say to each question, and the documents' figures.
 unfoldable pub casesByTheRules : List (List ℕ)

@@ -1,5 +1,5 @@
 //! What each call answers. "Every line has all its numbers at a refusal too",
-//! but for `read_at`.
+//! but for `read_at` and `margin`.
 
 use super::Call;
 use crate::book::Book;
@@ -7,6 +7,7 @@ use crate::carry::{carry_values, Answer};
 use crate::closeout::close_out;
 use crate::day::{run, Closing};
 use crate::dayfile::{length, next_at, Next, Values};
+use crate::desk;
 use crate::mode::Mode;
 use crate::refusal::Refusal;
 use crate::table::Table;
@@ -36,6 +37,9 @@ pub fn answer(call: &Call) -> Answered {
         Call::CloseOut(book, losses, room) => close_out_call(book.book(), losses, *room),
         Call::Needs(book, room) => needs(book.book(), *room),
         Call::TakeOver(book) => take_over(book),
+        Call::Margin(serial, account, initial, positions) => {
+            margin_record(*serial, *account, desk::margin(*initial, positions))
+        }
     }
 }
 
@@ -253,5 +257,23 @@ fn take_over(table: &Table) -> Answered {
     match table.taken_over() {
         None => with_book(told(UNSOUND, &[]), "same"),
         Some(after) => with_book(told(0, &[]), &book_words(table, &after)),
+    }
+}
+
+/// The refusal alone, "no record then", or the record.
+fn margin_record(serial: u16, account: u16, margin: Result<u64, Refusal>) -> Answered {
+    match margin {
+        Err(refusal) => told(refusal as u8, &[]),
+        Ok(margin) => {
+            let record = desk::record(serial, account, margin);
+            let mut rest = vec![
+                u64::from(record.serial),
+                u64::from(record.code),
+                u64::from(record.mark),
+                u64::from(record.account),
+            ];
+            rest.extend(record.amounts);
+            told(0, &rest)
+        }
     }
 }

@@ -3,6 +3,7 @@
 use super::input::Input;
 use crate::bookfile;
 use crate::dayfile::Values;
+use crate::desk::Position;
 use crate::rule::Rule;
 use crate::table::Table;
 
@@ -22,10 +23,12 @@ pub enum Call {
     CloseOut(Table, Vec<u64>, usize),
     Needs(Table, usize),
     TakeOver(Table),
+    /// Serial, account, initial margin, positions.
+    Margin(u16, u16, u64, Vec<Position>),
 }
 
 /// Every call by its number.
-pub const NAMES: [(u8, &str); 10] = [
+pub const NAMES: [(u8, &str); 11] = [
     (1, "is_sound"),
     (2, "standing"),
     (3, "carry_out"),
@@ -36,6 +39,7 @@ pub const NAMES: [(u8, &str); 10] = [
     (8, "close_out"),
     (9, "needs"),
     (10, "take_over"),
+    (11, "margin"),
 ];
 
 impl Call {
@@ -52,6 +56,10 @@ impl Call {
             8 => Call::CloseOut(input.book()?, input.list()?, input.room()?),
             9 => Call::Needs(input.book()?, input.room()?),
             10 => Call::TakeOver(input.book()?),
+            11 => {
+                let (serial, account) = (input.short()?, input.short()?);
+                Call::Margin(serial, account, input.long()?, input.positions()?)
+            }
             _ => return None,
         };
         Some(call)
@@ -74,6 +82,7 @@ impl Call {
             Call::CloseOut(..) => 8,
             Call::Needs(..) => 9,
             Call::TakeOver(..) => 10,
+            Call::Margin(..) => 11,
         }
     }
 
@@ -97,7 +106,7 @@ impl Call {
             Call::CarryOutNext(book, _, _) | Call::Day(book, _, _) => Some(book),
             Call::CloseOut(book, _, _) | Call::Needs(book, _) => Some(book),
             Call::TakeOver(book) => Some(book),
-            Call::ReadAt(..) | Call::Write(..) => None,
+            Call::ReadAt(..) | Call::Write(..) | Call::Margin(..) => None,
         }
     }
 
@@ -133,12 +142,27 @@ impl Call {
                 lay_length(out, *room);
             }
             Call::Needs(_, room) => lay_length(out, *room),
+            Call::Margin(serial, account, initial, positions) => {
+                lay_margin(out, [*serial, *account], *initial, positions);
+            }
         }
     }
 }
 
 fn lay_length(out: &mut Vec<u8>, length: usize) {
     out.extend_from_slice(&(length as u32).to_be_bytes());
+}
+
+fn lay_margin(out: &mut Vec<u8>, names: [u16; 2], initial: u64, positions: &[Position]) {
+    for name in names {
+        out.extend_from_slice(&name.to_be_bytes());
+    }
+    out.extend_from_slice(&initial.to_be_bytes());
+    lay_length(out, positions.len());
+    for position in positions {
+        out.extend_from_slice(&[position.product, position.side as u8]);
+        out.extend_from_slice(&position.notional.to_be_bytes());
+    }
 }
 
 /// "Serial 2, code 1, second mark byte 1, account 2, six amounts 8 each."

@@ -4,6 +4,7 @@
 use super::{LIST_MOST, PIECE_MOST};
 use crate::bookfile;
 use crate::dayfile::Values;
+use crate::desk::{Position, SIDES};
 use crate::table::Table;
 
 #[derive(Clone, Copy)]
@@ -83,6 +84,22 @@ impl<'a> Input<'a> {
     pub fn list(&mut self) -> Option<Vec<u64>> {
         let length = self.length(LIST_MOST)?;
         (0..length).map(|_| self.long()).collect()
+    }
+
+    /// "Product 1, side 1, notional 8"; a side above 3 is no call.
+    pub fn positions(&mut self) -> Option<Vec<Position>> {
+        let length = self.length(LIST_MOST)?;
+        (0..length).map(|_| self.position()).collect()
+    }
+
+    fn position(&mut self) -> Option<Position> {
+        let (product, side) = (self.byte()?, self.byte()?);
+        let &(_, side) = SIDES.get(usize::from(side))?;
+        Some(Position {
+            product,
+            side,
+            notional: self.long()?,
+        })
     }
 
     pub fn room(&mut self) -> Option<usize> {

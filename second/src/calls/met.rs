@@ -1,6 +1,8 @@
 //! What made-up calls have met: every outcome of every call, every single way
 //! in which a book isn't sound, and the edges of their arguments.
 
+mod desk;
+
 use super::call::NAMES;
 use super::{Answered, Call};
 use crate::book::CEILING;
@@ -22,6 +24,7 @@ const OUTCOMES: [&str; NAMES.len()] = [
     "0 1 15 16",
     "0 1 15",
     "0 1",
+    "0 15 18 19 20 21",
 ];
 
 /// The edges of arguments that every run must have, by call.
@@ -124,6 +127,7 @@ pub struct Met {
     sound: u64,
     several: u64,
     endings: [u64; ENDINGS.len()],
+    desk: desk::Met,
 }
 
 impl Met {
@@ -133,6 +137,9 @@ impl Met {
         *self.outcomes.entry(outcome).or_default() += 1;
         for edge in edges(call, &answered.word) {
             *self.edges.entry((call.name(), edge)).or_default() += 1;
+        }
+        if let Call::Margin(_, _, initial, positions) = call {
+            self.desk.count(*initial, positions);
         }
         if let Some(book) = call.book() {
             self.count_book(book, call.rule());
@@ -177,6 +184,7 @@ impl Met {
         let endings = ENDINGS.iter().zip(self.endings);
         let unmet = endings.filter(|(_, many)| *many == 0);
         missed.extend(unmet.map(|(ending, _)| ending.0.to_string()));
+        missed.extend(self.desk.missed());
         missed
     }
 
@@ -202,6 +210,7 @@ impl Met {
             });
             lines.push(format!("{name}, {}", met.join(", ")));
         }
+        lines.push(self.desk.line());
         let endings = ENDINGS.iter().zip(self.endings);
         let endings: Vec<String> = endings
             .map(|(ending, many)| format!("{}: {many}", ending.0))

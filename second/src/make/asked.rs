@@ -5,6 +5,7 @@
 mod aims;
 mod books;
 mod breaches;
+pub mod desk;
 mod endings;
 mod lists;
 mod overs;

@@ -3,6 +3,7 @@
 
 use super::*;
 use crate::calls::Calls;
+use crate::desk::lines::side_word;
 use crate::text::{hex, read_from};
 
 /// A story of the whole input; what is no call stands at its end as bytes.
@@ -72,8 +73,26 @@ fn call_line(call: &Call, serial: u16) -> String {
             format!("{name} room {room} losses{losses}")
         }
         Call::Needs(_, room) => format!("{name} room {room}"),
+        Call::Margin(serial, account, initial, positions) => {
+            format!(
+                "{name} {serial} {account} {initial} {}",
+                position_words(positions)
+            )
+        }
     };
     line.trim_end().to_string()
+}
+
+fn position_words(positions: &[Position]) -> String {
+    let word = |position: &Position| {
+        let Position {
+            product, notional, ..
+        } = position;
+        let known = PRODUCTS.get(usize::from(*product));
+        let product = known.map_or(product.to_string(), |(name, ..)| name.to_string());
+        format!("{product} {} {notional}", side_word(position.side))
+    };
+    positions.iter().map(word).collect::<Vec<_>>().join(" ; ")
 }
 
 fn piece_words(piece: &[u8], serial: u16) -> String {

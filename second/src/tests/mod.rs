@@ -7,6 +7,7 @@ mod bytes;
 mod calls;
 mod closeouts;
 mod days;
+mod desk;
 mod faults;
 mod figures;
 mod forms;

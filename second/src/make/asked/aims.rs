@@ -1,6 +1,6 @@
 //! What made-up calls aim at.
 
-use super::{books, breaches, lists, overs, pieces, records};
+use super::{books, breaches, desk, lists, overs, pieces, records};
 use crate::calls::Call;
 use crate::dayfile::*;
 use crate::rng::Rng;
@@ -51,6 +51,8 @@ pub enum Aim {
     TakeOver(overs::Over),
     /// A book with this fault alone by the old rule, to be taken over.
     FaultOver(Fault),
+    /// The currency desk's.
+    Desk(desk::Case),
 }
 
 /// The refusals of a record that is handed over as values, and 0.
@@ -79,6 +81,7 @@ impl Aim {
         aims.extend(Fault::all(Rule::Old).into_iter().map(Aim::FaultOver));
         aims.extend(Aim::without_book());
         aims.extend(Aim::with_book());
+        aims.extend(desk::Case::all().into_iter().map(Aim::Desk));
         aims
     }
 
@@ -160,6 +163,7 @@ impl Aim {
             Aim::CloseOut(losses, length) => lists::close_out(losses, length, rng),
             Aim::Needs(length) => lists::needs(length, rng),
             Aim::TakeOver(over) => Call::TakeOver(overs::book(over, rng)),
+            Aim::Desk(case) => case.call(rng),
             Aim::FaultOver(fault) => Call::TakeOver(breaches::with(fault, Rule::Old, rng)),
         }
     }

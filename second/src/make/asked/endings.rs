@@ -1,6 +1,7 @@
 //! How an input ends: with its last call, or with something that is no call
 //! and calls behind it that mustn't be answered.
 
+use super::desk::good;
 use super::{any_call, books};
 use crate::bookfile::{self, LENGTH, PLACE, PLACES};
 use crate::calls::{Call, LIST_MOST, PIECE_MOST};
@@ -11,7 +12,7 @@ type Ending = (&'static str, fn(&mut Vec<u8>, &mut Rng));
 
 /// An odd number, so that inputs fed in small pieces (one in four) have every
 /// ending.
-pub const ENDINGS: [Ending; 21] = [
+pub const ENDINGS: [Ending; 23] = [
     ("the end", |_, _| {}),
     ("an unknown call", unknown),
     ("call 1 cut", |out, rng| cut(1, out, rng)),
@@ -24,7 +25,9 @@ pub const ENDINGS: [Ending; 21] = [
     ("call 8 cut", |out, rng| cut(8, out, rng)),
     ("call 9 cut", |out, rng| cut(9, out, rng)),
     ("call 10 cut", |out, rng| cut(10, out, rng)),
+    ("call 11 cut", |out, rng| cut(11, out, rng)),
     ("a call of the old rule", of_old_rule),
+    ("a side above 3", no_side),
     ("a piece too long", long_piece),
     ("a room too long", long_room),
     ("a list too long", long_list),
@@ -118,7 +121,20 @@ fn long_room(out: &mut Vec<u8>, rng: &mut Rng) {
 }
 
 fn long_list(out: &mut Vec<u8>, rng: &mut Rng) {
-    Call::CloseOut(books::sound(rng), vec![0; LIST_MOST + 1], 4).lay(out);
+    let call = match rng.below(2) {
+        0 => Call::Margin(1, 2, 3, vec![good(rng); LIST_MOST + 1]),
+        _ => Call::CloseOut(books::sound(rng), vec![0; LIST_MOST + 1], 4),
+    };
+    call.lay(out);
+    good_calls(out, rng);
+}
+
+/// The last byte of a position's side; its notional stands behind it.
+fn no_side(out: &mut Vec<u8>, rng: &mut Rng) {
+    let positions = (0..rng.between(1, 9)).map(|_| good(rng)).collect();
+    Call::Margin(1, 2, 3, positions).lay(out);
+    let side = out.len() - 9;
+    out[side] = rng.pick(&[4, 5, 128, 255]);
     good_calls(out, rng);
 }
 

@@ -1,0 +1,3 @@
+pub mod Rates
+pub mod Charges
+pub mod Margins

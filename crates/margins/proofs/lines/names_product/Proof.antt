@@ -1,0 +1,52 @@
+-- `margins::lines::names_product` meets its contract.
+use Prim.Native.Nat.{_-_, _≤_}
+use borrow.Author.Needs.{needs}
+use lib.ListN.{length}
+use Rattle.margins.proofs.lines.names_product.Statement.{statement}
+use Rattle.margins.proofs.lines.names_product.Tie as tie
+
+abbrev Inv-loop : tie.InvT-loop
+Inv-loop word i₀ i = i ≤ length word
+
+abbrev μ-loop : tie.MeasureT-loop
+μ-loop word i₀ i = length word - i
+
+loop-holds : tie.Need-loop-holds Inv-loop μ-loop
+loop-holds c = search needs
+
+shared-slice-read-is-capital-or-digit :
+    tie.Need-shared-slice-read-is-capital-or-digit Inv-loop μ-loop
+shared-slice-read-is-capital-or-digit c = search needs
+
+is-capital-or-digit-requires : tie.Need-is-capital-or-digit-requires Inv-loop μ-loop
+is-capital-or-digit-requires c κs = search needs
+
+returns : tie.Need-returns Inv-loop μ-loop
+returns c = search needs
+
+add-i : tie.Need-add-i Inv-loop μ-loop
+add-i c = search needs
+
+loop-less : tie.Need-loop-less Inv-loop μ-loop
+loop-less c = search needs
+
+loop-again : tie.Need-loop-again Inv-loop μ-loop
+loop-again c = search needs
+
+returns-2 : tie.Need-returns-2 Inv-loop μ-loop
+returns-2 c = search needs
+
+pub names-product-spec : {M : Type 1} → statement M
+names-product-spec =
+    tie.close
+    (tie.spec
+    Inv-loop
+    μ-loop
+    loop-holds
+    shared-slice-read-is-capital-or-digit
+    is-capital-or-digit-requires
+    returns
+    add-i
+    loop-less
+    loop-again
+    returns-2)

@@ -1,0 +1,49 @@
+// A number in decimal digits. One too large for eight bytes counts as the largest of eight bytes.
+ghost use Prim.Native.Nat.{_≤_};
+
+const LARGEST: u64 = 18_446_744_073_709_551_615;
+
+pub(crate) enum Decimal {
+    Is(u64),
+    No,
+}
+
+fn with_digit(n: u64, digit: u64) -> u64
+    requires { ⌜ digit ≤ 9 ⌝ }
+{
+    if n <= (LARGEST - digit) / 10 {
+        10 * n + digit
+    } else {
+        LARGEST
+    }
+}
+
+// The digit that a byte is, or 10.
+fn digit_of(byte: u8) -> u64
+    ensures { λ d. ⌜ d ≤ 10 ⌝ }
+{
+    if byte < b'0' {
+        return 10;
+    }
+    if b'9' < byte {
+        return 10;
+    }
+    (byte - b'0') as u64
+}
+
+pub(crate) fn number_of(word: &[u8]) -> Decimal {
+    if word.len() == 0 {
+        return Decimal::No;
+    }
+    let mut n: u64 = 0;
+    let mut i: usize = 0;
+    while i < word.len() {
+        let digit = digit_of(word[i]);
+        if digit == 10 {
+            return Decimal::No;
+        }
+        n = with_digit(n, digit);
+        i += 1;
+    }
+    Decimal::Is(n)
+}

@@ -1,0 +1,135 @@
+//! What made-up calls of the currency desk have met, by their arguments.
+
+use crate::book::CEILING;
+use crate::desk::{rate, Position, PRODUCTS};
+use crate::make::asked::desk::{Case, Round, Wrong, COUNTS, INITIALS, NOTIONALS};
+use std::collections::BTreeMap;
+
+#[derive(Default)]
+pub struct Met(BTreeMap<Case, u64>);
+
+impl Met {
+    pub fn missed(&self) -> Vec<String> {
+        let mut all = Case::all();
+        all.retain(|case| !self.0.contains_key(case));
+        all.iter().map(|case| format!("margin: {case:?}")).collect()
+    }
+
+    pub fn line(&self) -> String {
+        let many = self.0.values().sum::<u64>();
+        format!("positions, {} kinds: {many}", self.0.len())
+    }
+
+    pub fn count(&mut self, initial: u64, positions: &[Position]) {
+        for case in cases(initial, positions) {
+            *self.0.entry(case).or_default() += 1;
+        }
+    }
+}
+
+fn cases(initial: u64, positions: &[Position]) -> Vec<Case> {
+    let mut cases: Vec<Case> = positions.iter().flat_map(about).collect();
+    let notionals = positions.iter().map(|position| position.notional);
+    let edges = notionals.filter(|notional| NOTIONALS.contains(notional));
+    cases.extend(edges.map(Case::Notional));
+    let many = positions.len();
+    cases.extend(
+        COUNTS
+            .into_iter()
+            .filter(|&count| count == many)
+            .map(Case::Many),
+    );
+    cases.extend(
+        INITIALS
+            .into_iter()
+            .filter(|&known| known == initial)
+            .map(Case::Initial),
+    );
+    let wrongs: Vec<Wrong> = positions.iter().map(wrong).collect();
+    if many > 64 {
+        let kinds: Vec<Wrong> = wrongs
+            .iter()
+            .copied()
+            .filter(|&wrong| wrong != Wrong::Nothing)
+            .collect();
+        cases.push(Case::ManyWrong(*kinds.first().unwrap_or(&Wrong::Nothing)));
+        return cases;
+    }
+    cases.extend(two(&wrongs, initial > CEILING));
+    let charges = positions.iter().map(|position| position.charge().ok());
+    if let Some(charges) = charges.sum::<Option<u64>>() {
+        let sum = charges.saturating_add(initial);
+        cases.extend(
+            sum.checked_sub(CEILING)
+                .filter(|&more| more < 3)
+                .map(Case::Sum),
+        );
+    }
+    cases
+}
+
+/// The first two at fault; where there is one, with a good one behind it or
+/// ahead of it.
+fn two(wrongs: &[Wrong], is_wrong: bool) -> Vec<Case> {
+    let is_fault = |&place: &usize| wrongs[place] != Wrong::Nothing;
+    let faults: Vec<usize> = (0..wrongs.len()).filter(is_fault).collect();
+    let mut pairs = Vec::new();
+    match *faults.as_slice() {
+        [] if wrongs.len() > 1 => pairs.push((Wrong::Nothing, Wrong::Nothing)),
+        [] => {}
+        [one] => {
+            if one + 1 < wrongs.len() {
+                pairs.push((wrongs[one], Wrong::Nothing));
+            }
+            if one > 0 {
+                pairs.push((Wrong::Nothing, wrongs[one]));
+            }
+        }
+        [one, other, ..] => pairs.push((wrongs[one], wrongs[other])),
+    }
+    let case = |(one, other)| Case::Two(one, other, is_wrong);
+    pairs.into_iter().map(case).collect()
+}
+
+fn wrong(position: &Position) -> Wrong {
+    let is_past = position.notional > CEILING;
+    let product = PRODUCTS.get(usize::from(position.product));
+    let listed = product.map(|&(_, futures, short)| rate(futures, short, position.side).is_some());
+    match (listed, is_past) {
+        (None, false) => Wrong::Product,
+        (None, true) => Wrong::ProductAndNotional,
+        (Some(false), false) => Wrong::Option,
+        (Some(false), true) => Wrong::OptionAndNotional,
+        (Some(true), true) => Wrong::Notional,
+        (Some(true), false) => Wrong::Nothing,
+    }
+}
+
+/// Where a rate of 0 is charged, or none, every notional stands at each place.
+fn about(position: &Position) -> Vec<Case> {
+    let Position {
+        product,
+        side,
+        notional,
+    } = *position;
+    let Some(&(_, futures, short)) = PRODUCTS.get(usize::from(product)) else {
+        return Vec::new();
+    };
+    let (rate, per) = rate(futures, short, side).unwrap_or((0, 1));
+    let is_whole =
+        |notional: u64| (u128::from(notional) * u128::from(rate)).is_multiple_of(u128::from(per));
+    let mut rounds = Vec::new();
+    if is_whole(notional.saturating_add(1)) {
+        rounds.push(Round::Under);
+    }
+    if is_whole(notional) && notional > 0 {
+        rounds.push(Round::Exact);
+    }
+    if notional > 1 && is_whole(notional - 1) {
+        rounds.push(Round::Over);
+    }
+    rounds
+        .into_iter()
+        .map(|round| Case::Charged(product, side, round))
+        .collect()
+}

@@ -1,0 +1,167 @@
+//! Made-up runs of the program `margins`: its words and its lines.
+
+use super::asked::desk::Case;
+use crate::desk::lines::{line, MOST};
+use crate::rng::Rng;
+
+/// What a run has besides its positions.
+#[derive(Clone, Copy, PartialEq, Eq, PartialOrd, Ord, Debug)]
+pub enum Odd {
+    Plain,
+    /// Comments and empty lines between the others.
+    Remarks,
+    NoLastNewline,
+    LeadingZeros,
+    /// Numbers of more digits than any word holds.
+    Huge,
+    BadLine,
+    /// As long as it may be, and a byte longer.
+    Longest,
+    TooLong,
+    BadWords,
+    Help,
+}
+
+pub const ODDS: [Odd; 10] = [
+    Odd::Plain,
+    Odd::Remarks,
+    Odd::NoLastNewline,
+    Odd::LeadingZeros,
+    Odd::Huge,
+    Odd::BadLine,
+    Odd::Longest,
+    Odd::TooLong,
+    Odd::BadWords,
+    Odd::Help,
+];
+
+pub struct Sheet {
+    pub odd: Odd,
+    pub words: Vec<String>,
+    pub text: Vec<u8>,
+}
+
+/// Lines that are no position.
+const BAD_LINES: [&[u8]; 22] = [
+    b"USDINR",
+    b"USDINR futures",
+    b"USDINR futures 5 6",
+    b" USDINR futures 5",
+    b"USDINR futures 5 ",
+    b"USDINR  futures 5",
+    b"USDINR futures  5",
+    b"usdinr futures 5",
+    b"USDINr futures 5",
+    b"USDINR Futures 5",
+    b"USDINR option 5",
+    b"USDINR futures -5",
+    b"USDINR futures +5",
+    b"USDINR futures 5x",
+    b"USDINR futures ",
+    b" ",
+    b"USDINR\tfutures\t5",
+    b"USDINR futures 5\r",
+    b"US-INR futures 5",
+    b" # a remark",
+    b"USDINR futures \xFF",
+    b"\x00",
+];
+
+/// Words that are none of the program's.
+const BAD_WORDS: [&[&str]; 14] = [
+    &[],
+    &["1"],
+    &["1", "2"],
+    &["1", "2", "3", "4"],
+    &["--record"],
+    &["--record", "1", "2"],
+    &["--record", "1", "2", "3", "4"],
+    &["65536", "2", "3"],
+    &["1", "65536", "3"],
+    &["1", "2", "-3"],
+    &["1", "2", ""],
+    &["1x", "2", "3"],
+    &["1", "2", "3", "--record"],
+    &["99999999999999999999999", "2", "3"],
+];
+
+pub fn make(seed: u64) -> Sheet {
+    let mut rng = Rng::new(seed, 0x5EE7);
+    let odd = ODDS[seed as usize % ODDS.len()];
+    let cases = Case::all();
+    // A prime, so that seeds that follow one another go over cases of every kind.
+    let case = cases[(seed as usize).wrapping_mul(13) % cases.len()];
+    let (initial, mut positions) = case.asked(&mut rng);
+    positions.truncate(1_000);
+    let mut lines: Vec<Vec<u8>> = positions
+        .iter()
+        .map(|position| line(position).into_bytes())
+        .collect();
+    let mut words = vec![word(&mut rng), word(&mut rng), initial.to_string()];
+    bend(odd, &mut words, &mut lines, &mut rng);
+    if rng.one_in(3) && odd != Odd::BadWords && odd != Odd::Help {
+        words.insert(0, "--record".to_string());
+    }
+    let mut text = lines.join(&b'\n');
+    if odd != Odd::NoLastNewline && !lines.is_empty() {
+        text.push(b'\n');
+    }
+    pad(odd, &mut text);
+    Sheet { odd, words, text }
+}
+
+fn word(rng: &mut Rng) -> String {
+    let drawn = rng.below(65_536);
+    rng.pick(&[0, 1, 256, 65_535, drawn]).to_string()
+}
+
+fn bend(odd: Odd, words: &mut Vec<String>, lines: &mut Vec<Vec<u8>>, rng: &mut Rng) {
+    let at = rng.below(lines.len() as u64 + 1) as usize;
+    match odd {
+        Odd::Remarks => {
+            lines.insert(at, b"# USDINR futures 5".to_vec());
+            lines.insert(at, Vec::new());
+            lines.insert(0, b"#".to_vec());
+        }
+        Odd::LeadingZeros => {
+            words
+                .iter_mut()
+                .for_each(|word| word.insert_str(0, "00000000000000000000"));
+            lines.push(b"USDINR futures 000000000000000000000000010000001".to_vec());
+        }
+        Odd::Huge => {
+            let digits = rng.between(20, 60) as usize;
+            let huge = "9".repeat(digits);
+            match rng.below(2) {
+                0 => words[2] = huge,
+                _ => lines.insert(at, format!("USDINR long {huge}").into_bytes()),
+            }
+        }
+        Odd::BadLine => {
+            lines.insert(at, rng.pick(&BAD_LINES).to_vec());
+            if rng.one_in(3) {
+                lines.push(rng.pick(&BAD_LINES).to_vec());
+            }
+        }
+        Odd::BadWords => {
+            let bad = rng.pick(&BAD_WORDS);
+            *words = bad.iter().map(|word| word.to_string()).collect();
+        }
+        Odd::Help => words.insert(0, "--help".to_string()),
+        _ => {}
+    }
+}
+
+/// A remark at the end fills it up.
+fn pad(odd: Odd, text: &mut Vec<u8>) {
+    let wanted = match odd {
+        Odd::Longest => MOST,
+        Odd::TooLong => MOST + 1,
+        _ => return,
+    };
+    text.truncate(text.len().min(wanted));
+    if text.len() < wanted {
+        text.push(b'#');
+    }
+    text.resize(wanted, b'.');
+}
