@@ -11,19 +11,14 @@ use crate::closeout::close_out_bytes;
 use crate::day::Closing;
 use crate::dayfile::{Next, Reader};
 use crate::difference::settle;
-use crate::holds::Holds;
-use crate::looks::Looks;
 use crate::made::Made;
 use crate::make::{losses, make, MILLION_KIND, NO_LIMIT, ROUND};
-use crate::margins::Margins;
-use crate::moves::Moves;
 use crate::options::Options;
 use crate::print;
 use crate::refusal::Refusal;
 use crate::rng::Rng;
-use crate::shorts::Shorts;
+use crate::seen::Seen;
 use crate::tally::Tally;
-use crate::tenths::Tenths;
 use std::fs;
 use std::path::{Path, PathBuf};
 
@@ -232,40 +227,28 @@ struct Own {
 /// A day made for modes is stopped where it meets a kind of look first, one
 /// made for needs where it meets a kind of move, one made for shortfalls where
 /// it meets a kind of those.
-fn kinds_met(made: &Made, looks: &Looks, moves: &Moves, shorts: &Shorts) -> usize {
+fn kinds_met(made: &Made, seen: &Seen) -> usize {
     match made.kind {
-        "warned" => looks.met.kinds(),
-        "moved" | "valued" => moves.met.kinds(),
-        "short" => shorts.met.kinds(),
+        "warned" => seen.looks.met.kinds(),
+        "moved" | "valued" => seen.moves.met.kinds(),
+        "short" => seen.shorts.met.kinds(),
         _ => 0,
     }
 }
 
-/// This program's own answer, with the book's soundness asserted besides, its
-/// modes held against a look at all, its needs against those afresh, what may
-/// be taken out against the rules by the letter, 13 against its old line, and
-/// collateral against nine tenths of securities.
+/// This program's own answer, with the book's soundness asserted besides, and
+/// all that `Seen` holds it against.
 fn own_answer(made: &Made, tally: &mut Tally) -> Result<Own, String> {
     let (mut faults, mut read) = (0, 0);
-    let fresh = Book::fresh();
-    let (mut looks, mut moves) = (Looks::from(&fresh), Moves::from(&fresh));
-    let mut holds = Holds::from(&fresh, &made.bytes);
-    let mut margins = Margins::from(&fresh, &made.bytes);
-    let mut tenths = Tenths::from(&fresh, &made.bytes);
-    let mut shorts = Shorts::from(&fresh, &made.bytes);
+    let mut seen = Seen::from(&Book::fresh(), &made.bytes);
     let mut stops = Vec::new();
     let checked = made.kind != MILLION_KIND.0;
     let (out, book, day) = print::day_seen(&made.bytes, |answer, book| {
         tally.count(answer);
         read += 1;
-        let kinds = kinds_met(made, &looks, &moves, &shorts);
-        faults += usize::from(!looks.after(answer, book));
-        faults += usize::from(!moves.after(answer, book));
-        faults += usize::from(!holds.after(answer, book));
-        faults += usize::from(!margins.after(answer, book));
-        faults += usize::from(!tenths.after(answer, book));
-        faults += usize::from(!shorts.after(answer, book));
-        if kinds_met(made, &looks, &moves, &shorts) > kinds {
+        let kinds = kinds_met(made, &seen);
+        faults += usize::from(!seen.after(answer, book));
+        if kinds_met(made, &seen) > kinds {
             stops.push(read);
         }
         if checked && !(book.is_sound() && book.uses_agree()) {
@@ -279,12 +262,7 @@ fn own_answer(made: &Made, tally: &mut Tally) -> Result<Own, String> {
         ));
     }
     tally.days += 1;
-    tally.looks.add(&looks.met);
-    tally.moves.add(&moves.met);
-    tally.holds.add(&holds.met);
-    tally.margins.add(&margins.met);
-    tally.tenths.add(&tenths.met);
-    tally.shorts.add(&shorts.met);
+    seen.add_to(tally);
     tally.refusals[Refusal::Cut as usize] += u64::from(day.closing == Closing::Cut);
     Ok(Own { out, book, stops })
 }
@@ -307,16 +285,7 @@ fn one_close_out(
         Losses::Folder => (Some(programs.folder.clone()), None),
         Losses::NoArgument => (None, None),
     };
-    match given.map(|bytes| close_out_bytes(book, bytes)) {
-        Some(Err(refusal)) => tally.refusals[refusal as usize] += 1,
-        Some(Ok(closed)) if !tally.count_closed(book, &closed) => {
-            return Err(format!(
-                "own close-out: kind {} seed {}",
-                made.kind, made.seed
-            ));
-        }
-        _ => {}
-    }
+    count_close_out(made, book, given, tally)?;
     let want = given.map_or(Vec::new(), |bytes| print::closeouts(&made.bytes, bytes));
     let words: Vec<&Path> = argument.as_deref().into_iter().collect();
     let got = ask(program, &words, &made.bytes, made.pace);
@@ -329,6 +298,26 @@ fn one_close_out(
             "difference: program closeouts, kind {}, seed {}: standard error is wrong on whether the losses can be read",
             made.kind, made.seed
         ));
+    }
+    Ok(())
+}
+
+/// This program's own close-out, held against demand 3.
+fn count_close_out(
+    made: &Made,
+    book: &Book,
+    given: Option<&[u8]>,
+    tally: &mut Tally,
+) -> Result<(), String> {
+    match given.map(|bytes| close_out_bytes(book, bytes)) {
+        Some(Err(refusal)) => tally.refusals[refusal as usize] += 1,
+        Some(Ok(closed)) if !tally.count_closed(book, &closed) => {
+            return Err(format!(
+                "own close-out: kind {} seed {}",
+                made.kind, made.seed
+            ));
+        }
+        _ => {}
     }
     Ok(())
 }

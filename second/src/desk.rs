@@ -1,6 +1,7 @@
 //! K9 of document 02: the extreme loss margin of the currency desk, "a product
 //! on top of the book". It knows no book and makes a record of code 10.
 
+pub mod figures;
 pub mod lines;
 
 use crate::book::CEILING;
@@ -72,9 +73,13 @@ impl Position {
     }
 }
 
-/// The extreme loss and the initial margin together: 15; 18 to 20 "by first
-/// position at fault, the initial margin after them"; 21.
+/// The extreme loss and the initial margin together, and 21.
 pub fn margin(initial: u64, positions: &[Position]) -> Result<u64, Refusal> {
+    figures::margin_with(initial, positions, &[])
+}
+
+/// 15; 18 to 20 "by first position at fault, the initial margin after them".
+fn charges(initial: u64, positions: &[Position]) -> Result<u64, Refusal> {
     if positions.len() > MOST_POSITIONS {
         return Err(Refusal::WrongLength);
     }
@@ -85,9 +90,7 @@ pub fn margin(initial: u64, positions: &[Position]) -> Result<u64, Refusal> {
     if initial > CEILING {
         return Err(Refusal::PastLimit);
     }
-    Some(sum + initial)
-        .filter(|&sum| sum <= CEILING)
-        .ok_or(Refusal::SumPast)
+    Ok(sum + initial)
 }
 
 /// "And makes the code 10 record."

@@ -27,6 +27,7 @@ mod programs;
 mod refusal;
 mod rng;
 mod rule;
+mod seen;
 mod shorts;
 mod story;
 mod table;
@@ -53,7 +54,8 @@ second take_over FROM TO                 the book of FROM taken over to the new 
                                          0, or 1 and TO stays as it was
 second margins [--record] SERIAL ACCOUNT INITIAL < POSITIONS
                                          a client's extreme loss and initial margin, or its record;
-                                         a line a position: USDINR futures 10000001
+                                         a line a position: USDINR futures 10000001; and once, if
+                                         wanted: figures PREMIUM LOSS [EXERCISE SETTLEMENT]
 second calls < CALLS                     a line per library call, `bad N` at what is none
 second make KIND SEED > DAYFILE          a made-up day: busy hostile bent bounds cuts serials
                                          openings retire shared spent warned wavering
@@ -80,6 +82,8 @@ Calls, each handed the book as it is then:
   day NUMBER PIECE   read_at PLACE PIECE   write RECORD room N
   close_out room N losses LOSS ..   needs room N   take_over
   margin SERIAL ACCOUNT INITIAL POSITION ; .., POSITION: PRODUCT SIDE NOTIONAL, PRODUCT a name or a number
+  margin_with SERIAL ACCOUNT INITIAL FIGURES POSITION ; ..   exposure FIGURES, such as 50,-30
+  exposures EACH room N FIGURE ..
 Other bytes:
   bytes HEX   cut N   # a comment
 WORD: sort live tm received.KIND allocated.KIND pledged margin mode need, KIND one of cash deposits

@@ -4,13 +4,8 @@
 //! stays unread. And `take_over`, from one book file to another.
 
 use crate::book::{Book, MOST_ACCOUNTS};
-use crate::holds::Holds;
-use crate::looks::Looks;
-use crate::margins::Margins;
-use crate::moves::Moves;
-use crate::shorts::Shorts;
+use crate::seen::Seen;
 use crate::table::Table;
-use crate::tenths::Tenths;
 use crate::{bookfile, print, put_out, usage, Output};
 use std::ffi::OsString;
 use std::fs::File;
@@ -89,25 +84,17 @@ fn keep(program: &str, to: &OsString, table: &Table) -> Result<(), String> {
     })
 }
 
-/// As `day`, but looks after every record whether the book is sound, its
-/// modes are as a look at all would have them, its needs moved as they can, what
-/// was to be taken out got the answer of the rules, 13's old line agrees, and
-/// collateral has nine tenths of securities.
+/// As `day`, but looks after every record whether the book is sound and all
+/// that `Seen` looks for.
 fn checked_day(book: Book, piece: &[u8]) -> Result<(Vec<u8>, Vec<u8>, Book), String> {
-    let (mut seen, mut first_fault) = (0, None);
-    let (mut looks, mut moves) = (Looks::from(&book), Moves::from(&book));
-    let mut holds = Holds::from(&book, piece);
-    let mut margins = Margins::from(&book, piece);
-    let mut tenths = Tenths::from(&book, piece);
-    let mut shorts = Shorts::from(&book, piece);
+    let (mut records, mut first_fault) = (0, None);
+    let mut seen = Seen::from(&book, piece);
     let parts = print::day_parts(book, piece, |answer, book| {
-        seen += 1;
-        let agrees = looks.after(answer, book) & moves.after(answer, book);
-        let agrees = agrees & holds.after(answer, book) & margins.after(answer, book);
-        let agrees = agrees & tenths.after(answer, book) & shorts.after(answer, book);
+        records += 1;
+        let agrees = seen.after(answer, book);
         let is_sound = book.is_sound() && book.uses_agree() && Table::of(book).is_sound();
         if first_fault.is_none() && !(agrees && is_sound) {
-            first_fault = Some(seen);
+            first_fault = Some(records);
         }
     });
     match first_fault {

@@ -27,4 +27,6 @@ pub enum Refusal {
     NotListed = 19,
     PastLimit = 20,
     SumPast = 21,
+    /// K10; checked before 21.
+    PastFigure = 22,
 }

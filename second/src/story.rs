@@ -25,6 +25,10 @@
 //!     take_over
 //!     margin SERIAL ACCOUNT INITIAL POSITION ; ..
 //!                                   POSITION: PRODUCT SIDE NOTIONAL, the product by name or number
+//!     margin_with SERIAL ACCOUNT INITIAL FIGURES POSITION ; ..
+//!                                   FIGURES: two or four with commas between them, 50,-30
+//!     exposure FIGURES
+//!     exposures EACH room N FIGURE ..
 //!
 //!     bytes HEX                     bytes as they stand, for what is no call
 //!     cut N                         takes the last N bytes off again
@@ -35,13 +39,13 @@
 //! of such lines and of `zeros N`, with `;` between them; nothing is an empty
 //! piece. Serials run on from the book's.
 
+mod desk;
 mod read;
 
 use crate::bookfile::{self, PLACE, PLACES};
 use crate::calls::Call;
 use crate::carry::carry_values;
 use crate::dayfile::{Next, Reader, Values};
-use crate::desk::{Position, PRODUCTS, SIDES};
 use crate::rule::Rule;
 use crate::table::{Table, MODE, NEED, WIDTHS, WORDS};
 use crate::text::{hex_bytes, line_bytes, moved_on, parsed};
@@ -225,13 +229,11 @@ impl Story {
             }
             ("needs", ["room", room]) => Call::Needs(book, parsed(room, "room")?),
             ("take_over", []) => Call::TakeOver(book),
-            ("margin", [serial, account, initial, positions @ ..]) => Call::Margin(
-                parsed(serial, "serial")?,
-                parsed(account, "account")?,
-                parsed(initial, "initial margin")?,
-                all_positions(positions)?,
-            ),
-            _ => return Err(format!("unknown word `{word}`, or it is said otherwise")),
+            _ => {
+                let call = desk::call(word, words)?;
+                let unknown = || format!("unknown word `{word}`, or it is said otherwise");
+                return call.ok_or_else(unknown);
+            }
         };
         Ok(call)
     }
@@ -246,30 +248,6 @@ fn after(rest: &str) -> &str {
 
 fn numbers(words: &[&str]) -> Result<Vec<u64>, String> {
     words.iter().map(|word| parsed(word, "number")).collect()
-}
-
-/// With `;` between them, or none at all.
-fn all_positions(words: &[&str]) -> Result<Vec<Position>, String> {
-    if words.is_empty() {
-        return Ok(Vec::new());
-    }
-    words.split(|&word| word == ";").map(position).collect()
-}
-
-fn position(words: &[&str]) -> Result<Position, String> {
-    let [product, side, notional] = words else {
-        return Err("a position is a product, a side and a notional".to_string());
-    };
-    let known = PRODUCTS.iter().position(|(name, ..)| name == product);
-    let side = SIDES.iter().find(|(name, _)| name == side);
-    Ok(Position {
-        product: match known {
-            Some(place) => place as u8,
-            None => parsed(product, "product")?,
-        },
-        side: side.ok_or("a side is futures, short, long or spread")?.1,
-        notional: parsed(notional, "notional")?,
-    })
 }
 
 /// Serial, code, second mark byte, account, six amounts.

@@ -4,6 +4,7 @@ ghost use lib.ListN.{length};
 use crate::asked;
 use crate::carried;
 use crate::closed;
+use crate::exposed;
 use crate::margins;
 use crate::pieces;
 use crate::taken::AFTER_BOOK;
@@ -69,6 +70,9 @@ fn answer_first(bytes: &[u8], room: &mut [u8]) -> Told
         6 => pieces::read_at(bytes, room),
         7 => pieces::write(bytes, room),
         11 => margins::margin(bytes, room),
+        12 => exposed::one_client(bytes, room),
+        13 => exposed::margin(bytes, room),
+        14 => exposed::clients(bytes, room),
         _ => none(),
     }
 }

@@ -24,35 +24,36 @@ fn put_closed(room: &mut [u8], t: Table, losses: &[u64], n: usize) -> usize
     put_line(room, 0, line, 0, end)
 }
 
-// Where the losses stand and how many they are, how long a room is asked with, and where the call ends.
-struct Asked {
-    is_call: bool,
-    from: usize,
-    losses: usize,
-    room: usize,
-    end: usize,
+// Where a list stands and how many numbers it has, how long a room is asked with, and where the call ends.
+pub(crate) struct Asked {
+    pub(crate) is_call: bool,
+    pub(crate) from: usize,
+    pub(crate) count: usize,
+    pub(crate) room: usize,
+    pub(crate) end: usize,
 }
 
-// The lengths, each within its limit and all its bytes there; 0 throughout where that isn't so.
-fn lengths(bytes: &[u8]) -> Asked
-    ensures { λ a. ⌜ (a .losses ≤ 4096) × (a .from + 8 * a .losses ≤ length (now (bytes .entry))) × (a .room ≤ 4096) × (a .end ≤ length (now (bytes .entry))) ⌝ }
+// The lengths of a list and a room behind it, each within its limit and all its bytes there; 0 throughout where that isn't so.
+pub(crate) fn lengths(bytes: &[u8], at: usize) -> Asked
+    requires { ⌜ at ≤ 23_817 ⌝ }
+    ensures { λ a. ⌜ (a .count ≤ 4096) × (a .from + 8 * a .count ≤ length (now (bytes .entry))) × (a .room ≤ 4096) × (a .end ≤ length (now (bytes .entry))) ⌝ }
 {
     let nothing = Asked {
         is_call: false,
         from: 0,
-        losses: 0,
+        count: 0,
         room: 0,
         end: 0,
     };
-    let from = AFTER_BOOK + 4;
+    let from = at + 4;
     if bytes.len() < from {
         return nothing;
     }
-    let losses = number4(bytes, AFTER_BOOK);
-    if LIST < losses {
+    let count = number4(bytes, at);
+    if LIST < count {
         return nothing;
     }
-    let to = from + 8 * losses;
+    let to = from + 8 * count;
     if bytes.len() < to + 4 {
         return nothing;
     }
@@ -63,7 +64,7 @@ fn lengths(bytes: &[u8]) -> Asked
     Asked {
         is_call: true,
         from,
-        losses,
+        count,
         room,
         end: to + 4,
     }
@@ -73,11 +74,11 @@ pub(crate) fn close_out(bytes: &[u8], table: Table, room: &mut [u8]) -> Told
     requires { ⌜ 87000 ≤ length (now room) ⌝ }
     ensures { λ t. ⌜ (t .size ≤ length (now (bytes .entry))) × (t .text ≤ length (now (room .exit))) ⌝ }
 {
-    let asked = lengths(bytes);
+    let asked = lengths(bytes, AFTER_BOOK);
     if !asked.is_call {
         return none();
     }
-    let n = asked.losses;
+    let n = asked.count;
     let losses = list(bytes, asked.from, n);
     Told {
         is_call: true,

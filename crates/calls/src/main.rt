@@ -8,6 +8,7 @@ mod call;
 mod carried;
 mod changed;
 mod closed;
+mod exposed;
 mod held;
 mod lines;
 mod margins;

@@ -55,7 +55,7 @@ fn sides_known(bytes: &[u8], n: usize) -> bool
 }
 
 // The first 64 of n positions.
-fn positions(bytes: &[u8], n: usize) -> [Position; 64]
+pub(crate) fn positions(bytes: &[u8], n: usize) -> [Position; 64]
     requires { ⌜ 17 + 10 * n ≤ length (now bytes) ⌝ }
 {
     let empty = Position {
@@ -75,7 +75,7 @@ fn positions(bytes: &[u8], n: usize) -> [Position; 64]
 }
 
 // How many positions there are, all of them there; more than any list has where that isn't so.
-fn count_of(bytes: &[u8]) -> usize
+pub(crate) fn count_of(bytes: &[u8]) -> usize
     ensures { λ n. ⌜ (n ≤ 4096 → 17 + 10 * n ≤ length (now (bytes .entry))) ⌝ }
 {
     let no = LIST + 1;
@@ -128,7 +128,7 @@ fn put_record(room: &mut [u8], r: Record) -> usize
     put_spaced(room, 0, &list)
 }
 
-fn put_made(room: &mut [u8], made: Made) -> usize
+pub(crate) fn put_made(room: &mut [u8], made: Made) -> usize
     requires { ⌜ 87000 ≤ length (now room) ⌝ }
     ensures { λ n. ⌜ n ≤ length (now (room .exit)) ⌝ }
 {

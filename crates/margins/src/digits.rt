@@ -1,5 +1,7 @@
 // A number in decimal digits. One too large for eight bytes counts as the largest of eight bytes.
+ghost use mathlib.Core.Path.{_≡_};
 ghost use Prim.Native.Nat.{_≤_};
+ghost use Rattle.margins.specs.Digits.{digitIn, withDigit, decimalOf};
 
 const LARGEST: u64 = 18_446_744_073_709_551_615;
 
@@ -10,6 +12,7 @@ pub(crate) enum Decimal {
 
 fn with_digit(n: u64, digit: u64) -> u64
     requires { ⌜ digit ≤ 9 ⌝ }
+    ensures { λ m. ⌜ m ≡ withDigit n digit ⌝ }
 {
     if n <= (LARGEST - digit) / 10 {
         10 * n + digit
@@ -20,6 +23,7 @@ fn with_digit(n: u64, digit: u64) -> u64
 
 // The digit that a byte is, or 10.
 fn digit_of(byte: u8) -> u64
+    ensures { λ d. ⌜ d ≡ digitIn byte ⌝ }
     ensures { λ d. ⌜ d ≤ 10 ⌝ }
 {
     if byte < b'0' {
@@ -31,7 +35,9 @@ fn digit_of(byte: u8) -> u64
     (byte - b'0') as u64
 }
 
-pub(crate) fn number_of(word: &[u8]) -> Decimal {
+pub(crate) fn number_of(word: &[u8]) -> Decimal
+    ensures { λ d. ⌜ d ≡ decimalOf (now (word .entry)) ⌝ }
+{
     if word.len() == 0 {
         return Decimal::No;
     }

@@ -1,8 +1,10 @@
-// One line of the input: `PRODUCT SIDE NOTIONAL`, or nothing to read.
+// One line of the input: `PRODUCT SIDE NOTIONAL`, `figures ..`, or nothing to read.
 ghost use Prim.Native.Nat.{_≤_};
 ghost use lib.ListN.{length};
 use crate::digits::Decimal;
 use crate::digits::number_of;
+use crate::figures;
+use crate::figures::Figures;
 use currency::Position;
 use currency::Side;
 
@@ -10,6 +12,7 @@ use currency::Side;
 pub(crate) enum Line {
     Nothing,
     Holds(Position),
+    Told(Figures),
     Bad,
 }
 
@@ -124,6 +127,9 @@ fn of_words(line: &[u8]) -> Line {
         return Line::Bad;
     }
     let from = first + 1;
+    if check::same(&line[..first], b"figures") {
+        return figures::of_words(&line[from..]);
+    }
     let second = up_to(line, from, b' ');
     if second == line.len() {
         return Line::Bad;

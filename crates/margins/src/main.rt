@@ -1,4 +1,4 @@
-// A client's margin on the currency desk: its positions as text lines on standard input, its initial margin among the words. Prints the refusal or 0 and the
+// A client's margin on the currency desk: its positions and figures as text lines on standard input, its initial margin among the words. Prints the refusal or 0 and the
 // margin; or, if asked, hands over the bytes of the record that sets it, for a day file.
 use asked::Asked;
 use dayfile::Record;
@@ -9,6 +9,7 @@ use streams::standard::write_output;
 
 mod asked;
 mod digits;
+mod figures;
 mod lines;
 mod positions;
 mod told;
@@ -38,12 +39,17 @@ fn write_record(record: Record) {
 
 fn answer(asked: Asked, held: Held) {
     let positions = held.positions;
-    let made = currency::margin(
+    let figures = held.figures;
+    let made = exposure::margin(
         asked.serial,
         asked.account,
         asked.initial,
         positions,
         held.number,
+        figures.premium,
+        figures.loss,
+        figures.exercise,
+        figures.settlement,
     );
     if asked.record {
         match made {
@@ -79,7 +85,7 @@ fn run(asked: Asked) {
 
 fn main() {
     let help = streams::standard::help(
-        b"margins: a client's initial margin and the extreme loss margin of its positions on standard input, a line each, PRODUCT SIDE NOTIONAL; prints the refusal or 0 and the margin, with --record the record that sets it\nusage: margins [--record] SERIAL ACCOUNT INITIAL < POSITIONS\n",
+        b"margins: a client's initial margin, the extreme loss margin of its positions and what its figures come to, on standard input a line each, PRODUCT SIDE NOTIONAL, and at most once figures PREMIUM LOSS [EXERCISE SETTLEMENT]; prints the refusal or 0 and the margin, with --record the record that sets it\nusage: margins [--record] SERIAL ACCOUNT INITIAL < POSITIONS\n",
     );
     if help.asked {
         return;

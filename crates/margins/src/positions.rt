@@ -1,7 +1,8 @@
-// The positions that the input's lines hold.
+// The positions and the figures that the input's lines hold.
 ghost use mathlib.Core.Path.{_≡_};
 ghost use Prim.Native.Nat.{_+_, _≤_};
 ghost use lib.ListN.{length};
+use crate::figures::Figures;
 use crate::lines::Line;
 use crate::lines::line_of;
 use crate::lines::up_to;
@@ -9,10 +10,13 @@ use currency::MOST;
 use currency::Position;
 use currency::Side;
 
-// The first 64 positions, how many there are, and the number of the line that is none, or 0.
+// The first 64 positions, how many there are, the figures (0 where no line tells them) and whether a line did, and the number
+// of the line that is none of these, or 0.
 pub(crate) struct Held {
     pub(crate) positions: [Position; 64],
     pub(crate) number: usize,
+    pub(crate) figures: Figures,
+    pub(crate) told: bool,
     pub(crate) bad: u64,
 }
 
@@ -24,9 +28,17 @@ fn none() -> Held
         side: Side::Futures,
         notional: 0,
     };
+    let figures = Figures {
+        premium: 0,
+        loss: 0,
+        exercise: 0,
+        settlement: 0,
+    };
     Held {
         positions: [empty; 64],
         number: 0,
+        figures,
+        told: false,
         bad: 0,
     }
 }
@@ -55,6 +67,19 @@ fn with_bad(held: Held, number: u64) -> Held
     bad
 }
 
+// Figures stand there at most once.
+fn with_figures(held: Held, figures: Figures, number: u64) -> Held
+    ensures { λ h. ⌜ h .number ≡ held .number ⌝ }
+{
+    if held.told {
+        return with_bad(held, number);
+    }
+    let mut more = held;
+    more.figures = figures;
+    more.told = true;
+    more
+}
+
 fn with_line(held: Held, line: &[u8], number: u64) -> Held
     requires { ⌜ held .number ≤ 65_536 ⌝ }
     ensures { λ h. ⌜ h .number ≤ held .number + 1 ⌝ }
@@ -62,6 +87,7 @@ fn with_line(held: Held, line: &[u8], number: u64) -> Held
     match line_of(line) {
         Line::Nothing => held,
         Line::Holds(position) => with_position(held, position),
+        Line::Told(figures) => with_figures(held, figures, number),
         Line::Bad => with_bad(held, number),
     }
 }

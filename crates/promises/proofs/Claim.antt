@@ -1,4 +1,4 @@
--- P1 to P11, Annexure 5, K3's list, K7's tenth and K9's charges, by one claim over the list: `figures`, at the end. What stands before it makes it quick to compute: by the rules each
+-- P1 to P11, Annexure 5, K3's list, K7's tenth, K9's charges and K10's clients, by one claim over the list: `figures`, at the end. What stands before it makes it quick to compute: by the rules each
 -- record asks whether the book is sound, which is long to compute, and holds by theorem (Quick).
 use mathlib.Core.List.{List, [], _∷_, _++_, map}
 use mathlib.Core.Path.{_≡_, refl, sym, ap, _∙_}
@@ -33,9 +33,10 @@ use Rattle.closeout.specs.Closing.{closedOf, roomOf}
 use Rattle.currency.specs.Rates.{rates, rateOf}
 use Rattle.currency.specs.Charges.{faultOf as faultIn, firstFault, chargeOf, charges}
 use Rattle.currency.specs.Margins.{sumOf, refusalOf as marginRefusal, madeOf}
+use Rattle.exposure.specs.Exposures.{intradayOf}
 use Rattle.promises.specs.Sequences.{afterAll}
-use Rattle.promises.specs.Figures.{Question, blockedAfter, deemedAfter, refusalAfter, closedAfter, bytesLong, refusalRead, excessAfter, usedAfter, needsAfter, collateralAfter, marginOf, ratesOf}
-use Rattle.promises.specs.Figures.{cases, each, excessIn, usedIn, closedIn, zeros, byTheRules, casesByTheRules, expected, marginIn, ratesIn}
+use Rattle.promises.specs.Figures.{Question, blockedAfter, deemedAfter, refusalAfter, closedAfter, bytesLong, refusalRead, excessAfter, usedAfter, needsAfter, collateralAfter, marginOf, ratesOf, exposureTo}
+use Rattle.promises.specs.Figures.{cases, each, excessIn, usedIn, closedIn, zeros, byTheRules, casesByTheRules, expected, marginIn, ratesIn, exposureIn}
 use Rattle.promises.proofs.Quick.{quickStep, quick-step, all-sound, quickAll, quick-all, quickClosed, quickRoom, quick-closed, quick-room}
 
 -- the ways to carry out, quickly
@@ -81,6 +82,7 @@ quickly (needsAfter rs) = allNeeds (quickAll freshBook rs) ++ each (needAt (quic
 quickly (collateralAfter rs i) = view (quickAll freshBook rs) .collateral i ∷ []
 quickly (marginOf p) = marginIn p
 quickly (ratesOf product) = ratesIn product
+quickly (exposureTo premium loss) = exposureIn premium loss
 
 same : (q : Question) → byTheRules q ≡ quickly q
 unfolding byTheRules quickly
@@ -96,6 +98,7 @@ same (needsAfter rs) = ap (λ b. allNeeds b ++ each (needAt b)) (after-same rs)
 same (collateralAfter rs i) = ap (λ b. view b .collateral i ∷ []) (after-same rs)
 same (marginOf p) = refl
 same (ratesOf product) = refl
+same (exposureTo premium loss) = refl
 
 casesQuickly : List (List ℕ)
 casesQuickly = map (λ c. quickly (c .asked)) cases
@@ -105,9 +108,9 @@ unfolding casesByTheRules casesQuickly
 same-cases i = map (λ c. same (c .asked) i) cases
 
 computed : casesQuickly ≡ expected
-unfolding casesQuickly quickly counted cases expected quickAll changeBy amended refusalBy first pick sum all needTM needCM need hasLiveClient freshBook faultOf foundAt foundFrom recordOf number got past ones onesIn rowsTo four paid₁ part₂ ownColumn tmColumn cmColumn uncovered fromTM askedOfCM fromCM unpaid looked listTo useOf useTM useCM modeAfter allNeeds needsAfresh madeOf marginRefusal firstFault faultIn rates rateOf sumOf charges chargeOf
+unfolding casesQuickly quickly counted cases expected quickAll changeBy amended refusalBy first pick sum all needTM needCM need hasLiveClient freshBook faultOf foundAt foundFrom recordOf number got past ones onesIn rowsTo four paid₁ part₂ ownColumn tmColumn cmColumn uncovered fromTM askedOfCM fromCM unpaid looked listTo useOf useTM useCM modeAfter allNeeds needsAfresh madeOf marginRefusal firstFault faultIn rates rateOf sumOf charges chargeOf intradayOf
 computed = refl
 
--- document 01's figures, Annexure 5's, K3's list, K7's tenth and K9's charges, by the rules
+-- document 01's figures, Annexure 5's, K3's list, K7's tenth, K9's charges and K10's clients, by the rules
 pub figures : casesByTheRules ≡ expected
 figures = same-cases ∙ computed

@@ -11,6 +11,7 @@ pub mod Haircut
 pub mod Shortfall
 pub mod Needs
 pub mod ExtremeLoss
+pub mod Obligations
 pub mod OneResult
 pub mod Quick
 pub mod Claim

@@ -36,6 +36,7 @@ use Rattle.feed.proofs as feed
 use Rattle.bookfile.proofs as bookfile
 use Rattle.report.proofs as report
 use Rattle.currency.proofs as currency
+use Rattle.exposure.proofs as exposure
 use Rattle.promises.specs.OneResult.{Promise, OneResultOnly}
 
 -- two ends of a write that didn't fail
@@ -218,6 +219,24 @@ of-closeout-close-out κs a x y u v p q = (one-result (p .0) (q .0), ap (λ room
 -- the record that sets a margin, or the refusal
 pub of-currency-margin : OneResultOnly currency.margin.ended currency.margin.Reads.Learnt
 of-currency-margin κs a x y u v p q = (one-result p q, refl)
+
+-- ---- exposure
+
+-- what a client's two figures come to, or 22
+pub of-exposure-intraday : OneResultOnly exposure.intraday.ended exposure.intraday.Reads.Learnt
+of-exposure-intraday κs a x y u v p q = (one-result p q, refl)
+
+-- and its four of the end of day
+pub of-exposure-end-of-day : OneResultOnly exposure.end_of_day.ended exposure.end_of_day.Reads.Learnt
+of-exposure-end-of-day κs a x y u v p q = (one-result p q, refl)
+
+-- the record with both, or the refusal
+pub of-exposure-margin : OneResultOnly exposure.margin.ended exposure.margin.Reads.Learnt
+of-exposure-margin κs a x y u v p q = (one-result p q, refl)
+
+-- 0 or 15 for a list of clients, and the room
+pub of-exposure-lists-exposures : OneResultOnly exposure.lists.exposures.ended exposure.lists.exposures.Reads.Learnt
+of-exposure-lists-exposures κs a x y u v p q = (one-result (p .0) (q .0), ap (λ room. (tt, (tt, (room, tt)))) (one-result (p .1) (q .1)))
 
 -- ---- report. The last three also print the text whose length they give: no promise can say what standard output holds.
 

@@ -1,7 +1,8 @@
--- Document 01, 'Figures to hold against it': P1 to P11, P8 as K1 of document 02 has it; K2's case, the table of 004 Annexure 5; K3's list of needs at P4; K7's tenth; and K9's charges. In paise.
+-- Document 01, 'Figures to hold against it': P1 to P11, P8 as K1 of document 02 has it; K2's case, the table of 004 Annexure 5; K3's list of needs at P4; K7's tenth; K9's charges; and K10's six clients. In paise.
 -- First the records of each case; then `cases`, the list of what is asked and the figures that the documents give; then what the rules say to it.
 use mathlib.Core.List.{List, [], _∷_, _++_, map}
 use Prim.Native.Nat.{ℕ, _+_, _*_}
+use lib.IntN.{ℤ, pos, negℤ}
 use lib.ListN.{replicate, take, drop}
 use Rattle.rows.specs.declared.Book.{Book}
 use Rattle.rows.specs.View.{blocked, deemed}
@@ -22,6 +23,7 @@ use Rattle.currency.specs.declared.Position.{Position}
 use Rattle.currency.specs.declared.Made.{Made}
 use Rattle.currency.specs.declared.Made.the-variants.{Given, Refused}
 use Rattle.currency.specs.Margins.{madeOf}
+use Rattle.exposure.specs.Exposures.{intradayOf}
 use Rattle.promises.specs.Sequences.{afterAll}
 
 -- Records, by serial, code, account named and amount: an opening (1 a TM, 2 a client), which names the CM or the TM; cash received (4), allocated (6)
@@ -137,6 +139,10 @@ full n = 4 ∷ 255 ∷ replicate n 0
 abbrev position : ℕ → Side → ℕ → Position
 position product side notional = record { product = product; side = side; notional = notional }
 
+-- a figure below 0, by its size
+abbrev below : ℕ → ℤ
+below n = negℤ (pos n)
+
 -- What is asked, after records that were carried out from a fresh book:
 pub data Question : Type 0 where
   -- what is blocked of CM, TM-1, A and B, and what each is deemed
@@ -162,6 +168,8 @@ pub data Question : Type 0 where
   marginOf : Position → Question
   -- K9: the same of a product's futures and of its short options, on a notional of 100,000
   ratesOf : ℕ → Question
+  -- K10: the refusal or 0 of a client's premium and loss, and its amount
+  exposureTo : ℤ → ℤ → Question
 
 -- what is asked, and the figures that a document gives for it
 pub record Case : Type 0 where
@@ -172,7 +180,7 @@ infix 20 _gives_
 abbrev _gives_ : Question → List ℕ → Case
 q gives l = record { asked = q; figures = l }
 
--- P1 to P11, Annexure 5, K3, K7 and K9, in one list
+-- P1 to P11, Annexure 5, K3, K7, K9 and K10, in one list
 unfoldable pub cases : List Case
 cases =
     (blockedAfter atP1 gives (0 ∷ 0 ∷ 0 ∷ 10000 ∷ []))  -- P1: B blocked 100, TM-1 0, CM 0
@@ -221,6 +229,12 @@ cases =
     ∷ (ratesOf 7 gives (0 ∷ 250 ∷ 0 ∷ 250 ∷ []))  -- interest rate 250, 250
     ∷ (ratesOf 8 gives (0 ∷ 15 ∷ 19 ∷ 0 ∷ []))  -- 91 day T-bill 15, none
     ∷ (ratesOf 9 gives (0 ∷ 500 ∷ 19 ∷ 0 ∷ []))  -- ONMIBOR 500, none
+    ∷ (exposureTo (below 20) (below 90) gives (0 ∷ 0 ∷ []))  -- K10: -20, -90 gives 0
+    ∷ (exposureTo (pos 50) (pos 30) gives (0 ∷ 80 ∷ []))  -- 50, 30 gives 80
+    ∷ (exposureTo (below 30) (pos 80) gives (0 ∷ 50 ∷ []))  -- -30, 80 gives 50
+    ∷ (exposureTo (pos 30) (below 80) gives (0 ∷ 0 ∷ []))  -- 30, -80 gives 0
+    ∷ (exposureTo (below 100) (pos 80) gives (0 ∷ 0 ∷ []))  -- -100, 80 gives 0
+    ∷ (exposureTo (pos 100) (below 80) gives (0 ∷ 20 ∷ []))  -- 100, -80 gives 20
     ∷ []
 
 -- What the rules say to a question. Of the book after the records, f of CM, TM-1, A and B,
@@ -263,6 +277,9 @@ marginIn p = madeIn (madeOf 0 0 0 (p ∷ []) 1)
 abbrev pub ratesIn : ℕ → List ℕ
 ratesIn product = marginIn (position product Futures 100000) ++ marginIn (position product Short 100000)
 
+abbrev pub exposureIn : ℤ → ℤ → List ℕ
+exposureIn premium loss = intradayOf premium loss .refusal ∷ intradayOf premium loss .amount ∷ []
+
 -- the book after records from a fresh book
 abbrev after : List Record → Book
 after rs = afterAll freshBook rs
@@ -280,6 +297,7 @@ byTheRules (needsAfter rs) = allNeeds (after rs) ++ each (needAt (after rs))
 byTheRules (collateralAfter rs i) = view (after rs) .collateral i ∷ []
 byTheRules (marginOf p) = marginIn p
 byTheRules (ratesOf product) = ratesIn product
+byTheRules (exposureTo premium loss) = exposureIn premium loss
 
 -- The one claim (`promises.Claim.figures`) is that these two lists are the same: what the rules say to each question, and the documents' figures.
 unfoldable pub casesByTheRules : List (List ℕ)

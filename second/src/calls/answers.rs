@@ -1,5 +1,5 @@
 //! What each call answers. "Every line has all its numbers at a refusal too",
-//! but for `read_at` and `margin`.
+//! but for `read_at`, `margin` and `margin_with`.
 
 use super::Call;
 use crate::book::Book;
@@ -8,6 +8,7 @@ use crate::closeout::close_out;
 use crate::day::{run, Closing};
 use crate::dayfile::{length, next_at, Next, Values};
 use crate::desk;
+use crate::desk::figures::{exposure, exposures, margin_with};
 use crate::mode::Mode;
 use crate::refusal::Refusal;
 use crate::table::Table;
@@ -40,6 +41,18 @@ pub fn answer(call: &Call) -> Answered {
         Call::Margin(serial, account, initial, positions) => {
             margin_record(*serial, *account, desk::margin(*initial, positions))
         }
+        Call::MarginWith(serial, account, initial, positions, figures) => {
+            let margin = margin_with(*initial, positions, figures);
+            margin_record(*serial, *account, margin)
+        }
+        Call::Exposure(figures) => match exposure(figures) {
+            Ok(amount) => told(0, &[amount]),
+            Err(refusal) => told(refusal as u8, &[0]),
+        },
+        Call::Exposures(each, list, room) => match exposures(usize::from(*each), list, *room) {
+            Ok(answers) => told(0, &answers),
+            Err(refusal) => told(refusal as u8, &lent(*room)),
+        },
     }
 }
 

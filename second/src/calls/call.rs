@@ -25,10 +25,15 @@ pub enum Call {
     TakeOver(Table),
     /// Serial, account, initial margin, positions.
     Margin(u16, u16, u64, Vec<Position>),
+    Exposure(Vec<i64>),
+    /// Serial, account, initial margin, positions, figures.
+    MarginWith(u16, u16, u64, Vec<Position>, Vec<i64>),
+    /// Figures a client, all clients' figures, room.
+    Exposures(u8, Vec<i64>, usize),
 }
 
 /// Every call by its number.
-pub const NAMES: [(u8, &str); 11] = [
+pub const NAMES: [(u8, &str); 14] = [
     (1, "is_sound"),
     (2, "standing"),
     (3, "carry_out"),
@@ -40,6 +45,9 @@ pub const NAMES: [(u8, &str); 11] = [
     (9, "needs"),
     (10, "take_over"),
     (11, "margin"),
+    (12, "exposure"),
+    (13, "margin_with"),
+    (14, "exposures"),
 ];
 
 impl Call {
@@ -60,6 +68,13 @@ impl Call {
                 let (serial, account) = (input.short()?, input.short()?);
                 Call::Margin(serial, account, input.long()?, input.positions()?)
             }
+            12 => Call::Exposure(input.figures()?),
+            13 => {
+                let (serial, account, initial) = (input.short()?, input.short()?, input.long()?);
+                let positions = input.positions()?;
+                Call::MarginWith(serial, account, initial, positions, input.figures()?)
+            }
+            14 => Call::Exposures(input.figures_each()?, input.signed_list()?, input.room()?),
             _ => return None,
         };
         Some(call)
@@ -83,6 +98,9 @@ impl Call {
             Call::Needs(..) => 9,
             Call::TakeOver(..) => 10,
             Call::Margin(..) => 11,
+            Call::Exposure(..) => 12,
+            Call::MarginWith(..) => 13,
+            Call::Exposures(..) => 14,
         }
     }
 
@@ -107,6 +125,7 @@ impl Call {
             Call::CloseOut(book, _, _) | Call::Needs(book, _) => Some(book),
             Call::TakeOver(book) => Some(book),
             Call::ReadAt(..) | Call::Write(..) | Call::Margin(..) => None,
+            Call::Exposure(..) | Call::MarginWith(..) | Call::Exposures(..) => None,
         }
     }
 
@@ -142,15 +161,41 @@ impl Call {
                 lay_length(out, *room);
             }
             Call::Needs(_, room) => lay_length(out, *room),
+            _ => self.lay_desk(out),
+        }
+    }
+
+    /// The currency desk's, which take no book.
+    fn lay_desk(&self, out: &mut Vec<u8>) {
+        match self {
             Call::Margin(serial, account, initial, positions) => {
                 lay_margin(out, [*serial, *account], *initial, positions);
             }
+            Call::Exposure(figures) => lay_signed(out, figures),
+            Call::MarginWith(serial, account, initial, positions, figures) => {
+                lay_margin(out, [*serial, *account], *initial, positions);
+                lay_signed(out, figures);
+            }
+            Call::Exposures(each, figures, room) => {
+                out.push(*each);
+                lay_signed(out, figures);
+                lay_length(out, *room);
+            }
+            _ => {}
         }
     }
 }
 
 fn lay_length(out: &mut Vec<u8>, length: usize) {
     out.extend_from_slice(&(length as u32).to_be_bytes());
+}
+
+/// "Two's complement numbers of 8."
+fn lay_signed(out: &mut Vec<u8>, figures: &[i64]) {
+    lay_length(out, figures.len());
+    for figure in figures {
+        out.extend_from_slice(&figure.to_be_bytes());
+    }
 }
 
 fn lay_margin(out: &mut Vec<u8>, names: [u16; 2], initial: u64, positions: &[Position]) {

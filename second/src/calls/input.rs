@@ -86,6 +86,22 @@ impl<'a> Input<'a> {
         (0..length).map(|_| self.long()).collect()
     }
 
+    /// "Length 4 (two or four), then so many two's complement numbers of 8."
+    pub fn figures(&mut self) -> Option<Vec<i64>> {
+        let figures = self.signed_list()?;
+        matches!(figures.len(), 2 | 4).then_some(figures)
+    }
+
+    /// "Figures a client 1 (2 or 4)."
+    pub fn figures_each(&mut self) -> Option<u8> {
+        self.byte().filter(|each| matches!(each, 2 | 4))
+    }
+
+    pub fn signed_list(&mut self) -> Option<Vec<i64>> {
+        let list = self.list()?.into_iter();
+        Some(list.map(|figure| figure as i64).collect())
+    }
+
     /// "Product 1, side 1, notional 8"; a side above 3 is no call.
     pub fn positions(&mut self) -> Option<Vec<Position>> {
         let length = self.length(LIST_MOST)?;

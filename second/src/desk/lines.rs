@@ -1,6 +1,7 @@
-//! The program `margins`: one client's positions as lines of text.
+//! The program `margins`: one client's positions and figures as lines of text.
 
-use super::{margin, record, Position, Side, PRODUCTS, SIDES};
+use super::figures::margin_with;
+use super::{record, Position, Side, PRODUCTS, SIDES};
 use crate::refusal::Refusal;
 use crate::Output;
 use std::ffi::OsString;
@@ -29,8 +30,12 @@ pub fn margins(words: &[OsString], input: &dyn Fn() -> Output) -> Output {
     if text.len() > MOST {
         return Err("margins: standard input is too long".to_string());
     }
-    let positions = positions(&text)?;
-    answered(&asked, margin(asked.initial, &positions))
+    let sheet = sheet(&text)?;
+    let figures = sheet.figures.unwrap_or_default();
+    answered(
+        &asked,
+        margin_with(asked.initial, &sheet.positions, &figures),
+    )
 }
 
 fn answered(asked: &Asked, margin: Result<u64, Refusal>) -> Output {
@@ -72,18 +77,51 @@ fn number(word: &[u8]) -> Option<u64> {
     Some(sum)
 }
 
+#[derive(Default)]
+struct Sheet {
+    positions: Vec<Position>,
+    /// "At most once."
+    figures: Option<Vec<i64>>,
+}
+
+impl Sheet {
+    /// None where the line is of no known form, or the second of figures.
+    fn take(&mut self, line: &[u8]) -> Option<()> {
+        match line.strip_prefix(b"figures ") {
+            Some(_) if self.figures.is_some() => return None,
+            Some(words) => self.figures = Some(figures(words)?),
+            None => self.positions.push(position(line)?),
+        }
+        Some(())
+    }
+}
+
 /// The first line that is of no known form is told by its number, from 1.
-fn positions(text: &[u8]) -> Result<Vec<Position>, String> {
-    let mut positions = Vec::new();
+fn sheet(text: &[u8]) -> Result<Sheet, String> {
+    let mut sheet = Sheet::default();
     for (place, line) in text.split(|&byte| byte == b'\n').enumerate() {
         if line.is_empty() || line.starts_with(b"#") {
             continue;
         }
-        let position = position(line);
         let bad = || format!("margins: line {} is no position", place + 1);
-        positions.push(position.ok_or_else(bad)?);
+        sheet.take(line).ok_or_else(bad)?;
     }
-    Ok(positions)
+    Ok(sheet)
+}
+
+fn figures(words: &[u8]) -> Option<Vec<i64>> {
+    let words = words.split(|&byte| byte == b' ');
+    let figures: Option<Vec<i64>> = words.map(figure).collect();
+    figures.filter(|figures| matches!(figures.len(), 2 | 4))
+}
+
+/// "A decimal number with `-` before it if it is below 0; one that does not fit
+/// .. counts as the largest or the least."
+fn figure(word: &[u8]) -> Option<i64> {
+    match word.strip_prefix(b"-") {
+        None => Some(i64::try_from(number(word)?).unwrap_or(i64::MAX)),
+        Some(size) => Some(0i64.saturating_sub_unsigned(number(size)?)),
+    }
 }
 
 /// `PRODUCT SIDE NOTIONAL`, "parted by single spaces, nothing before the first

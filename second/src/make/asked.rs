@@ -7,6 +7,7 @@ mod books;
 mod breaches;
 pub mod desk;
 mod endings;
+pub mod figures;
 mod lists;
 mod overs;
 mod pieces;

@@ -1,6 +1,7 @@
 //! Made-up runs of the program `margins`: its words and its lines.
 
 use super::asked::desk::Case;
+use super::asked::figures::{good, EDGES};
 use crate::desk::lines::{line, MOST};
 use crate::rng::Rng;
 
@@ -14,6 +15,8 @@ pub enum Odd {
     LeadingZeros,
     /// Numbers of more digits than any word holds.
     Huge,
+    /// A line of figures: two, four, out of range, past their type.
+    Figures,
     BadLine,
     /// As long as it may be, and a byte longer.
     Longest,
@@ -22,12 +25,13 @@ pub enum Odd {
     Help,
 }
 
-pub const ODDS: [Odd; 10] = [
+pub const ODDS: [Odd; 11] = [
     Odd::Plain,
     Odd::Remarks,
     Odd::NoLastNewline,
     Odd::LeadingZeros,
     Odd::Huge,
+    Odd::Figures,
     Odd::BadLine,
     Odd::Longest,
     Odd::TooLong,
@@ -42,7 +46,7 @@ pub struct Sheet {
 }
 
 /// Lines that are no position.
-const BAD_LINES: [&[u8]; 22] = [
+const BAD_LINES: [&[u8]; 34] = [
     b"USDINR",
     b"USDINR futures",
     b"USDINR futures 5 6",
@@ -65,6 +69,18 @@ const BAD_LINES: [&[u8]; 22] = [
     b" # a remark",
     b"USDINR futures \xFF",
     b"\x00",
+    b"figures",
+    b"figures ",
+    b"figures 1",
+    b"figures 1 2 3",
+    b"figures 1 2 3 4 5",
+    b"figures +1 2",
+    b"figures - 2",
+    b"figures --1 2",
+    b"figures 1  2",
+    b"figures 1 2 ",
+    b"Figures 1 2",
+    b"figures 1 2x",
 ];
 
 /// Words that are none of the program's.
@@ -137,12 +153,11 @@ fn bend(odd: Odd, words: &mut Vec<String>, lines: &mut Vec<Vec<u8>>, rng: &mut R
                 _ => lines.insert(at, format!("USDINR long {huge}").into_bytes()),
             }
         }
-        Odd::BadLine => {
-            lines.insert(at, rng.pick(&BAD_LINES).to_vec());
-            if rng.one_in(3) {
-                lines.push(rng.pick(&BAD_LINES).to_vec());
-            }
+        Odd::Figures => {
+            let words = figure_words(rng);
+            lines.insert(at, format!("figures {words}").into_bytes());
         }
+        Odd::BadLine => put_bad_line(at, lines, rng),
         Odd::BadWords => {
             let bad = rng.pick(&BAD_WORDS);
             *words = bad.iter().map(|word| word.to_string()).collect();
@@ -150,6 +165,39 @@ fn bend(odd: Odd, words: &mut Vec<String>, lines: &mut Vec<Vec<u8>>, rng: &mut R
         Odd::Help => words.insert(0, "--help".to_string()),
         _ => {}
     }
+}
+
+/// One or two, or figures twice.
+fn put_bad_line(at: usize, lines: &mut Vec<Vec<u8>>, rng: &mut Rng) {
+    if rng.one_in(8) {
+        lines.insert(at, b"figures 1 2".to_vec());
+        lines.insert(0, b"figures 1 2".to_vec());
+        return;
+    }
+    lines.insert(at, rng.pick(&BAD_LINES).to_vec());
+    if rng.one_in(3) {
+        lines.push(rng.pick(&BAD_LINES).to_vec());
+    }
+}
+
+/// Two or four, one of them at an edge or past its type.
+fn figure_words(rng: &mut Rng) -> String {
+    let many = rng.pick(&[2, 4]);
+    let mut words: Vec<String> = good(many, rng).iter().map(i64::to_string).collect();
+    let edge = rng.pick(&EDGES).to_string();
+    let huge = [
+        "99999999999999999999999",
+        "-99999999999999999999999",
+        "-007",
+    ];
+    let drawn = rng.pick(&huge).to_string();
+    let place = rng.below(many as u64) as usize;
+    match rng.below(4) {
+        0 => words[place] = edge,
+        1 => words[place] = drawn,
+        _ => {}
+    }
+    words.join(" ")
 }
 
 /// A remark at the end fills it up.

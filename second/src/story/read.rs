@@ -4,6 +4,7 @@
 use super::*;
 use crate::calls::Calls;
 use crate::desk::lines::side_word;
+use crate::desk::{Position, PRODUCTS};
 use crate::text::{hex, read_from};
 
 /// A story of the whole input; what is no call stands at its end as bytes.
@@ -79,8 +80,21 @@ fn call_line(call: &Call, serial: u16) -> String {
                 position_words(positions)
             )
         }
+        Call::MarginWith(serial, account, initial, positions, figures) => {
+            let (figures, positions) = (figure_words(figures, ","), position_words(positions));
+            format!("{name} {serial} {account} {initial} {figures} {positions}")
+        }
+        Call::Exposure(figures) => format!("{name} {}", figure_words(figures, ",")),
+        Call::Exposures(each, figures, room) => {
+            format!("{name} {each} room {room} {}", figure_words(figures, " "))
+        }
     };
     line.trim_end().to_string()
+}
+
+fn figure_words(figures: &[i64], between: &str) -> String {
+    let words: Vec<String> = figures.iter().map(i64::to_string).collect();
+    words.join(between)
 }
 
 fn position_words(positions: &[Position]) -> String {

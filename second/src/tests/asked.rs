@@ -7,7 +7,7 @@ use crate::difference::first_difference;
 use crate::holds::Holds;
 use crate::looks::Looks;
 use crate::make::asked::desk::Case;
-use crate::make::asked::{any_sound, make, unsound, whole_round, with_steps, ENDINGS};
+use crate::make::asked::{any_sound, figures, make, unsound, whole_round, with_steps, ENDINGS};
 use crate::margins::Margins;
 use crate::moves::Moves;
 use crate::rng::Rng;
@@ -56,11 +56,12 @@ fn a_whole_round_meets_everything() {
         }
         assert_eq!(met.missed(), Vec::<String>::new());
     }
-    let outcomes = 2 + 3 + 15 + 17 + 4 + 6 + 5 + 4 + 3 + 6;
-    let edges = 5 + 5 + 6 + 5 + 5 + 5 + 8 + 3 + 3 + 3 + 8;
+    let outcomes = 2 + 3 + 15 + 17 + 4 + 6 + 5 + 4 + 3 + 6 + 2 + 7 + 2;
+    let edges = 5 + 5 + 6 + 5 + 5 + 5 + 8 + 3 + 3 + 3 + 8 + 12;
     let taken_over = 2 + 3 + 6;
     let faults = Fault::all(Rule::Old).len() + Fault::all(Rule::New).len();
-    let all = outcomes + edges + taken_over + faults + ENDINGS.len() + Case::all().len();
+    let all = outcomes + edges + taken_over + faults + ENDINGS.len();
+    let all = all + Case::all().len() + figures::Case::all().len();
     assert_eq!(Met::default().missed().len(), all);
 }
 

@@ -10,6 +10,7 @@ mod days;
 mod desk;
 mod faults;
 mod figures;
+mod figures_of_clients;
 mod forms;
 mod haircut;
 mod holds;

@@ -91,7 +91,7 @@ fn two(wrongs: &[Wrong], is_wrong: bool) -> Vec<Case> {
     pairs.into_iter().map(case).collect()
 }
 
-fn wrong(position: &Position) -> Wrong {
+pub fn wrong(position: &Position) -> Wrong {
     let is_past = position.notional > CEILING;
     let product = PRODUCTS.get(usize::from(position.product));
     let listed = product.map(|&(_, futures, short)| rate(futures, short, position.side).is_some());

@@ -1,11 +1,11 @@
 //! What made-up calls aim at.
 
-use super::{books, breaches, desk, lists, overs, pieces, records};
+use super::{books, breaches, desk, figures, lists, overs, pieces, records};
 use crate::calls::Call;
 use crate::dayfile::*;
 use crate::rng::Rng;
 use crate::rule::Rule;
-use crate::table::{Fault, Table};
+use crate::table::{Fault, Table, CLIENT, CM, CP, TRADING};
 
 #[derive(Clone, Copy)]
 pub enum Aim {
@@ -35,6 +35,8 @@ pub enum Aim {
     /// A record with this code and refusal, or carried out, under a shortfall.
     Under(u8, u8),
     CodeFourteen,
+    /// A paisa of securities with nothing free: sort, whether it costs one, mode.
+    Paisa(u64, bool, u64),
     /// A book with a shortfall of a paisa, or covered to the paisa.
     Short(u64),
     StandingShort,
@@ -53,6 +55,7 @@ pub enum Aim {
     FaultOver(Fault),
     /// The currency desk's.
     Desk(desk::Case),
+    Figures(figures::Case),
 }
 
 /// The refusals of a record that is handed over as values, and 0.
@@ -82,6 +85,7 @@ impl Aim {
         aims.extend(Aim::without_book());
         aims.extend(Aim::with_book());
         aims.extend(desk::Case::all().into_iter().map(Aim::Desk));
+        aims.extend(figures::Case::all().into_iter().map(Aim::Figures));
         aims
     }
 
@@ -116,6 +120,10 @@ impl Aim {
         aims.extend([Aim::AnyValues; 12]);
         aims.extend(UNDER.map(|(code, refusal)| Aim::Under(code, refusal)));
         aims.extend([Aim::CodeFourteen, Aim::Short(0), Aim::Short(1)]);
+        for costs in [true, false] {
+            aims.extend([CM, TRADING, CLIENT, CP].map(|sort| Aim::Paisa(sort, costs, 0)));
+            aims.extend([CM, TRADING].map(|sort| Aim::Paisa(sort, costs, 1)));
+        }
         aims.extend([Aim::StandingShort; 4]);
         aims.extend(pieces::SPOTS.map(Aim::NextAt));
         for day in pieces::DAYS {
@@ -138,11 +146,7 @@ impl Aim {
             Aim::Garbage => asked_anyhow(books::garbage(rng), rng),
             Aim::OneWord => asked_anyhow(books::one_word_anew(Rule::New, rng), rng),
             Aim::Sound => Call::IsSound(books::sound(rng)),
-            Aim::LastSerial => {
-                let mut book = books::sound(rng);
-                book.serial = u16::MAX;
-                Call::IsSound(book)
-            }
+            Aim::LastSerial => Call::IsSound(books::with_serial(u16::MAX, rng)),
             Aim::Over(over) => Call::IsSound(overs::book(over, rng)),
             Aim::OverElsewhere(over) => asked_elsewhere(overs::book(over, rng), rng),
             Aim::Standing(who) => lists::standing(who, rng),
@@ -152,6 +156,7 @@ impl Aim {
             Aim::AnyValues => any_record(books::sound(rng), rng),
             Aim::Under(code, refusal) => records::under_shortfall(code, refusal, rng),
             Aim::CodeFourteen => records::code_14(rng),
+            Aim::Paisa(sort, costs, mode) => records::a_paisa(sort, costs, mode, rng),
             Aim::Short(by) => Call::IsSound(books::short_by(by, rng)),
             Aim::StandingShort => lists::standing_short(rng),
             Aim::Next(refusal) => pieces::next_with(refusal, rng),
@@ -164,6 +169,7 @@ impl Aim {
             Aim::Needs(length) => lists::needs(length, rng),
             Aim::TakeOver(over) => Call::TakeOver(overs::book(over, rng)),
             Aim::Desk(case) => case.call(rng),
+            Aim::Figures(case) => case.call(rng),
             Aim::FaultOver(fault) => Call::TakeOver(breaches::with(fault, Rule::Old, rng)),
         }
     }

@@ -11,6 +11,13 @@ pub fn sound(rng: &mut Rng) -> Table {
     sound_by(Rule::New, rng)
 }
 
+pub fn with_serial(serial: u16, rng: &mut Rng) -> Table {
+    Table {
+        serial,
+        ..sound(rng)
+    }
+}
+
 /// A book that is sound by this rule.
 pub fn sound_by(rule: Rule, rng: &mut Rng) -> Table {
     let mut table = match rng.below(12) {

@@ -157,7 +157,7 @@ pub fn good(rng: &mut Rng) -> Position {
     }
 }
 
-fn few(rng: &mut Rng) -> Vec<Position> {
+pub fn few(rng: &mut Rng) -> Vec<Position> {
     (0..rng.below(6)).map(|_| good(rng)).collect()
 }
 
@@ -169,7 +169,7 @@ fn among(position: Position, rng: &mut Rng) -> Vec<Position> {
     positions
 }
 
-fn at_fault(wrong: Wrong, rng: &mut Rng) -> Position {
+pub fn at_fault(wrong: Wrong, rng: &mut Rng) -> Position {
     let mut position = good(rng);
     let past = rng.pick(&[CEILING + 1, 1 << 63, u64::MAX]);
     if let Wrong::Product | Wrong::ProductAndNotional = wrong {

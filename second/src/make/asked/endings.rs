@@ -2,7 +2,7 @@
 //! and calls behind it that mustn't be answered.
 
 use super::desk::good;
-use super::{any_call, books};
+use super::{any_call, books, figures};
 use crate::bookfile::{self, LENGTH, PLACE, PLACES};
 use crate::calls::{Call, LIST_MOST, PIECE_MOST};
 use crate::dayfile::Values;
@@ -12,7 +12,7 @@ type Ending = (&'static str, fn(&mut Vec<u8>, &mut Rng));
 
 /// An odd number, so that inputs fed in small pieces (one in four) have every
 /// ending.
-pub const ENDINGS: [Ending; 23] = [
+pub const ENDINGS: [Ending; 29] = [
     ("the end", |_, _| {}),
     ("an unknown call", unknown),
     ("call 1 cut", |out, rng| cut(1, out, rng)),
@@ -27,7 +27,13 @@ pub const ENDINGS: [Ending; 23] = [
     ("call 10 cut", |out, rng| cut(10, out, rng)),
     ("call 11 cut", |out, rng| cut(11, out, rng)),
     ("a call of the old rule", of_old_rule),
+    ("call 12 cut", |out, rng| cut(12, out, rng)),
+    ("call 13 cut", |out, rng| cut(13, out, rng)),
+    ("call 14 cut", |out, rng| cut(14, out, rng)),
     ("a side above 3", no_side),
+    ("figures neither two nor four", no_figures),
+    ("neither two nor four a client", no_each),
+    ("too many figures", long_figures),
     ("a piece too long", long_piece),
     ("a room too long", long_room),
     ("a list too long", long_list),
@@ -135,6 +141,28 @@ fn no_side(out: &mut Vec<u8>, rng: &mut Rng) {
     Call::Margin(1, 2, 3, positions).lay(out);
     let side = out.len() - 9;
     out[side] = rng.pick(&[4, 5, 128, 255]);
+    good_calls(out, rng);
+}
+
+fn no_figures(out: &mut Vec<u8>, rng: &mut Rng) {
+    let many = rng.pick(&[0, 1, 3, 5, 8]);
+    let figures = figures::good(many, rng);
+    let call = match rng.below(2) {
+        0 => Call::Exposure(figures),
+        _ => Call::MarginWith(1, 2, 3, vec![good(rng)], figures),
+    };
+    call.lay(out);
+    good_calls(out, rng);
+}
+
+fn long_figures(out: &mut Vec<u8>, rng: &mut Rng) {
+    Call::Exposures(rng.pick(&[2, 4]), vec![0; LIST_MOST + 1], 4).lay(out);
+    good_calls(out, rng);
+}
+
+fn no_each(out: &mut Vec<u8>, rng: &mut Rng) {
+    let each = rng.pick(&[0, 1, 3, 5, 255]);
+    Call::Exposures(each, figures::good(4, rng), 4).lay(out);
     good_calls(out, rng);
 }
 

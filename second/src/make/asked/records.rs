@@ -1,14 +1,15 @@
 //! Records as values: with every refusal, and for the writer.
 
 use super::books;
-use crate::book::{Book, CEILING};
+use crate::book::{Book, CEILING, KINDS};
 use crate::calls::Call;
 use crate::carry::{carry, Answer};
 use crate::dayfile::*;
 use crate::make::maker::Maker;
 use crate::make::mixed::any_step;
 use crate::rng::Rng;
-use crate::table::Table;
+use crate::rule::Rule;
+use crate::table::{self, Table, ALLOCATED, CLIENT, CP, MODE, SECURITIES, TRADING};
 
 /// How many steps are tried on one book, and how many books.
 const STEPS: usize = 120;
@@ -31,6 +32,36 @@ pub fn under_shortfall(code: u8, refusal: u8, rng: &mut Rng) -> Call {
         })
     });
     sought(found)
+}
+
+/// K7: a paisa of securities, with nothing free: it costs nothing, or a paisa.
+/// A member that is handed over with its mode off may ask for it too.
+pub fn a_paisa(sort: u64, costs: bool, mode: u64, rng: &mut Rng) -> Call {
+    let mut book = Table::fresh();
+    for (sort, tm) in [(TRADING, 0), (CLIENT, 1), (CP, 0)] {
+        books::append(&mut book, books::row(sort, 1, tm));
+    }
+    let place = &mut book.places[sort as usize];
+    let securities = 10 * rng.between(1, 9_000) + u64::from(!costs);
+    let cash = rng.below(1_000);
+    for (word, amount) in [(ALLOCATED, cash), (SECURITIES, securities)] {
+        place[word] = amount;
+        place[word - KINDS] = amount;
+    }
+    let own = books::collateral(place, Rule::New);
+    place[table::MARGIN] = own + rng.below(2) * rng.below(1_000);
+    place[MODE] = mode;
+    books::settle(&mut book, Rule::New);
+    let mut amounts = [0; 6];
+    amounts[3] = 1;
+    let record = Values {
+        serial: book.serial,
+        code: RELEASE,
+        mark: 1 << 3,
+        account: sort as u16,
+        amounts,
+    };
+    Call::CarryOut(book, record)
 }
 
 /// A record with the first code that there isn't.

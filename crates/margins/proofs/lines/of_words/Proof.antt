@@ -14,11 +14,35 @@ returns c = search needs
 add-from : tie.Need-add-from
 add-from c = search needs
 
-up-to-requires-2 : tie.Need-up-to-requires-2
-up-to-requires-2 c κs = search needs
+slice-aggregate-same : tie.Need-slice-aggregate-same
+slice-aggregate-same c = sym (length-take-le _ _ (search needs))
+
+slice-aggregate-same-2 : tie.Need-slice-aggregate-same-2
+slice-aggregate-same-2 c = search needs
+
+same-requires : tie.Need-same-requires
+same-requires c κs = search needs
+
+sub-of-words : tie.Need-sub-of-words
+sub-of-words c = search needs
+
+part-of-words-start : tie.Need-part-of-words-start
+part-of-words-start c = search needs
+
+part-of-words-end : tie.Need-part-of-words-end
+part-of-words-end c = search needs
+
+of-words-requires : tie.Need-of-words-requires
+of-words-requires c κs = search needs
 
 returns-2 : tie.Need-returns-2
 returns-2 c = search needs
+
+up-to-requires-2 : tie.Need-up-to-requires-2
+up-to-requires-2 c κs = search needs
+
+returns-3 : tie.Need-returns-3
+returns-3 c = search needs
 
 add-last : tie.Need-add-last
 add-last c = search needs
@@ -47,8 +71,8 @@ part-position-end-2 c = search needs
 position-requires : tie.Need-position-requires
 position-requires c κs = search needs
 
-returns-3 : tie.Need-returns-3
-returns-3 c = search needs
+returns-4 : tie.Need-returns-4
+returns-4 c = search needs
 
 pub of-words-spec : {M : Type 1} → statement M
 of-words-spec =
@@ -57,8 +81,16 @@ of-words-spec =
     up-to-requires
     returns
     add-from
-    up-to-requires-2
+    slice-aggregate-same
+    slice-aggregate-same-2
+    same-requires
+    sub-of-words
+    part-of-words-start
+    part-of-words-end
+    of-words-requires
     returns-2
+    up-to-requires-2
+    returns-3
     add-last
     slice-aggregate-position
     sub-position
@@ -68,4 +100,4 @@ of-words-spec =
     part-position-start-2
     part-position-end-2
     position-requires
-    returns-3)
+    returns-4)

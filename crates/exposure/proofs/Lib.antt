@@ -1,0 +1,5 @@
+pub mod Parts
+pub mod Joining
+pub mod Listing
+pub mod Rising
+pub mod JoinGiven

@@ -1,0 +1,4 @@
+pub mod Exposures
+pub mod Joined
+pub mod Lists
+pub mod Inner
