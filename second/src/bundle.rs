@@ -38,11 +38,11 @@ fn days(bundle: &[u8]) -> Result<Vec<&[u8]>, String> {
     let mut left = bundle;
     while !left.is_empty() {
         let cut = || format!("bundle: day {} is cut short", days.len() + 1);
-        let (length, rest) = left.split_first_chunk::<4>().ok_or_else(cut)?;
-        let length = u32::from_be_bytes(*length) as usize;
-        let (day, rest) = rest.split_at_checked(length).ok_or_else(cut)?;
+        let length = left.get(..4).and_then(|four| four.try_into().ok());
+        let length = u32::from_be_bytes(length.ok_or_else(cut)?) as usize;
+        let day = left[4..].get(..length).ok_or_else(cut)?;
         days.push(day);
-        left = rest;
+        left = &left[4 + length..];
     }
     Ok(days)
 }

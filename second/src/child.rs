@@ -56,7 +56,10 @@ pub fn ask_held(program: &str, arguments: &[&Path]) -> io::Result<Output> {
         if start.elapsed() > PATIENCE {
             child.kill()?;
             child.wait()?;
-            return Err(io::Error::other("it waits for standard input"));
+            return Err(io::Error::new(
+                io::ErrorKind::Other,
+                "it waits for standard input",
+            ));
         }
         thread::sleep(Duration::from_millis(1));
     }

@@ -46,7 +46,7 @@ enum Losses {
     NoArgument,
 }
 
-struct Programs<'a> {
+pub struct Programs<'a> {
     day: Option<&'a str>,
     standings: Option<&'a str>,
     closeouts: Option<&'a str>,
@@ -289,9 +289,9 @@ fn one_close_out(
     let want = given.map_or(Vec::new(), |bytes| print::closeouts(&made.bytes, bytes));
     let words: Vec<&Path> = argument.as_deref().into_iter().collect();
     let got = ask(program, &words, &made.bytes, made.pace);
-    let told = got
-        .as_ref()
-        .is_ok_and(|got| got.stderr.starts_with(print::CANNOT_READ.as_bytes()));
+    let told = got.as_ref().map_or(false, |got| {
+        got.stderr.starts_with(print::CANNOT_READ.as_bytes())
+    });
     settle(&programs.folder, made, "closeouts", &want, got)?;
     if told == given.is_some() {
         return Err(format!(

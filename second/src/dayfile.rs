@@ -191,11 +191,11 @@ impl Record<'_> {
 
 /// Eight bytes for each number, high byte first.
 pub fn numbers(bytes: &[u8]) -> impl Iterator<Item = u64> + '_ {
-    bytes
-        .as_chunks::<8>()
-        .0
-        .iter()
-        .map(|eight| u64::from_be_bytes(*eight))
+    bytes.chunks_exact(8).map(|eight| {
+        let mut number = [0; 8];
+        number.copy_from_slice(eight);
+        u64::from_be_bytes(number)
+    })
 }
 
 /// Lays a record down with no check: bad ones must be writable for comparing.

@@ -7,6 +7,7 @@ pub mod lines;
 use crate::book::CEILING;
 use crate::dayfile::{Values, MARGIN, SET_MARGIN};
 use crate::refusal::Refusal;
+use crate::rule::rounded_up;
 
 /// "Rates per 100,000 of notional, futures then short options"; None where
 /// options are not listed.
@@ -69,7 +70,7 @@ impl Position {
         if self.notional > CEILING {
             return Err(Refusal::PastLimit);
         }
-        Ok((self.notional * rate).div_ceil(per))
+        Ok(rounded_up(self.notional * rate, per))
     }
 }
 

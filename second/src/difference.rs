@@ -113,9 +113,9 @@ fn lines(text: &[u8]) -> Vec<&[u8]> {
 fn record_hex(piece: &[u8], place: usize) -> String {
     let mut reader = Reader::new(piece);
     for _ in 0..place {
-        let Next::Record(_) = reader.next() else {
+        if !matches!(reader.next(), Next::Record(_)) {
             return "(none)".to_string();
-        };
+        }
     }
     let start = reader.place();
     match reader.next() {

@@ -111,8 +111,9 @@ impl<'a> Holds<'a> {
 
     /// Whether the answer is the one of the rules; 17 is for nothing else.
     pub fn after(&mut self, answer: &Answer, book: &Book) -> bool {
-        let Next::Record(record) = self.reader.next() else {
-            return false;
+        let record = match self.reader.next() {
+            Next::Record(record) => record,
+            _ => return false,
         };
         let fits = match good_amounts(&record, answer) {
             Some(amounts) => self.fits(answer, &record, &amounts),

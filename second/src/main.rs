@@ -172,25 +172,26 @@ fn seed(word: &str) -> Result<u64, String> {
 }
 
 fn make_command(words: &[String]) -> Output {
-    let [kind, number] = words else {
-        return Err("make: a kind and a seed are expected".to_string());
+    let (kind, number) = match words {
+        [kind, number] => (kind, number),
+        _ => return Err("make: a kind and a seed are expected".to_string()),
     };
     let kind = make::kind_named(kind).ok_or_else(|| format!("make: unknown kind `{kind}`"))?;
     Ok(make::make(kind, seed(number)?, make::NO_LIMIT))
 }
 
 fn make_calls_command(words: &[String]) -> Output {
-    let [number] = words else {
-        return Err("make-calls: a seed is expected".to_string());
-    };
-    Ok(make::asked::make(seed(number)?).bytes)
+    match words {
+        [number] => Ok(make::asked::make(seed(number)?).bytes),
+        _ => Err("make-calls: a seed is expected".to_string()),
+    }
 }
 
 fn losses_command(words: &[String]) -> Output {
-    let [number] = words else {
-        return Err("losses: a seed is expected".to_string());
+    let seed = match words {
+        [number] => seed(number)?,
+        _ => return Err("losses: a seed is expected".to_string()),
     };
-    let seed = seed(number)?;
     let (book, _) = day::run_fresh(&day_file()?);
     Ok(make::losses::make(&book, seed))
 }

@@ -87,8 +87,9 @@ impl<'a> Margins<'a> {
 
     /// Whether 13 is given to rising margins alone, and by its old line too.
     pub fn after(&mut self, answer: &Answer, book: &Book) -> bool {
-        let Next::Record(record) = self.reader.next() else {
-            return false;
+        let record = match self.reader.next() {
+            Next::Record(record) => record,
+            _ => return false,
         };
         let fits = match new_margin(&record, answer) {
             Some(margin) => self.fits(answer, book, margin),

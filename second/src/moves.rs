@@ -80,8 +80,9 @@ impl Moves {
         let (sort, deed) = (book.rows[account].sort, self.deed(answer, now));
         let above = book.answers_for(account);
         let tm = if sort == Sort::Tm { account } else { above };
-        let Some(moved) = whose(moved, tm) else {
-            return false;
+        let moved = match whose(moved, tm) {
+            Some(moved) => moved,
+            None => return false,
         };
         let mut kinds = vec![Kind::Moved(sort, deed, moved)];
         if let Some(edge) = self.edge(account, now) {

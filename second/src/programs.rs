@@ -34,8 +34,13 @@ fn table_of(program: &str, path: &OsString) -> Result<Table, String> {
 
 /// "1 and the same book": then TO stays as it was.
 pub fn take_over(words: &[OsString]) -> Output {
-    let [from, to] = words else {
-        return Err("take_over: a book to take over and where to keep it are expected".to_string());
+    let (from, to) = match words {
+        [from, to] => (from, to),
+        _ => {
+            return Err(
+                "take_over: a book to take over and where to keep it are expected".to_string(),
+            )
+        }
     };
     match table_of("take_over", from)?.taken_over() {
         None => Ok(b"1\n".to_vec()),
@@ -47,7 +52,7 @@ pub fn take_over(words: &[OsString]) -> Output {
 }
 
 pub fn day(words: &[OsString], day_file: Reading) -> Output {
-    let checks = words.first().is_some_and(|word| word == "--check");
+    let checks = words.first().map_or(false, |word| word == "--check");
     let words = &words[usize::from(checks)..];
     let (from, to) = match words {
         [] => (None, None),
@@ -55,8 +60,9 @@ pub fn day(words: &[OsString], day_file: Reading) -> Output {
         [from, to] => (Some(from), Some(to)),
         _ => return Err(usage()),
     };
-    let Some(book) = start("day", from)? else {
-        return Ok(print::UNSOUND.to_vec());
+    let book = match start("day", from)? {
+        Some(book) => book,
+        None => return Ok(print::UNSOUND.to_vec()),
     };
     let piece = day_file()?;
     let (lines, closing, after) = if checks {
@@ -65,9 +71,10 @@ pub fn day(words: &[OsString], day_file: Reading) -> Output {
         print::day_parts(book, &piece, |_, _| {})
     };
     if let Some(to) = to {
-        keep("day", to, &Table::of(&after)).inspect_err(|_| {
+        if let Err(error) = keep("day", to, &Table::of(&after)) {
             let _ = put_out(&lines);
-        })?;
+            return Err(error);
+        }
     }
     Ok([lines, closing].concat())
 }

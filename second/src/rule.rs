@@ -8,13 +8,18 @@ pub enum Rule {
     New,
 }
 
+/// A part of an amount, a broken paisa counted whole.
+pub fn rounded_up(amount: u64, per: u64) -> u64 {
+    amount / per + u64::from(amount % per > 0)
+}
+
 impl Rule {
     /// "Allocated government securities less a tenth, the tenth rounded up to
     /// a paisa": of the account's whole amount.
     pub fn counted(self, securities: u64) -> u64 {
         match self {
             Rule::Old => securities,
-            Rule::New => securities - securities.div_ceil(10),
+            Rule::New => securities - rounded_up(securities, 10),
         }
     }
 
@@ -22,7 +27,7 @@ impl Rule {
     pub fn face(self, counted: u64) -> u64 {
         match self {
             Rule::Old => counted,
-            Rule::New => (10 * counted).div_ceil(9),
+            Rule::New => rounded_up(10 * counted, 9),
         }
     }
 }

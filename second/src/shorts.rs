@@ -179,8 +179,9 @@ impl<'a> Shorts<'a> {
     /// Whether the shortfall rose by codes 12 and 13 alone, and neither got a
     /// refusal past 7.
     pub fn after(&mut self, answer: &Answer, book: &Book) -> bool {
-        let Next::Record(record) = self.reader.next() else {
-            return false;
+        let record = match self.reader.next() {
+            Next::Record(record) => record,
+            _ => return false,
         };
         let is_price = matches!(answer.code, REVALUE | REVISE);
         let fits = if is_price {
@@ -203,8 +204,9 @@ impl<'a> Shorts<'a> {
             kinds.push(Kind::CodeFourteen);
         }
         let account = usize::from(answer.account);
-        let Ok(amounts) = record.checked() else {
-            return kinds;
+        let amounts = match record.checked() {
+            Ok(amounts) => amounts,
+            Err(_) => return kinds,
         };
         if account < book.count {
             let sort = book.rows[account].sort;

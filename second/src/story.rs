@@ -252,8 +252,9 @@ fn numbers(words: &[&str]) -> Result<Vec<u64>, String> {
 
 /// Serial, code, second mark byte, account, six amounts.
 fn values(words: &[&str]) -> Result<Values, String> {
-    let [serial, code, mark, account, amounts @ ..] = words else {
-        return Err("values need ten numbers".to_string());
+    let (serial, code, mark, account, amounts) = match words {
+        [serial, code, mark, account, amounts @ ..] => (serial, code, mark, account, amounts),
+        _ => return Err("values need ten numbers".to_string()),
     };
     let amounts = numbers(amounts)?.try_into();
     Ok(Values {

@@ -110,8 +110,9 @@ impl<'a> Tenths<'a> {
 
     /// Whether the account's collateral is as the rule has it.
     pub fn after(&mut self, answer: &Answer, book: &Book) -> bool {
-        let Next::Record(record) = self.reader.next() else {
-            return false;
+        let record = match self.reader.next() {
+            Next::Record(record) => record,
+            _ => return false,
         };
         let account = usize::from(answer.account);
         if account >= book.count {
@@ -210,7 +211,7 @@ fn side(left: u64, blocked: u64, collateral: u64) -> Option<Side> {
 
 fn margin(answer: &Answer, margin: u64, book: &Book) -> Option<Kind> {
     let account = usize::from(answer.account);
-    let is_rounded = |account: usize| !book.rows[account].allocated[SECURITIES].is_multiple_of(10);
+    let is_rounded = |account: usize| book.rows[account].allocated[SECURITIES] % 10 != 0;
     let (need, covered) = (book.cm_need_with(account, margin), book.collateral(0));
     let side = match answer.refusal() {
         0 if need == covered => Side::Exactly,

@@ -52,12 +52,10 @@ pub fn line_bytes(line: &str, running: u16) -> Result<Vec<u8>, String> {
 }
 
 fn record_bytes(words: &[&str], serial: u16) -> Result<Vec<u8>, String> {
-    let Some((&word, rest)) = words.split_first() else {
-        return Err("a record is missing after the serial".to_string());
-    };
-    let Some(place) = CODE_WORDS.iter().position(|&known| known == word) else {
-        return Err(format!("unknown word `{word}`"));
-    };
+    let first = words.split_first();
+    let (&word, rest) = first.ok_or("a record is missing after the serial")?;
+    let place = CODE_WORDS.iter().position(|&known| known == word);
+    let place = place.ok_or_else(|| format!("unknown word `{word}`"))?;
     let code = place as u8 + 1;
     let (account, rest) = account_of(code, rest)?;
     let (mark, amounts) = match code {
@@ -100,12 +98,10 @@ fn only_amount(words: &[&str]) -> Result<u64, String> {
 fn kind_amounts(words: &[&str]) -> Result<(u8, Vec<u64>), String> {
     let mut named: [Option<u64>; 4] = [None; 4];
     for pair in words.chunks(2) {
-        let Some(kind) = KIND_WORDS.iter().position(|&word| word == pair[0]) else {
-            return Err(format!("unknown kind `{}`", pair[0]));
-        };
-        let [_, amount] = pair else {
-            return Err(format!("the amount of `{}` is missing", pair[0]));
-        };
+        let kind = KIND_WORDS.iter().position(|&word| word == pair[0]);
+        let kind = kind.ok_or_else(|| format!("unknown kind `{}`", pair[0]))?;
+        let amount = pair.get(1);
+        let amount = amount.ok_or_else(|| format!("the amount of `{}` is missing", pair[0]))?;
         if named[kind].replace(parsed(amount, "amount")?).is_some() {
             return Err(format!("`{}` stands twice", pair[0]));
         }
@@ -128,7 +124,7 @@ pub fn parsed<T: FromStr>(word: &str, what: &str) -> Result<T, String> {
 }
 
 pub fn hex_bytes(hex: &str) -> Result<Vec<u8>, String> {
-    if hex.is_empty() || !hex.len().is_multiple_of(2) {
+    if hex.is_empty() || hex.len() % 2 != 0 {
         return Err("raw needs two hexadecimal digits for each byte".to_string());
     }
     hex.as_bytes().chunks_exact(2).map(hex_byte).collect()

@@ -58,8 +58,10 @@ impl<W: Write> Day<W> {
     fn records(&mut self, piece: &[u8; PIECE + LONGEST], filled: usize) -> io::Result<usize> {
         let (mut place, mut read, mut carried) = (0, self.read, self.carried);
         while read < MILLION {
-            let Some(bytes) = piece.get(place..).and_then(|rest| rest.first_chunk()) else {
-                break;
+            let bytes = piece.get(place..place + LONGEST);
+            let bytes = match bytes.and_then(|bytes| bytes.try_into().ok()) {
+                Some(bytes) => bytes,
+                None => break,
             };
             let record = Record { bytes };
             let behind = place + record.length();

@@ -3,6 +3,8 @@
 //! lies, and needs, uses and modes are brought up to date from the one row
 //! that changed. It is a measure for `day`, and no check of it: `second` is.
 
+#![forbid(unsafe_code)]
+
 mod book;
 mod carry;
 mod collateral;

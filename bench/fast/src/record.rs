@@ -100,7 +100,9 @@ impl Record<'_> {
 
     /// The amount at a place from 0 to 7.
     fn number(&self, place: usize) -> u64 {
-        let (numbers, _) = self.bytes[HEAD..].as_chunks::<AMOUNT>();
-        u64::from_be_bytes(numbers[place & 7])
+        let start = HEAD + AMOUNT * (place & 7);
+        let mut number = [0; AMOUNT];
+        number.copy_from_slice(&self.bytes[start..start + AMOUNT]);
+        u64::from_be_bytes(number)
     }
 }

@@ -41,7 +41,7 @@ pub struct Row {
 /// securities less a tenth, the tenth rounded up to a paisa".
 pub fn counted(allocated: &[u64; KINDS], pledged: u64) -> u64 {
     let [cash, deposits, guarantees, securities] = *allocated;
-    cash + deposits + guarantees + pledged + securities - securities.div_ceil(10)
+    cash + deposits + guarantees + pledged + securities - (securities + 9) / 10
 }
 
 /// What an account leaves to the one that answers for it.

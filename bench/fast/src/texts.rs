@@ -3,12 +3,21 @@
 
 const LENGTH: u32 = 61;
 
-/// Each number's digits and a space.
+/// A space alone.
+const SPACE: u64 = b' ' as u64 | 1 << LENGTH;
+
+/// Each number's digits and a space: the text of its tenth with one digit more,
+/// since the compiler allows a table only so many steps.
 static NUMBERS: [u64; 1 << 16] = {
     let mut texts = [0; 1 << 16];
     let mut number = 0;
     while number < texts.len() {
-        texts[number] = digits(number as u64);
+        let tenth = if number < 10 {
+            SPACE
+        } else {
+            texts[number / 10]
+        };
+        texts[number] = with_digit(tenth, number as u64 % 10);
         number += 1;
     }
     texts
@@ -20,23 +29,18 @@ static ENDS: [[u64; 256]; 2] = {
     let mut ends = [[0; 256]; 2];
     let mut number = 0;
     while number < 256 {
-        ends[0][number] = ended(digits(0), digits(number as u64));
-        ends[1][number] = ended(digits(number as u64), digits(0));
+        ends[0][number] = ended(NUMBERS[0], NUMBERS[number]);
+        ends[1][number] = ended(NUMBERS[number], NUMBERS[0]);
         number += 1;
     }
     ends
 };
 
-const fn digits(number: u64) -> u64 {
-    let mut digits = [0, 0, 0, 0, 0, b' ', 0, 0];
-    let (mut left, mut place) = (number, 5);
-    while place > 0 {
-        place -= 1;
-        digits[place] = b'0' + (left % 10) as u8;
-        left /= 10;
-    }
-    let length = if number == 0 { 2 } else { number.ilog10() + 2 };
-    u64::from_le_bytes(digits) >> (8 * (6 - length)) | (length as u64) << LENGTH
+/// The digit before the space that ends the text.
+const fn with_digit(text: u64, digit: u64) -> u64 {
+    let end = 8 * (text >> LENGTH);
+    let space_to_digit = (b' ' as u64 ^ (b'0' as u64 + digit)) << (end - 8);
+    ((text ^ space_to_digit) | (b' ' as u64) << end) + (1 << LENGTH)
 }
 
 /// Two texts in one, the last space made a newline.

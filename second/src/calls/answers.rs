@@ -73,8 +73,9 @@ fn spaced(mut line: String, rest: &[u64]) -> String {
 /// "Refusals 1, 7, and all five figures 0"; a refused one shows off and no
 /// shortfall.
 fn standing(book: Option<Book>, account: u16) -> Answered {
-    let Some(book) = book else {
-        return told(UNSOUND, &[0; 7]);
+    let book = match book {
+        Some(book) => book,
+        None => return told(UNSOUND, &[0; 7]),
     };
     if !book.is_live(account) {
         return told(Refusal::NotLive as u8, &[0; 7]);
@@ -141,8 +142,9 @@ fn record_answered(answer: &Answer, place: Option<u64>, before: &Table, after: &
 }
 
 fn carry_out(table: &Table, book: Option<Book>, record: &Values) -> Answered {
-    let Some(mut book) = book else {
-        return nameless(UNSOUND, None);
+    let mut book = match book {
+        Some(book) => book,
+        None => return nameless(UNSOUND, None),
     };
     let answer = carry_values(&mut book, record);
     record_answered(&answer, None, table, &Table::of(&book))
@@ -150,8 +152,9 @@ fn carry_out(table: &Table, book: Option<Book>, record: &Values) -> Answered {
 
 /// "An unsound book gives 1 even at the end."
 fn carry_out_next(table: &Table, book: Option<Book>, piece: &[u8], place: u64) -> Answered {
-    let Some(mut book) = book else {
-        return nameless(UNSOUND, Some(place));
+    let mut book = match book {
+        Some(book) => book,
+        None => return nameless(UNSOUND, Some(place)),
     };
     let record = match next_at(piece, place) {
         Next::End => return nameless("end", Some(place)),
@@ -166,8 +169,9 @@ fn carry_out_next(table: &Table, book: Option<Book>, piece: &[u8], place: u64) -
 /// "An unsound book gives 1 as the closing word, place 0, counts of 0 and the
 /// same book."
 fn day(table: &Table, book: Option<Book>, piece: &[u8], number: u64) -> Answered {
-    let Some(mut book) = book else {
-        return with_book(told(UNSOUND, &[0; 3]), "same");
+    let mut book = match book {
+        Some(book) => book,
+        None => return with_book(told(UNSOUND, &[0; 3]), "same"),
     };
     let most = usize::try_from(number).unwrap_or(usize::MAX);
     let day = run(&mut book, piece, most, |_, _| {});
@@ -238,8 +242,9 @@ fn close_out_call(book: Option<Book>, losses: &[u64], room: usize) -> Answered {
         let rest: Vec<u64> = [0].into_iter().chain(lent(room)).collect();
         told(refusal, &rest)
     };
-    let Some(book) = book else {
-        return refused(UNSOUND);
+    let book = match book {
+        Some(book) => book,
+        None => return refused(UNSOUND),
     };
     if losses.len() != book.count || room != 4 * book.count {
         return refused(Refusal::WrongLength as u8);

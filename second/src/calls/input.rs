@@ -22,8 +22,8 @@ impl<'a> Input<'a> {
     }
 
     fn bytes(&mut self, many: usize) -> Option<&'a [u8]> {
-        let (taken, rest) = self.left.split_at_checked(many)?;
-        self.left = rest;
+        let taken = self.left.get(..many)?;
+        self.left = &self.left[many..];
         Some(taken)
     }
 

@@ -133,10 +133,13 @@ impl Night<'_> {
     /// The lines, and the bytes of the book file. Gives the book after it.
     fn day(&mut self, book: Book, from: &Path, to: &Path, piece: &[u8]) -> Result<Book, String> {
         let (lines, closing, after) = print::day_parts(book, piece, |_, _| {});
-        let Some(program) = self.programs.day else {
-            let kept = fs::write(to, bookfile::bytes(&Table::of(&after)));
-            kept.map_err(|error| error.to_string())?;
-            return Ok(after);
+        let program = match self.programs.day {
+            Some(program) => program,
+            None => {
+                let kept = fs::write(to, bookfile::bytes(&Table::of(&after)));
+                kept.map_err(|error| error.to_string())?;
+                return Ok(after);
+            }
         };
         let want = [lines, closing].concat();
         self.settled("day from a book", program, &[from, to], piece, &want)?;
@@ -177,9 +180,7 @@ impl Night<'_> {
         let table = any_sound(&mut self.rng);
         let piece = with_steps(&table, &mut self.rng);
         let book = self.put("book", &bookfile::bytes(&table))?;
-        let Some(sound) = table.book() else {
-            return Err("a book was made that isn't sound".to_string());
-        };
+        let sound = table.book().ok_or("a book was made that isn't sound")?;
         let to = self.path("to");
         let _ = fs::remove_file(&to);
         self.shown(&sound, &book, &piece)?;
@@ -280,7 +281,7 @@ impl Night<'_> {
         let losses = self.put("losses", &[0; 8])?;
         for (name, program, words) in self.runs(&book, &to, &losses) {
             let got = ask(program, &words, &self.made.bytes, Pace::Whole);
-            let silent = got.as_ref().is_ok_and(|got| got.stderr.is_empty());
+            let silent = got.as_ref().map_or(false, |got| got.stderr.is_empty());
             let what = format!("{name} from what is no book");
             settle(&self.programs.folder, &self.made, &what, b"", got)?;
             if silent {
@@ -315,8 +316,9 @@ fn no_book_bytes(place: u64, mut bytes: Vec<u8>, rng: &mut Rng) -> Option<Vec<u8
 }
 
 fn book_difference(kept: &[u8], want: &Table) -> String {
-    let Some(got) = bookfile::table(kept) else {
-        return "what was kept is no book".to_string();
+    let got = match bookfile::table(kept) {
+        Some(got) => got,
+        None => return "what was kept is no book".to_string(),
     };
     let place = (0..want.places.len()).find(|&place| got.places[place] != want.places[place]);
     match place {

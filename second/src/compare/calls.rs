@@ -42,7 +42,7 @@ fn one_input(
     let asked = asked::make(seed);
     let want = answered_seen(&asked.bytes, |call, answered| met.count(call, answered));
     let ending = want.split_inclusive(|&byte| byte == b'\n').next_back();
-    let is_bad = ending.is_some_and(|line| line.starts_with(b"bad "));
+    let is_bad = ending.map_or(false, |line| line.starts_with(b"bad "));
     if is_bad == (asked.ending == 0) {
         return Err(format!("calls, seed {seed}: made with another ending"));
     }

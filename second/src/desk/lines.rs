@@ -22,7 +22,7 @@ struct Asked {
 
 /// What is wrong with the words is told before anything is read.
 pub fn margins(words: &[OsString], input: &dyn Fn() -> Output) -> Output {
-    if words.first().is_some_and(|word| word == "--help") {
+    if words.first().map_or(false, |word| word == "--help") {
         return Err(HELP.to_string());
     }
     let asked = asked(words).ok_or("margins: SERIAL, ACCOUNT and INITIAL are expected")?;
@@ -52,9 +52,10 @@ fn answered(asked: &Asked, margin: Result<u64, Refusal>) -> Output {
 }
 
 fn asked(words: &[OsString]) -> Option<Asked> {
-    let as_record = words.first().is_some_and(|word| word == "--record");
-    let [serial, account, initial] = &words[usize::from(as_record)..] else {
-        return None;
+    let as_record = words.first().map_or(false, |word| word == "--record");
+    let (serial, account, initial) = match &words[usize::from(as_record)..] {
+        [serial, account, initial] => (serial, account, initial),
+        _ => return None,
     };
     let short = |word: &OsString| u16::try_from(number(word.to_str()?.as_bytes())?).ok();
     Some(Asked {
@@ -120,7 +121,7 @@ fn figures(words: &[u8]) -> Option<Vec<i64>> {
 fn figure(word: &[u8]) -> Option<i64> {
     match word.strip_prefix(b"-") {
         None => Some(i64::try_from(number(word)?).unwrap_or(i64::MAX)),
-        Some(size) => Some(0i64.saturating_sub_unsigned(number(size)?)),
+        Some(size) => Some(i64::try_from(number(size)?).map_or(i64::MIN, |size| -size)),
     }
 }
 
@@ -128,8 +129,9 @@ fn figure(word: &[u8]) -> Option<i64> {
 /// or behind the last".
 fn position(line: &[u8]) -> Option<Position> {
     let words: Vec<&[u8]> = line.split(|&byte| byte == b' ').collect();
-    let [product, side, notional] = words.as_slice() else {
-        return None;
+    let (product, side, notional) = match words.as_slice() {
+        [product, side, notional] => (product, side, notional),
+        _ => return None,
     };
     let side = SIDES.iter().find(|(name, _)| name.as_bytes() == *side);
     Some(Position {

@@ -46,7 +46,7 @@ pub fn make(seed: u64) -> Asked {
 
 /// How many inputs it takes to go over all aims and all endings.
 pub fn whole_round() -> usize {
-    let inputs = Aim::round().len().div_ceil(CALLS);
+    let inputs = (Aim::round().len() + CALLS - 1) / CALLS;
     inputs.max(ENDINGS.len())
 }
 

@@ -143,7 +143,7 @@ fn a_paisa(maker: &mut Maker, account: u16) {
 /// a tenth that is rounded up.
 fn up_to_cover(maker: &mut Maker, account: u16) {
     for account in [0, account] {
-        if securities(maker, account).is_multiple_of(10) {
+        if securities(maker, account) % 10 == 0 {
             let odd = maker.rng.between(1, 9);
             allocate(maker, account, [0, 0, 0, odd]);
         }

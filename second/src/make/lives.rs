@@ -61,8 +61,9 @@ pub fn retire_step(maker: &mut Maker) {
 /// The TM before its clients (14), all but one client (14), all (0), and a
 /// client for it afterwards (7).
 fn retire_tm(maker: &mut Maker) {
-    let Some(tm) = maker.live_of(Sort::Tm) else {
-        return;
+    let tm = match maker.live_of(Sort::Tm) {
+        Some(tm) => tm,
+        None => return,
     };
     maker.say(RETIRE, 0, tm, &[]);
     let rows = &maker.book.rows[..maker.book.count];

@@ -36,7 +36,7 @@ impl Mark {
         match self {
             Mark::Nine | Mark::TenthUnderNine => drawn,
             Mark::Lower | Mark::TenthUnderLower => collateral % 2 == 1,
-            Mark::HalfUnderLower => collateral.is_multiple_of(2),
+            Mark::HalfUnderLower => collateral % 2 == 0,
         }
     }
 }

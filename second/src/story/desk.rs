@@ -54,8 +54,9 @@ fn all_positions(words: &[&str]) -> Result<Vec<Position>, String> {
 }
 
 fn position(words: &[&str]) -> Result<Position, String> {
-    let [product, side, notional] = words else {
-        return Err("a position is a product, a side and a notional".to_string());
+    let (product, side, notional) = match words {
+        [product, side, notional] => (product, side, notional),
+        _ => return Err("a position is a product, a side and a notional".to_string()),
     };
     let known = PRODUCTS.iter().position(|(name, ..)| name == product);
     let side = SIDES.iter().find(|(name, _)| name == side);

@@ -212,7 +212,7 @@ impl Table {
         }
         for place in held.iter().filter(|place| place[SORT] == CLIENT) {
             let tm = place[TM] as usize;
-            if held.get(tm).is_some_and(|tm| tm[SORT] == TRADING) {
+            if held.get(tm).map_or(false, |tm| tm[SORT] == TRADING) {
                 needs[tm] += deemed(u128::from(place[MARGIN]), place, rule);
             }
         }

@@ -256,7 +256,7 @@ fn losses_meet_the_edges() {
             }
         }
     }
-    assert!(met.as_flattened().iter().all(|&many| many > 0), "{met:?}");
+    assert!(met.iter().flatten().all(|&many| many > 0), "{met:?}");
 }
 
 /// Blocked collateral of TMs with several leaning clients, and of the CM, used
@@ -286,5 +286,5 @@ fn purses_are_used_to_the_last_paisa() {
         let both = answer.payments[0].own + others;
         look(1, 0, of_cm.iter().sum(), both);
     }
-    assert!(met.as_flattened().iter().all(|&many| many > 0), "{met:?}");
+    assert!(met.iter().flatten().all(|&many| many > 0), "{met:?}");
 }

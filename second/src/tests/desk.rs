@@ -123,8 +123,9 @@ fn the_record() {
         let mut bytes = Vec::new();
         values.lay(&mut bytes);
         assert_eq!(bytes[..6], [10, 32, 0, 9, 255, 255]);
-        let Next::Record(read) = Reader::new(&bytes).next() else {
-            panic!("{margin}");
+        let read = match Reader::new(&bytes).next() {
+            Next::Record(read) => read,
+            _ => panic!("{margin}"),
         };
         assert_eq!(read.values(), values);
     }

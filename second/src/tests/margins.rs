@@ -56,8 +56,9 @@ fn a_book_that_is_not_covered() {
         ("serial 18 margin 0 31", 13),
     ] {
         let bytes = piece(said);
-        let Next::Record(record) = Reader::new(&bytes).next() else {
-            panic!("{said}");
+        let record = match Reader::new(&bytes).next() {
+            Next::Record(record) => record,
+            _ => panic!("{said}"),
         };
         assert_eq!(carry(&mut book, &record).refusal(), refusal, "{said}");
     }

@@ -112,12 +112,12 @@ fn about(position: &Position) -> Vec<Case> {
         side,
         notional,
     } = *position;
-    let Some(&(_, futures, short)) = PRODUCTS.get(usize::from(product)) else {
-        return Vec::new();
+    let (futures, short) = match PRODUCTS.get(usize::from(product)) {
+        Some(&(_, futures, short)) => (futures, short),
+        None => return Vec::new(),
     };
     let (rate, per) = rate(futures, short, side).unwrap_or((0, 1));
-    let is_whole =
-        |notional: u64| (u128::from(notional) * u128::from(rate)).is_multiple_of(u128::from(per));
+    let is_whole = |notional: u64| u128::from(notional) * u128::from(rate) % u128::from(per) == 0;
     let mut rounds = Vec::new();
     if is_whole(notional.saturating_add(1)) {
         rounds.push(Round::Under);

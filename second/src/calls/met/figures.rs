@@ -80,7 +80,7 @@ fn of_margin(initial: u64, positions: &[Position], figures: &[i64]) -> Vec<Case>
 }
 
 fn of_list(each: usize, list: &[i64], room: usize) -> Vec<Case> {
-    if !list.len().is_multiple_of(each) {
+    if list.len() % each != 0 {
         return vec![Case::Uneven(each)];
     }
     let clients = list.len() / each;

@@ -143,7 +143,7 @@ fn fill(place: &mut Place, scale: u64, rng: &mut Rng) {
 
 /// A number within the book of an account of this sort, if there is one.
 pub fn find(table: &Table, sort: u64, live: Option<u64>, rng: &mut Rng) -> Option<usize> {
-    let fits = |place: &Place| place[SORT] == sort && live.is_none_or(|live| place[LIVE] == live);
+    let fits = |place: &Place| place[SORT] == sort && live.map_or(true, |live| place[LIVE] == live);
     let found: Vec<usize> = (1..table.held())
         .filter(|&account| fits(&table.places[account]))
         .collect();

@@ -99,8 +99,9 @@ pub fn some_piece(rng: &mut Rng) -> Vec<u8> {
 
 /// Steps on this book, and so records that it answers in every way.
 pub fn steps(book: &Table, many: u64, rng: &mut Rng) -> Vec<u8> {
-    let Some(book) = book.book() else {
-        return Vec::new();
+    let book = match book.book() {
+        Some(book) => book,
+        None => return Vec::new(),
     };
     let mut maker = Maker::over(book, rng.next());
     maker.room = PIECE_MOST - 1_000;

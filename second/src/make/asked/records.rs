@@ -87,8 +87,9 @@ fn seek_on(
         let mut reader = Reader::new(&maker.bytes[place..]);
         loop {
             let start = reader.place();
-            let Next::Record(record) = reader.next() else {
-                break;
+            let record = match reader.next() {
+                Next::Record(record) => record,
+                _ => break,
             };
             let before = model.clone();
             if wanted(&carry(&mut model, &record), &before) {
@@ -125,12 +126,13 @@ pub fn done_with(code: u8, rng: &mut Rng) -> Call {
 
 /// A good record but for an amount that it doesn't name.
 pub fn unnamed(rng: &mut Rng) -> Call {
-    let call = sought(seek(rng, |answer| answer.refusal() == 0));
-    let Call::CarryOut(book, mut record) = call else {
-        return call;
-    };
-    put_unnamed(&mut record, rng);
-    Call::CarryOut(book, record)
+    match sought(seek(rng, |answer| answer.refusal() == 0)) {
+        Call::CarryOut(book, mut record) => {
+            put_unnamed(&mut record, rng);
+            Call::CarryOut(book, record)
+        }
+        call => call,
+    }
 }
 
 fn put_unnamed(record: &mut Values, rng: &mut Rng) {
