@@ -5,7 +5,7 @@ use native.Mathlib.Omega.{arith}
 use Rattle.sums.specs.Sum.{sum, only}
 use Rattle.sums.proofs.Sums.{sum-le, only-le}
 use Rattle.rows.specs.View.{View, isClientOf, members, ownDeemed, needTM, deemedTM, needCM, blocked}
-use Rattle.rows.specs.Facts.{Covered}
+use Rattle.rows.proofs.Cover.{Covered}
 use Rattle.book.specs.Asked.{shortfall}
 use Rattle.rows.proofs.BySort.{need-CM, need-TM, need-client, need-CP, client-sort, members-le}
 

@@ -6,7 +6,7 @@ use native.Mathlib.Omega.{arith}
 use lib.ListN.{getD}
 use Rattle.numbers.specs.Bytes.{bytesOf, Bytes}
 use Rattle.table.specs.declared.Table.{Table}
-use Rattle.bookfile.specs.Written.{mark, headPart, yesNo, joined, marksPart, amountPart, amountsPart, keptPart, placeOf, writtenOf}
+use Rattle.bookfile.specs.Written.{mark, headPart, yesNo, joined, marksPart, amountPart, amountsPart, keptPart, placeBytes, writtenOf}
 use Rattle.bookfile.specs.Facts.{Fits}
 
 bytes-none : Bytes []
@@ -54,8 +54,8 @@ bytes-kept : (mode : Bool) (need : ℕ) → Bytes (keptPart mode need)
 bytes-kept mode need = bytes-more (yesNo mode) (bytesOf 8 need) (yes-no-byte mode) (bytes-number 8 need)
 
 module _ (t : Table) (f : Fits t) where
-  bytes-place : (i : ℕ) → Bytes (placeOf t i)
-  unfolding placeOf
+  bytes-place : (i : ℕ) → Bytes (placeBytes t i)
+  unfolding placeBytes
   bytes-place i =
       let marks = marksPart (getD (t .sort) i 0) (getD (t .live) i false) (getD (t .tm) i 0) in
       let amounts = amountsPart (t .amounts) i in
@@ -66,4 +66,4 @@ module _ (t : Table) (f : Fits t) where
   pub bytes-written : Bytes (writtenOf t)
   unfolding writtenOf
   bytes-written =
-      bytes-append (headPart (t .count) (t .serial)) (joined (placeOf t) 256) (bytes-head (t .count) (t .serial)) (bytes-joined (placeOf t) bytes-place 256)
+      bytes-append (headPart (t .count) (t .serial)) (joined (placeBytes t) 256) (bytes-head (t .count) (t .serial)) (bytes-joined (placeBytes t) bytes-place 256)

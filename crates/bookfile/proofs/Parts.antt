@@ -11,7 +11,7 @@ use Rattle.numbers.specs.Bytes.{bytesOf}
 use Rattle.numbers.proofs.Numbers.{length-bytesOf}
 use Rattle.numbers.proofs.Rooms.{sets-append}
 use Rattle.table.specs.declared.Table.{Table}
-use Rattle.bookfile.specs.Written.{size, headPart, joined, marksPart, amountPart, amountsPart, keptPart, placeOf, writtenOf}
+use Rattle.bookfile.specs.Written.{size, headPart, joined, marksPart, amountPart, amountsPart, keptPart, placeBytes, writtenOf}
 use Rattle.bookfile.proofs.Joining.{length-joined}
 
 -- one run, and another one where it ended
@@ -46,20 +46,20 @@ pub length-head : (count serial : ℕ) → length (headPart count serial) ≡ 8
 length-head count serial = omega (arith, length-append (bytesOf 2 count) (bytesOf 2 serial), length-bytesOf 2 count, length-bytesOf 2 serial)
 
 module _ (t : Table) where
-  pub length-place : (i : ℕ) → length (placeOf t i) ≡ 93
-  unfolding placeOf
+  pub length-place : (i : ℕ) → length (placeBytes t i) ≡ 93
+  unfolding placeBytes
   length-place i = simp (length-append, length-marks, length-amounts, length-kept)
 
   pub length-written : length (writtenOf t) ≡ size
   unfolding writtenOf
   length-written =
-      length-append (headPart (t .count) (t .serial)) (joined (placeOf t) 256)
-      ∙ omega (arith, length-head (t .count) (t .serial), length-joined (placeOf t) 93 length-place 256)
+      length-append (headPart (t .count) (t .serial)) (joined (placeBytes t) 256)
+      ∙ omega (arith, length-head (t .count) (t .serial), length-joined (placeBytes t) 93 length-place 256)
 
   -- the three parts of a place
   pub put-place : (l m n r : List ℕ) (at i : ℕ) → m ≡ sets l at (marksPart (getD (t .sort) i 0) (getD (t .live) i false) (getD (t .tm) i 0))
-      → n ≡ sets m (at + 4) (amountsPart (t .amounts) i) → r ≡ sets n (at + 84) (keptPart (getD (t .modes) i false) (getD (t .needs) i 0)) → r ≡ sets l at (placeOf t i)
-  unfolding placeOf
+      → n ≡ sets m (at + 4) (amountsPart (t .amounts) i) → r ≡ sets n (at + 84) (keptPart (getD (t .modes) i false) (getD (t .needs) i 0)) → r ≡ sets l at (placeBytes t i)
+  unfolding placeBytes
   put-place l m n r at i p q h =
       let marks = marksPart (getD (t .sort) i 0) (getD (t .live) i false) (getD (t .tm) i 0) in
       let kept = keptPart (getD (t .modes) i false) (getD (t .needs) i 0) in
@@ -69,12 +69,12 @@ module _ (t : Table) where
       put-then l m r marks (amountsPart (t .amounts) i ++ kept) at 4 p rest (length-marks (getD (t .sort) i 0) (getD (t .live) i false) (getD (t .tm) i 0))
 
   -- the head, and all places behind it, in a room that is as long
-  pub put-written : (l m n : List ℕ) → length l ≡ size → m ≡ sets l 0 (headPart (t .count) (t .serial)) → n ≡ sets m 8 (joined (placeOf t) 256) → n ≡ writtenOf t
+  pub put-written : (l m n : List ℕ) → length l ≡ size → m ≡ sets l 0 (headPart (t .count) (t .serial)) → n ≡ sets m 8 (joined (placeBytes t) 256) → n ≡ writtenOf t
   unfolding writtenOf
   put-written l m n long p q =
-      let whole = headPart (t .count) (t .serial) ++ joined (placeOf t) 256 in
+      let whole = headPart (t .count) (t .serial) ++ joined (placeBytes t) 256 in
       let e : length whole ≡ size = length-written in
-      put-then l m n (headPart (t .count) (t .serial)) (joined (placeOf t) 256) 0 8 p q (length-head (t .count) (t .serial))
+      put-then l m n (headPart (t .count) (t .serial)) (joined (placeBytes t) 256) 0 8 p q (length-head (t .count) (t .serial))
       ∙ sets-eq whole l 0 (omega arith)
       ∙ ap (λ (x : List ℕ). whole ++ x) (drop-of-length-le l {i = 0 + length whole} (omega arith))
       ∙ append-nil whole

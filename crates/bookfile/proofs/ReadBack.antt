@@ -15,7 +15,7 @@ use Rattle.numbers.specs.Bytes.{number, bytesOf, Bytes}
 use Rattle.numbers.proofs.Numbers.{bytes-drop, bytesOf-number, two-at}
 use Rattle.table.specs.declared.Table.{Table}
 use Rattle.table.specs.Words.{wordAt}
-use Rattle.bookfile.specs.Written.{mark, yesNo, joined, marksPart, amountPart, amountsPart, keptPart, placeOf, writtenOf}
+use Rattle.bookfile.specs.Written.{mark, yesNo, joined, marksPart, amountPart, amountsPart, keptPart, placeBytes, writtenOf}
 use Rattle.bookfile.specs.Reading.{placeAt, yesOrNo, isBook, yesAt, bookIn}
 use Rattle.bookfile.proofs.Joining.{joined-from}
 use Rattle.bookfile.proofs.Tested.{book-long, book-marked, book-plain}
@@ -61,8 +61,8 @@ module _ (t : Table) (i : ℕ) (s : List ℕ) (y : Bytes s) (n : 93 ≤ length s
       ap₂ (λ (a : ℕ) (l : List ℕ). a ∷ l) (w .mode) (number-back 8 85 s (getD (t .needs) i 0) y (omega arith) (w .need))
       ∙ sym (drop-cons s 84 0 (omega arith))
 
-  pub place-back : placeOf t i ++ drop 93 s ≡ s
-  unfolding placeOf
+  pub place-back : placeBytes t i ++ drop 93 s ≡ s
+  unfolding placeBytes
   place-back =
       let marks = marksPart (getD (t .sort) i 0) (getD (t .live) i false) (getD (t .tm) i 0) in
       let amounts = amountsPart (t .amounts) i in
@@ -113,18 +113,18 @@ module _ (file : List ℕ) (book : isBook file ≡ true) where
       ∙ sym (two-at file 0 (omega arith))
 
   module _ (y : Bytes file) where
-    places-back : joined (placeOf (bookIn file)) 256 ≡ drop 8 file
+    places-back : joined (placeBytes (bookIn file)) 256 ≡ drop 8 file
     places-back =
         let long = book-long file book in
         let none : drop (8 + 93 * 256) file ≡ [] = drop-of-length-le file {i = 8 + 93 * 256} (omega arith) in
-        sym (append-nil (joined (placeOf (bookIn file)) 256))
-        ∙ ap (λ (l : List ℕ). joined (placeOf (bookIn file)) 256 ++ l) (sym none)
-        ∙ joined-from (placeOf (bookIn file)) 93 8 256 file (λ i l. each i l)
+        sym (append-nil (joined (placeBytes (bookIn file)) 256))
+        ∙ ap (λ (l : List ℕ). joined (placeBytes (bookIn file)) 256 ++ l) (sym none)
+        ∙ joined-from (placeBytes (bookIn file)) 93 8 256 file (λ i l. each i l)
       where
-        each : (i : ℕ) → i < 256 → placeOf (bookIn file) i ++ drop (8 + 93 * i + 93) file ≡ drop (8 + 93 * i) file
+        each : (i : ℕ) → i < 256 → placeBytes (bookIn file) i ++ drop (8 + 93 * i + 93) file ≡ drop (8 + 93 * i) file
         each i l =
             let long = book-long file book in
-            ap (λ (s : List ℕ). placeOf (bookIn file) i ++ s) (bytes-from i 93)
+            ap (λ (s : List ℕ). placeBytes (bookIn file) i ++ s) (bytes-from i 93)
             ∙ place-back (bookIn file) i (drop (placeAt i) file) (bytes-drop (placeAt i) file y) (rw length-drop (omega arith)) (stands i l)
 
     pub book-back : writtenOf (bookIn file) ≡ file

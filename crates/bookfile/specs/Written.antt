@@ -47,14 +47,14 @@ abbrev pub keptPart : Bool → ℕ → List ℕ
 keptPart mode need = yesNo mode ∷ bytesOf 8 need
 
 -- the 93 bytes of place i
-unfoldable pub placeOf : Table → ℕ → List ℕ
-placeOf t i =
+unfoldable pub placeBytes : Table → ℕ → List ℕ
+placeBytes t i =
     marksPart (getD (t .sort) i 0) (getD (t .live) i false) (getD (t .tm) i 0)
     ++ (amountsPart (t .amounts) i ++ keptPart (getD (t .modes) i false) (getD (t .needs) i 0))
 
 -- "then for each of the 256 places"
 unfoldable pub writtenOf : Table → List ℕ
-writtenOf t = headPart (t .count) (t .serial) ++ joined (placeOf t) 256
+writtenOf t = headPart (t .count) (t .serial) ++ joined (placeBytes t) 256
 
 -- the writer's answer: 15 unless the room is just as long as the written form
 unfoldable pub wroteOf : List ℕ → ℕ

@@ -3,7 +3,7 @@ ghost use mathlib.Core.Path.{_≡_};
 ghost use Prim.Native.Nat.{_+_, _*_, _≤_, _<_};
 ghost use lib.ListN.{length};
 ghost use lib.Seq.{sets};
-ghost use Rattle.bookfile.specs.Written.{size, headPart, yesNo, joined, marksPart, amountsPart, keptPart, placeOf, wroteOf, roomAfter};
+ghost use Rattle.bookfile.specs.Written.{size, headPart, yesNo, joined, marksPart, amountsPart, keptPart, placeBytes, wroteOf, roomAfter};
 use crate::HEAD;
 use crate::PLACE;
 use crate::SIZE;
@@ -60,7 +60,7 @@ fn put_kept(room: &mut [u8], place: usize, mode: bool, need: u64)
 
 fn put_places(t: Table, room: &mut [u8])
     requires { ⌜ length (now room) ≡ size ⌝ }
-    ensures { λ _. ⌜ now (room .exit) ≡ sets (now (room .entry)) 8 (joined (placeOf t) 256) ⌝ }
+    ensures { λ _. ⌜ now (room .exit) ≡ sets (now (room .entry)) 8 (joined (placeBytes t) 256) ⌝ }
 {
     let mut i: usize = 0;
     while i < 256 {

@@ -8,7 +8,7 @@ use native.Mathlib.Nat.{add-zero}
 use Rattle.sums.specs.Sum.{sum}
 use Rattle.rows.specs.declared.Book.{Book}
 use Rattle.rows.specs.Rows.{rowAt, collateral, view}
-use Rattle.rows.specs.Facts.{Covered}
+use Rattle.rows.proofs.Cover.{Covered}
 use Rattle.book.specs.Sound.{soundB}
 use Rattle.book.specs.Asked.{shortfall}
 use Rattle.book.specs.Facts.{Sound}

@@ -6,7 +6,7 @@ use native.Mathlib.Omega.{arith}
 use Rattle.sums.specs.Sum.{sum, only}
 use Rattle.sums.proofs.Sums.{sum-le, sum-eq, sum-zero, sum-add, only-add, waterfall}
 use Rattle.rows.specs.View.{View, isTM, isCP, isClientOf, members, ofClients, ownDeemed, needTM, deemedTM, needCM}
-use Rattle.rows.specs.Facts.{Shaped, Covered}
+use Rattle.rows.specs.Facts.{Shaped}
 use Rattle.rows.proofs.BySort.{members-le}
 use Rattle.closeout.specs.Round.{own, short, leftTM, askedOfCM, unpaid}
 use Rattle.closeout.specs.Bound.{beyond}

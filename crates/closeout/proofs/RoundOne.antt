@@ -10,7 +10,8 @@ use borrow.Author.Tests.{eqb-true}
 use Rattle.sums.specs.Sum.{sum, only}
 use Rattle.sums.proofs.Sums.{sum-eq, sum-le, sum-zero, sum-term, only-le}
 use Rattle.rows.specs.View.{View, isClient, isCP, isClientOf, ofClients, ownDeemed, needTM, needCM, need, blocked}
-use Rattle.rows.specs.Facts.{Shaped, Covered}
+use Rattle.rows.specs.Facts.{Shaped}
+use Rattle.rows.proofs.Cover.{Covered}
 use Rattle.rows.proofs.BySort.{client-sort, client-tm, need-CM, need-TM}
 use Rattle.closeout.specs.Round.{own, short, leftTM, fromTM, askedOfCM, leftCM, fromCM, unpaid}
 use Rattle.closeout.specs.Bound.{beyond}

@@ -7,7 +7,8 @@ use native.Mathlib.Omega.{arith}
 use Rattle.sums.specs.Sum.{sum, only}
 use Rattle.sums.proofs.Sums.{sum-le, sum-add, sum-eq, sum-zero, sum-most, only-add}
 use Rattle.rows.specs.View.{View, isClient, isClientOf, ofClients, needCM, need, free, blocked}
-use Rattle.rows.specs.Facts.{Shaped, Covered}
+use Rattle.rows.specs.Facts.{Shaped}
+use Rattle.rows.proofs.Cover.{Covered}
 use Rattle.closeout.specs.Round.{own, fromTM, fromCM, unpaid}
 use Rattle.closeout.specs.Bound.{beyond}
 use Rattle.closeout.proofs.Payments.{amounts-add-up, fromTM-other}

@@ -14,7 +14,8 @@ use Rattle.dayfile.specs.declared.Record.{Record}
 use Rattle.dayfile.specs.Records.{faults, faultOf}
 use Rattle.dayfile.proofs.Good.{past-faults}
 use Rattle.rules.specs.declared.Beside.{Beside}
-use Rattle.codes.specs.Own.{earlyNumber, from8, openLines, receiveLines, leftLines, releaseLines, pledgeLines, unpledgeLines, marginLines, retireLines}
+use Rattle.rules.specs.Refusals.{from8}
+use Rattle.codes.specs.Own.{earlyNumber, openLines, receiveLines, leftLines, releaseLines, pledgeLines, unpledgeLines, marginLines, retireLines}
 
 -- with the serial that is due and no fault, only 7 is left before 8
 pub only-seven : (alive : Bool) (serial : ℕ) (r : Record) → r .serial ≡ serial → faultOf r ≡ 0 → earlyNumber alive serial r ≡ pick alive 0 7

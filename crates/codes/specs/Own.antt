@@ -1,10 +1,10 @@
--- Each code's own lines of the table of refusals (document 01's, with K5's 17 and K7's 12), and the words that it puts: only for internal functions.
+-- What each code's function does with the words: the lines of the table of refusals that it can meet, and the words that it puts. Only for internal functions.
 use mathlib.Core.Bool.{Bool, true, false, not, _&&_, _||_}
-use mathlib.Core.List.{List, [], _∷_, _++_}
+use mathlib.Core.List.{List, [], _∷_}
 use mathlib.Core.Path.{_≡_}
 use Prim.Native.Nat.{ℕ, _+_, _-_, _≤_, _<_}
 use lib.Dec.{eqb, leb, ltb}
-use lib.ListN.{getD, drop}
+use lib.ListN.{getD}
 use Rattle.sums.specs.Choice.{pick}
 use Rattle.sums.specs.Sum.{any}
 use Rattle.sums.specs.Table.{Line, _when_, first}
@@ -17,20 +17,17 @@ use Rattle.rows.specs.Facts.{InRange}
 use Rattle.rows.specs.View.{blockedOf}
 use Rattle.rows.specs.DeemedUnder.{atMargin, deemedUnderTM, deemedUnderCM, deemedUnderBy}
 use Rattle.dayfile.specs.declared.Record.{Record}
-use Rattle.dayfile.specs.Records.{faults, knownCode}
+use Rattle.dayfile.specs.Records.{knownCode}
 use Rattle.rules.specs.declared.Beside.{Beside}
-use Rattle.rules.specs.Refusals.{takenOut}
+use Rattle.rules.specs.Refusals.{rowLeft, before8, from8}
 use Rattle.rules.specs.Effects.{amended}
-use Rattle.rules.specs.Inner.{AmountsIn, from7, topMargin, besideBy}
+use Rattle.rules.specs.Inner.{AmountsIn, topMargin, besideBy}
 use Rattle.table.specs.Words.{Marks, rowIn, wordAt}
 use Rattle.table.specs.Facts.{Sized}
 use Rattle.table.specs.Inner.{Anew}
 use Rattle.codes.specs.declared.settling.DeemedUnderAfter.{DeemedUnderAfter}
 
--- the lines before 8, which ask nothing of the code, where it is known whether the account is live
-abbrev pub before8 : Bool → ℕ → Record → List Line
-before8 alive serial r = (3 when not (eqb (r .serial) serial)) ∷ (faults r ++ ((7 when not alive) ∷ []))
-
+-- the first of the lines before 8 that applies, or 0
 unfoldable pub earlyNumber : Bool → ℕ → Record → ℕ
 earlyNumber alive serial r = first (before8 alive serial r)
 
@@ -38,19 +35,15 @@ earlyNumber alive serial r = first (before8 alive serial r)
 abbrev pub aliveIn : List Bool → ℕ → ℕ → Bool
 aliveIn live count a = ltb a count && getD live a false
 
--- the lines from 8 on
-abbrev pub from8 : Row → ℕ → Beside → Record → List Line
-from8 row count beside r = drop 1 (from7 row count beside r)
-
--- "8: opening: the account named is of the wrong sort"; "9: opening with 256 numbers given"
+-- Of the lines from 8 on, those that each code can meet, by the words that it names: laws of codes.Lines say that they are the table's. First openings (1, 2, 3).
 abbrev pub openLines : Row → ℕ → ℕ → List Line
 openLines row code count = (8 when not (eqb (row .sort) (pick (eqb code 2) 1 0))) ∷ (9 when leb 256 count) ∷ []
 
--- "10: receive .. would carry an amount past the ceiling"
+-- receive (4)
 abbrev pub receiveLines : Row → Kinds → List Line
 receiveLines row k = (10 when not (kindsCapped (plusKinds (row .received) k))) ∷ []
 
--- "11: hand back of more than received less allocated, allocate of more than that"
+-- hand back (5) and allocate (6)
 abbrev pub leftLines : Row → Kinds → List Line
 leftLines row k = (11 when not (kindsWithin k (lessKinds (row .received) (row .allocated)))) ∷ []
 
@@ -58,28 +51,27 @@ leftLines row k = (11 when not (kindsWithin k (lessKinds (row .received) (row .a
 abbrev pub leavesBelow : Row → Row → ℕ → Bool
 leavesBelow row new under = ltb (collateral new) (blockedOf (row .margin + under) (collateral row))
 
--- what release and unpledge share: K5's "17 .. whose mode is on, after 11 and before 12"; K7's "12 .. when the collateral left after a release or
--- unpledge would be below what was blocked"
+-- what release and unpledge share
 abbrev pub takingLines : Bool → Bool → List Line
 takingLines on below = (17 when on) ∷ (12 when below) ∷ []
 
--- "11: .. release of more than allocated"
+-- release (7)
 abbrev pub releaseLines : Row → Bool → Bool → Kinds → List Line
 releaseLines row on below k = (11 when not (kindsWithin k (row .allocated))) ∷ takingLines on below
 
--- "10: .. pledge would carry an amount past the ceiling"
+-- pledge (8)
 abbrev pub pledgeLines : Row → ℕ → List Line
 pledgeLines row x = (10 when ltb ceiling (row .pledged + x)) ∷ []
 
--- "11: .. unpledge of more than pledged"
+-- unpledge (9)
 abbrev pub unpledgeLines : Row → Bool → Bool → ℕ → List Line
 unpledgeLines row on below x = (11 when ltb (row .pledged) x) ∷ takingLines on below
 
--- "13: after a rising margin the CM's need would pass its collateral" (K6)
+-- set margin (10)
 abbrev pub marginLines : Row → ℕ → Bool → List Line
 marginLines row x passes = (13 when (ltb (row .margin) x && passes)) ∷ []
 
--- "8: .. retiring: account 0"; "14: retiring an account with any amount not zero, or a TM with a live client"
+-- retire (11); codes 12 and 13 meet none of them
 abbrev pub retireLines : Row → ℕ → Bool → List Line
 retireLines row a liveClient = (8 when eqb a 0) ∷ (14 when (not (noAmounts row) || liveClient)) ∷ []
 
@@ -121,7 +113,7 @@ besideIn count m w under on r =
     let i = r .account in
     let p = getD (m .tm) i 0 in
     let at = accountIn m w in
-    besideBy on (collateral (takenOut (rowIn m w i) r)) (at i) (getD under i 0) (at p) (getD under p 0) (at 0) (getD under 0 0) (hasLiveClientIn m count i) r
+    besideBy on (collateral (rowLeft (rowIn m w i) r)) (at i) (getD under i 0) (at p) (getD under p 0) (at 0) (getD under 0 0) (hasLiveClientIn m count i) r
 
 -- what a code's function needs of the words at account i
 pub record Held (m : Marks) (w under : List ℕ) (i : ℕ) : Type 0 where
@@ -168,7 +160,6 @@ Unpledges m w under on i y x =
 abbrev pub SetsMargin : Marks → List ℕ → List ℕ → ℕ → ℕ → ℕ → List ℕ → Type 0
 SetsMargin m w under i y x = Answers m w i (withMargin (rowIn m w i) y) (marginLines (rowIn m w i) y (needPassesIn m w under i y)) x m
 
--- K8: "neither can be refused for want of cover"
 abbrev pub SetsPledged : Marks → List ℕ → ℕ → ℕ → ℕ → List ℕ → Type 0
 SetsPledged m w i y x = Answers m w i (withPledged (rowIn m w i) y) [] x m
 

@@ -6,3 +6,5 @@ pub mod Given
 pub mod Adding
 pub mod Rounding
 pub mod Sums
+pub mod Numbers
+pub mod Options

@@ -43,3 +43,8 @@ madeOf serial account initial positions number =
 abbrev pub numberMade : Made → ℕ
 numberMade (Given r) = 0
 numberMade (Refused n) = n
+
+-- and its margin, 0 with a refusal
+abbrev pub marginMade : Made → ℕ
+marginMade (Given r) = r .margin
+marginMade (Refused n) = 0

@@ -1,6 +1,6 @@
 // The extreme loss margin of the currency desk: a client's positions and its initial margin, made the record that sets its margin (K9).
 ghost use mathlib.Core.Path.{_≡_};
-ghost use Rattle.currency.specs.Margins.{madeOf, marginRecord};
+ghost use Rattle.currency.specs.Margins.{refusalOf, madeOf, marginRecord, numberMade};
 use charges::charged;
 use charges::first_fault;
 use dayfile::Kinds;
@@ -64,6 +64,7 @@ pub fn margin(
     number: usize,
 ) -> Made
     ensures { λ m. ⌜ m ≡ madeOf serial account initial positions number ⌝ }
+    ensures { λ m. ⌜ numberMade m ≡ refusalOf initial positions number ⌝ }
 {
     if MOST < number {
         return Made::Refused(15);

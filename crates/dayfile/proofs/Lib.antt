@@ -10,5 +10,6 @@ pub mod Lengths
 pub mod Places
 pub mod Growing
 pub mod Answers
+pub mod Numbers
 pub mod RoundTrip
 pub mod ReaderCall

@@ -1,10 +1,12 @@
 -- Document 01, 'The day file': what stands at a place of a piece, and what the reader gives.
+use mathlib.Core.Bool.{Bool, _&&_}
 use mathlib.Core.List.{List, [], _∷_}
 use Prim.Native.Nat.{ℕ, zero, suc, _+_, _*_}
 use lib.Count.{ones}
-use lib.Dec.{leb}
-use lib.ListN.{length, drop}
+use lib.Dec.{leb, ltb}
+use lib.ListN.{length, getD, drop}
 use Rattle.sums.specs.Choice.{pick, unlessRefused}
+use Rattle.sums.specs.Sum.{only}
 use Rattle.numbers.specs.Bytes.{number}
 use Rattle.dayfile.specs.declared.Record.{Record}
 use Rattle.dayfile.specs.declared.Found.{Found}
@@ -71,17 +73,32 @@ readOf (Whole r next) = judged r next
 unfoldable pub readAt : List ℕ → ℕ → Read
 readAt s at = readOf (foundAt s at)
 
--- document 01's number of what stands at a place, and of what was read; the end is no refusal
+-- Document 01's numbers for each case. What stands at a place, good or not, names 2 or nothing; the end is no refusal.
 abbrev pub numberFound : Found → ℕ
 numberFound NoBytes = 0
 numberFound TooFew = 2
 numberFound (Whole r next) = 0
 
+-- what was read names 2, or the first of 4, 5, 6 that applies
 abbrev pub numberOf : Read → ℕ
 numberOf End = 0
 numberOf Cut = 2
 numberOf (Good r next) = 0
 numberOf (Bad reason serial code account next) = reason
+
+-- "2: bytes are left, but too few for the record's first six bytes or for its amounts". Where one byte is left there is no second mark byte: 0 stands for it, and six bytes are
+-- asked for.
+abbrev pub tooFewLeft : List ℕ → ℕ → Bool
+tooFewLeft s at = ltb at (length s) && ltb (length s) (at + sizeOf (getD s (at + 1) 0))
+
+-- the number of what stands at a place, and the reader's there: a whole record's is that of its fault
+abbrev pub refusalAt : List ℕ → ℕ → ℕ
+refusalAt s at = only (tooFewLeft s at) 2
+
+abbrev pub readerRefusal : Found → ℕ
+readerRefusal NoBytes = numberFound NoBytes
+readerRefusal TooFew = numberFound TooFew
+readerRefusal (Whole r next) = faultOf r
 
 -- "Asked for the next record it gives the end or 2 (with either, its place stays just as it was), or else moves past the
 -- record"

@@ -2,18 +2,18 @@
 pub use rows::CEILING;
 pub use rows::Kinds;
 
+mod faults;
 pub mod reader;
 mod reading;
-mod records;
 mod writing;
 
+pub use faults::fault_of;
+pub use faults::size;
 pub use reading::found_at;
 pub use reading::read_at;
-pub use records::fault_of;
-pub use records::size;
 pub use writing::write;
 
-// A record. `named` is the second mark byte: the amounts that the record names; the others are 0.
+// A record. `named` is the second mark byte: the amounts that the record names. One that has been read holds 0 for each other; handed over as values it may not, and then it has fault 6.
 pub struct Record {
     pub serial: u16,
     pub code: u8,

@@ -4,7 +4,7 @@ ghost use Rattle.dayfile.specs.Reading.{placeAfter};
 ghost use Rattle.dayfile.specs.Reader.{startOf, readBy, movedTo};
 ghost use Rattle.dayfile.specs.Taking.{tookAt};
 use crate::Read;
-use crate::reading::read_at;
+use crate::reading::answer_at;
 
 pub struct Reader<'a> {
     pub piece: &'a [u8],
@@ -38,7 +38,7 @@ fn place_after(read: Read, place: usize) -> usize
 fn next_at(piece: &[u8], place: usize) -> Took
     ensures { λ t. ⌜ t ≡ tookAt (now (piece .entry)) place ⌝ }
 {
-    let read = read_at(piece, place);
+    let read = answer_at(piece, place);
     Took {
         read,
         place: place_after(read, place),
@@ -56,7 +56,7 @@ pub fn new<'a>(piece: &'a [u8]) -> Reader<'a>
 pub fn peek<'a>(r: Reader<'a>) -> Read
     ensures { λ a. ⌜ a ≡ readBy (r .entry) ⌝ }
 {
-    read_at(r.piece, r.place)
+    answer_at(r.piece, r.place)
 }
 
 // The same, and the reader moves past the record.

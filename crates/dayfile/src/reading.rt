@@ -3,13 +3,13 @@ ghost use mathlib.Core.Path.{_≡_};
 ghost use Prim.Native.Nat.{_+_, _*_, _≤_, _<_};
 ghost use lib.ListN.{length, drop};
 ghost use lib.Count.{ones};
-ghost use Rattle.dayfile.specs.Reading.{got, recordOf, foundAt, readAt};
+ghost use Rattle.dayfile.specs.Reading.{got, recordOf, foundAt, readAt, numberFound, numberOf, refusalAt, readerRefusal};
 ghost use Rattle.dayfile.specs.Taking.{placesFrom};
 use crate::Found;
 use crate::Read;
 use crate::Record;
-use crate::records::fault_of;
-use crate::records::size;
+use crate::faults::fault_of;
+use crate::faults::size;
 use numbers::number2;
 use numbers::number8;
 use rows::Kinds;
@@ -107,6 +107,7 @@ fn record_near(piece: &[u8], place: usize, code: u8, named: u8) -> Record
 // What stands at a place, good or not. What is left is compared, so that no sum of a place and a length wraps.
 pub fn found_at(piece: &[u8], place: usize) -> Found
     ensures { λ r. ⌜ r ≡ foundAt (now (piece .entry)) place ⌝ }
+    ensures { λ r. ⌜ numberFound r ≡ refusalAt (now (piece .entry)) place ⌝ }
 {
     if piece.len() <= place {
         return Found::End;
@@ -129,8 +130,8 @@ pub fn found_at(piece: &[u8], place: usize) -> Found
     Found::Whole(record, place + n)
 }
 
-// What the reader gives at a place.
-pub fn read_at(piece: &[u8], place: usize) -> Read
+// What the reader gives at a place: for the reader's own calls, whose walks by hand rest on one equation.
+pub(crate) fn answer_at(piece: &[u8], place: usize) -> Read
     ensures { λ r. ⌜ r ≡ readAt (now (piece .entry)) place ⌝ }
 {
     match found_at(piece, place) {
@@ -150,4 +151,12 @@ pub fn read_at(piece: &[u8], place: usize) -> Read
             }
         }
     }
+}
+
+// The same for any caller.
+pub fn read_at(piece: &[u8], place: usize) -> Read
+    ensures { λ r. ⌜ r ≡ readAt (now (piece .entry)) place ⌝ }
+    ensures { λ r. ⌜ numberOf r ≡ readerRefusal (foundAt (now (piece .entry)) place) ⌝ }
+{
+    answer_at(piece, place)
 }

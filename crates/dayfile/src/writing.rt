@@ -3,12 +3,12 @@ ghost use mathlib.Core.Path.{_≡_};
 ghost use Prim.Native.Nat.{_+_, _≤_};
 ghost use lib.ListN.{length};
 ghost use lib.Seq.{sets};
-ghost use Rattle.dayfile.specs.Written.{field, writtenOf, wroteOf, roomAfter};
+ghost use Rattle.dayfile.specs.Written.{field, writtenOf, writerRefusal, wroteOf, roomAfter, refusalWrote};
 ghost use Rattle.dayfile.specs.Putting.{Put};
 use crate::Record;
 use crate::Wrote;
-use crate::records::fault_of;
-use crate::records::size;
+use crate::faults::fault_of;
+use crate::faults::size;
 use numbers::put2;
 use numbers::put8;
 
@@ -44,7 +44,7 @@ fn put_record(record: Record, room: &mut [u8])
 
 // Writes a record at the start of a room, or refuses it and writes nothing.
 pub fn write(record: Record, room: &mut [u8]) -> Wrote
-    ensures { λ r. ⌜ r ≡ wroteOf «record» (now (room .entry)) ⌝ }
+    ensures { λ r. ⌜ (r ≡ wroteOf «record» (now (room .entry))) × (refusalWrote r ≡ writerRefusal «record» (now (room .entry))) ⌝ }
     ensures { λ _. ⌜ now (room .exit) ≡ roomAfter «record» (now (room .entry)) ⌝ }
 {
     let fault = fault_of(record);

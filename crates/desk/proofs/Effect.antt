@@ -27,7 +27,7 @@ module _ (b : Book) (r : Record) where
   unfolding changeOf
   change-at n e = ap (λ m. unlessRefused m (effectOf (namedRow b r) (placeOf b (r .account)) r) Refuse) e
 
-  refused-as : (n : ℕ) → refusalOf b r ≡ suc n → stepOf b r ≡ doneBy b r (Refuse (suc n))
+  pub refused-as : (n : ℕ) → refusalOf b r ≡ suc n → stepOf b r ≡ doneBy b r (Refuse (suc n))
   refused-as n e = sym (step-by b r (Refuse (suc n)) (change-at (suc n) e))
 
   -- a record that no refusal meets does what its code says

@@ -4,3 +4,4 @@ pub mod Lasting
 pub mod Rows
 pub mod TakingOut
 pub mod ModesAfter
+pub mod Numbers

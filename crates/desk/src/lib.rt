@@ -1,8 +1,9 @@
 // The desk: a record is carried out or refused.
 ghost use mathlib.Core.Path.{_≡_};
 ghost use Rattle.book.specs.Facts.{Sound};
-ghost use Rattle.desk.specs.Answers.{nobody};
-ghost use Rattle.desk.specs.Steps.{stepOf, nextOf};
+ghost use Rattle.rules.specs.Refusals.{refusalOf};
+ghost use Rattle.desk.specs.Answers.{refusalIn, givenIn, nobody};
+ghost use Rattle.desk.specs.Steps.{stepOf, nextOf, givenOf, nextRefusal, nextGiven};
 ghost use Rattle.desk.specs.Over.{overDone, overNext};
 ghost use Rattle.desk.specs.Inner.{outcomeBy};
 ghost use Rattle.table.specs.Words.{turned, turnedBack};
@@ -163,6 +164,8 @@ fn at(c: Carried, place: usize) -> CarriedNext
 // A record handed over as values.
 pub fn carry_out(t: Table, record: Record) -> Carried
     ensures { λ d. ⌜ d ≡ overDone (stepOf (turnedBack t) «record») ⌝ }
+    ensures { λ d. ⌜ refusalIn (d .answer .outcome) ≡ refusalOf (turnedBack t) «record» ⌝ }
+    ensures { λ d. ⌜ givenIn (d .answer .outcome) ≡ givenOf (turnedBack t) «record» ⌝ }
 {
     if !book::is_sound(t) {
         return stays(t, Outcome::Refused(1));
@@ -173,6 +176,8 @@ pub fn carry_out(t: Table, record: Record) -> Carried
 // The record at a place of a piece of the day file.
 pub fn carry_out_next(t: Table, piece: &[u8], place: usize) -> CarriedNext
     ensures { λ n. ⌜ n ≡ overNext (nextOf (turnedBack t) (now (piece .entry)) place) ⌝ }
+    ensures { λ n. ⌜ refusalIn (n .answer .outcome) ≡ nextRefusal (turnedBack t) (now (piece .entry)) place ⌝ }
+    ensures { λ n. ⌜ givenIn (n .answer .outcome) ≡ nextGiven (turnedBack t) (now (piece .entry)) place ⌝ }
 {
     if !book::is_sound(t) {
         return at(stays(t, Outcome::Refused(1)), place);

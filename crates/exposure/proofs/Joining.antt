@@ -16,15 +16,16 @@ use Rattle.currency.specs.declared.Position.{Position}
 use Rattle.currency.specs.declared.Made.{Made}
 use Rattle.currency.specs.declared.Made.the-variants.{Given, Refused}
 use Rattle.currency.specs.Charges.{faults, faultOf, firstFault}
-use Rattle.currency.specs.Margins.{sumOf, marginRecord, refusalOf as marginRefusal, madeOf}
+use Rattle.currency.specs.Margins.{sumOf, marginRecord, refusalOf as marginRefusal, madeOf, numberMade}
 use Rattle.currency.proofs.Given.{passed}
+use Rattle.currency.proofs.Numbers.{number-made}
 use Rattle.exposure.specs.Exposures.{allInRange, totalOf, payableOf, exposureOf}
 use Rattle.exposure.specs.Joined.{joinedSum, refusalOf, joinedOf}
 use Rattle.exposure.specs.Inner.{Bounded, withExposure}
 use Rattle.exposure.proofs.Parts.{four-within}
 
 -- a position's fault is none of 21 and 22
-fault-most : (p : Position) → faultOf p ≤ 20
+pub fault-most : (p : Position) → faultOf p ≤ 20
 unfolding faultOf
 fault-most p = leb-true (first (faults p)) 20 (first-passes (λ n. leb n 20) (faults p) refl)
 
@@ -115,3 +116,9 @@ module _ (premium loss exercise settlement : ℤ) where
             ≡ joinedOf serial account initial positions number premium loss exercise settlement
         by true e = rw (in-range-is e) (by-the-table true e)
         by false e = rw (out-of-range-is e) (no-amount (madeOf serial account initial positions number) 0 (payableOf (totalOf premium loss exercise settlement)) ∙ by-the-table false e)
+
+    -- and its number is that table's refusal
+    pub joined-named : (m : Made) → m ≡ joinedOf serial account initial positions number premium loss exercise settlement
+        → (m ≡ joinedOf serial account initial positions number premium loss exercise settlement) × (numberMade m ≡ refusalOf premium loss exercise settlement initial positions number)
+    unfolding joinedOf
+    joined-named m e = (e, ap numberMade e ∙ number-made (refusalOf premium loss exercise settlement initial positions number) _)

@@ -1,7 +1,8 @@
 // Crystallised obligations by client: the intraday current exposure margin, its end of day form, and both joined to K9's sum (K10).
 ghost use mathlib.Core.Path.{_≡_};
 ghost use Rattle.exposure.specs.Exposures.{exposureOf, intradayOf};
-ghost use Rattle.exposure.specs.Joined.{joinedOf};
+ghost use Rattle.currency.specs.Margins.{numberMade};
+ghost use Rattle.exposure.specs.Joined.{refusalOf, joinedOf};
 use amounts::all_in_range;
 use amounts::amount_of;
 use join::with_exposure;
@@ -54,6 +55,7 @@ pub fn margin(
     settlement: i64,
 ) -> Made
     ensures { λ m. ⌜ m ≡ joinedOf serial account initial positions number premium loss exercise settlement ⌝ }
+    ensures { λ m. ⌜ numberMade m ≡ refusalOf premium loss exercise settlement initial positions number ⌝ }
 {
     let exposure = end_of_day(premium, loss, exercise, settlement);
     let made = currency::margin(serial, account, initial, positions, number);

@@ -3,7 +3,7 @@ ghost use mathlib.Core.Path.{_≡_};
 ghost use Prim.Native.Nat.{_+_, _*_, _≤_};
 ghost use lib.ListN.{length};
 ghost use Rattle.sums.specs.Listed.{listTo};
-ghost use Rattle.exposure.specs.Lists.{placeOf, widthOf, clientsIn, clientOf, cellOf, listRefusal, listRoom};
+ghost use Rattle.exposure.specs.Lists.{figuresFrom, widthOf, clientsIn, clientOf, numberInRoom, listRefusal, listRoom};
 use crate::Exposure;
 use crate::end_of_day;
 use crate::intraday;
@@ -16,7 +16,7 @@ pub enum Form {
 
 fn place(form: Form, i: usize) -> usize
     requires { ⌜ i ≤ 4_611_686_018_427_387_903 ⌝ }
-    ensures { λ n. ⌜ n ≡ placeOf form i ⌝ }
+    ensures { λ n. ⌜ n ≡ figuresFrom form i ⌝ }
 {
     match form {
         Form::Intraday => 2 * i,
@@ -55,7 +55,7 @@ fn by_four(figures: &[i64], i: usize) -> Exposure
 }
 
 fn client(form: Form, figures: &[i64], i: usize) -> Exposure
-    requires { ⌜ placeOf form i + widthOf form ≤ length (now figures) ⌝ }
+    requires { ⌜ figuresFrom form i + widthOf form ≤ length (now figures) ⌝ }
     ensures { λ e. ⌜ e ≡ clientOf form (now (figures .entry)) i ⌝ }
 {
     match form {
@@ -67,7 +67,7 @@ fn client(form: Form, figures: &[i64], i: usize) -> Exposure
 // Puts each client's refusal and amount.
 fn put_all(form: Form, figures: &[i64], n: usize, room: &mut [u64])
     requires { ⌜ (n ≡ clientsIn form (length (now figures))) × (length (now room) ≡ 2 * n) ⌝ }
-    ensures { λ _. ⌜ now (room .exit) ≡ listTo (cellOf form (now (figures .entry))) (2 * n) ⌝ }
+    ensures { λ _. ⌜ now (room .exit) ≡ listTo (numberInRoom form (now (figures .entry))) (2 * n) ⌝ }
 {
     let mut i: usize = 0;
     while i < n {

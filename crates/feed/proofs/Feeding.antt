@@ -1,8 +1,8 @@
 -- The reading loop: what holds at each turn, one piece more, and where it stops.
-use mathlib.Core.Bool.{Bool, true, false}
+use mathlib.Core.Bool.{Bool, true, false, _&&_}
 use mathlib.Core.List.{List, [], _∷_, _++_}
 use mathlib.Core.Path.{_≡_, refl, sym, ap, _∙_}
-use Prim.Native.Nat.{ℕ, zero, suc, _+_, _-_, _≤_, _<_}
+use Prim.Native.Nat.{ℕ, zero, suc, _+_, _*_, _-_, _≤_, _<_}
 use native.Mathlib.Omega.{arith}
 use lib.Dec.{leb, ltb}
 use lib.ListN.{length, take, drop}
@@ -18,50 +18,76 @@ use Rattle.records.specs.declared.Closing.the-variants.{Unsound}
 use Rattle.records.specs.Runs.{endedWith, ranOf}
 use Rattle.records.proofs.NumbersPut.{ran-unsound}
 use Rattle.records.proofs.Stops.{Stopped}
+use Rattle.records.specs.LineNumbers.{answersOf}
+use Rattle.lines.specs.Lines.{linesOf}
+use Rattle.lines.specs.Texts.{textOf}
 use Rattle.table.specs.declared.Table.{Table}
 use Rattle.table.specs.Words.{turned}
 use Rattle.feed.specs.declared.Day.{Day}
-use Rattle.feed.specs.Fed.{dayOf, noDay, wholeDay, Came}
-use Rattle.feed.specs.Pieces.{Stand, turnMost, turnOf, standAfter, dayBy, after, cameBy}
+use Rattle.feed.specs.Fed.{printedOf, dayOf, noDay, wholeDay, Came}
+use Rattle.feed.specs.Pieces.{Stand, turnMost, turnOf, standAfter, dayBy, turnLines, after, cameBy, linesBy, printedBy}
 use Rattle.feed.specs.Inner.{stopsAt}
-use Rattle.feed.proofs.Pieces.{turn-stops, turn-moves, read-so-far, done-so-far, last-turn}
+use Rattle.feed.proofs.Pieces.{turn-stops, turn-moves, read-so-far, done-so-far}
+use Rattle.feed.proofs.PieceLines.{printed-on, last-day}
 
 -- how far the day file is carried out, the bytes left at the front of their space
 abbrev standing : List ℕ → Book → ℕ → ℕ → ℕ → Stand
 standing space book rest read done = record { book = book; rest = take rest space; read = read; done = done }
 
--- that is where the pieces so far came to, over the book b
-pub record Feeding (b : Book) (space : List ℕ) (book : Book) (rest read done : ℕ) : Type 0 where
+-- that is where the pieces so far came to, over the book b, with the bytes printed
+pub record Feeding (printing : Bool) (b : Book) (space : List ℕ) (book : Book) (rest read done printed : ℕ) : Type 0 where
+  pub sound : soundB b ≡ true
   pub pieces : List (List ℕ)
   pub bytes : Bytes (cameBy pieces)
   pub size : length space ≡ 8262
   pub within : rest ≤ 8262
   pub is : standing space book rest read done ≡ after b pieces
+  pub told : printed ≡ printedBy printing b pieces
+  pub few : printed ≤ 20480 * read
 
-pub nothing-read : (b : Book) (space : List ℕ) → length space ≡ 8262 → Feeding b space b 0 0 0
-unfolding after cameBy
-nothing-read b space h = record {
+no-line : (t : Bool) → 0 ≡ length (pick {A = List ℕ} t [] [])
+unfolding pick
+no-line true = refl
+no-line false = refl
+
+pub nothing-read : (printing : Bool) (b : Book) (space : List ℕ) → soundB b ≡ true → length space ≡ 8262 → Feeding printing b space b 0 0 0 0
+unfolding after cameBy linesBy printedBy
+nothing-read printing b space s h = record {
+  sound = s;
   pieces = [];
   bytes = λ i. omega arith;
   size = h;
   within = omega arith;
   is = refl;
+  told = no-line (printing && soundB b);
+  few = omega arith;
 }
 
 -- where a read or a write failed
-pub no-day-came : (b : Book) (d : Day) → d ≡ noDay → Came b d
+pub no-day-came : (printing : Bool) (b : Book) (d : Day) → soundB b ≡ true → d ≡ noDay → Came printing b d
 unfolding noDay pick
-no-day-came b d e = rw e (record { input = []; bytes = λ i. omega arith; is = refl })
+no-day-came printing b d s e = rw e (record { input = []; bytes = λ i. omega arith; is = rw s })
 
-pub came-over : {b b′ : Book} {d : Day} → b ≡ b′ → Came b d → Came b′ d
+pub came-over : {printing : Bool} {b b′ : Book} {d : Day} → b ≡ b′ → Came printing b d → Came printing b′ d
 came-over e c = rw (← e) c
 
 -- of a book that isn't sound nothing is read
-pub unsound-came : (b : Book) (d : Day) → soundB b ≡ false → d ≡ dayOf (endedWith Unsound b 0 0 0) → Came b d
-unfolding wholeDay pick
-unsound-came b d h e = rw e (record { input = []; bytes = λ i. omega arith; is = ap dayOf (ran-unsound b [] 1_000_000 h) })
+none-printed : (printing : Bool) (b : Book) → soundB b ≡ false → 0 ≡ printedOf printing b []
+unfolding printedOf textOf pick
+none-printed true b h = rw h
+none-printed false b h = refl
 
-module _ {b : Book} {space : List ℕ} {book : Book} {rest read done : ℕ} (g : Feeding b space book rest read done) where
+pub unsound-came : (printing : Bool) (b : Book) (d : Day) → soundB b ≡ false → d ≡ dayOf 0 (endedWith Unsound b 0 0 0) → Came printing b d
+unfolding wholeDay pick
+unsound-came printing b d h e =
+    rw e
+    (record {
+      input = [];
+      bytes = λ i. omega arith;
+      is = ap (dayOf 0) (ran-unsound b [] 1_000_000 h) ∙ ap (λ n. dayOf n (ranOf b [] 1_000_000)) (none-printed printing b h);
+    })
+
+module _ {printing : Bool} {b : Book} {space : List ℕ} {book : Book} {rest read done printed : ℕ} (g : Feeding printing b space book rest read done printed) where
   pub read-upto : read ≤ 1_000_000
   read-upto = rw (← g .is) at (read-so-far b (g .pieces))
 
@@ -88,8 +114,8 @@ bytes-append (x ∷ l) m y z zero = y 0
 bytes-append (x ∷ l) m y z (suc i) = bytes-append l m (λ j. y (suc j)) z i
 
 -- one piece more: the bytes left and those read behind them, held of them in all, and the turn r of them
-pub record Piece (b : Book) (space : List ℕ) (book : Book) (rest read done : ℕ) (filled : List ℕ) (held : ℕ) (r : Ran) : Type 0 where
-  pub before : Feeding b space book rest read done
+pub record Piece (printing : Bool) (b : Book) (space : List ℕ) (book : Book) (rest read done printed : ℕ) (filled : List ℕ) (held : ℕ) (r : Ran) : Type 0 where
+  pub before : Feeding printing b space book rest read done printed
   pub size : length filled ≡ 8262
   pub least : rest ≤ held
   pub most : held ≤ 8262
@@ -97,8 +123,8 @@ pub record Piece (b : Book) (space : List ℕ) (book : Book) (rest read done : �
   pub bytes : Bytes filled
   pub is : r ≡ ranOf book (take held filled) (turnMost read)
 
-module _ {b : Book} {space : List ℕ} {book : Book} {rest read done : ℕ} {filled : List ℕ} {held : ℕ} {r : Ran}
-    (g : Piece b space book rest read done filled held r) where
+module _ {printing : Bool} {b : Book} {space : List ℕ} {book : Book} {rest read done printed : ℕ} {filled : List ℕ} {held : ℕ} {r : Ran}
+    (g : Piece printing b space book rest read done printed filled held r) where
   abbrev s : Stand
   s = standing space book rest read done
 
@@ -135,27 +161,42 @@ module _ {b : Book} {space : List ℕ} {book : Book} {rest read done : ℕ} {fil
   pub done-within : done + r .done ≤ read + r .read
   done-within = omega (arith, stopped .fewer, done-fewer (g .before))
 
+  -- the bytes of the turn's lines, where they are printed
+  abbrev pub Told : ℕ → Type 0
+  Told count = count ≡ length (pick printing (linesOf (answersOf (take held filled) (turnMost read) book 0)) [])
+
+  pub printed-now : (count : ℕ) → Told count → printed + count ≡ printedBy printing b (new ∷ g .before .pieces)
+  printed-now count e =
+      ap (λ n. n + count) (g .before .told)
+      ∙ ap (λ n. printedBy printing b (g .before .pieces) + n)
+      (e
+      ∙ ap (λ l. length (pick printing (linesOf (answersOf l (turnMost read) book 0)) [])) piece-is
+      ∙ ap (λ z. length (pick printing (turnLines z new) [])) (g .before .is))
+      ∙ sym (printed-on printing b (g .before .pieces) new (g .before .sound))
+
   -- w says whether the turn is the last; t is the table that holds its book
-  pub last-turn-came : (short : Bool) (w : Bool) → w ≡ stopsAt (r .closing) short (leb 1_000_000 (read + r .read)) → w ≡ true → (t : Table) → turned (r .book) ≡ t
-      → Came b (record { table = t; closing = r .closing; read = read + r .read; done = done + r .done; failed = false })
+  pub last-turn-came : (count : ℕ) → Told count → (short : Bool) (w : Bool) → w ≡ stopsAt (r .closing) short (leb 1_000_000 (read + r .read)) → w ≡ true → (t : Table) → turned (r .book) ≡ t
+      → Came printing b (record { table = t; closing = r .closing; read = read + r .read; done = done + r .done; printed = printed + count; failed = false })
   unfolding pick
-  last-turn-came short w e h t f =
+  last-turn-came count told short w e h t f =
       let p = g .before .pieces in
       let stop : (let z = after b p in stopsAt (turnOf z new .closing) short (leb 1_000_000 (z .read + turnOf z new .read)) ≡ true) = rw (← g .before .is, ← turn-is) (sym e ∙ h) in
-      let day : dayBy s new ≡ wholeDay b (cameBy (new ∷ p)) = ap (λ z. dayBy z new) (g .before .is) ∙ last-turn b p new short stop in
+      let day : dayBy (printed + count) s new ≡ wholeDay printing b (cameBy (new ∷ p)) =
+      ap (λ n. dayBy n s new) (printed-now count told) ∙ ap (λ z. dayBy (printedBy printing b (new ∷ p)) z new) (g .before .is) ∙ last-day printing b p new short stop in
       record {
         input = cameBy (new ∷ p);
         bytes = all-bytes;
         is =
-            ap (λ (x : Table). record { table = x; closing = r .closing; read = read + r .read; done = done + r .done; failed = false }) (sym f)
-            ∙ ap (λ (q : Ran). record { table = turned (q .book); closing = q .closing; read = read + q .read; done = done + q .done; failed = false }) turn-is
+            ap (λ (x : Table). record { table = x; closing = r .closing; read = read + r .read; done = done + r .done; printed = printed + count; failed = false }) (sym f)
+            ∙ ap (λ (q : Ran). record { table = turned (q .book); closing = q .closing; read = read + q .read; done = done + q .done; printed = printed + count; failed = false }) turn-is
             ∙ day;
       }
 
-  pub turn-fed : (next : List ℕ) (left : ℕ) → length next ≡ 8262 → left ≡ held - r .place → take left next ≡ take left (drop (r .place) filled)
-      → Feeding b next (r .book) left (read + r .read) (done + r .done)
+  pub turn-fed : (count : ℕ) → Told count → count ≤ 20480 → 0 < r .read → (next : List ℕ) (left : ℕ) → length next ≡ 8262 → left ≡ held - r .place → take left next ≡ take left (drop (r .place) filled)
+      → Feeding printing b next (r .book) left (read + r .read) (done + r .done) (printed + count)
   unfolding after
-  turn-fed next left n l t = record {
+  turn-fed count told most some next left n l t = record {
+    sound = g .before .sound;
     pieces = new ∷ g .before .pieces;
     bytes = all-bytes;
     size = n;
@@ -164,6 +205,8 @@ module _ {b : Book} {space : List ℕ} {book : Book} {rest read done : ℕ} {fil
         ap (λ x. record { book = r .book; rest = x; read = read + r .read; done = done + r .done }) rest-is
         ∙ ap (λ (q : Ran). record { book = q .book; rest = drop (q .place) (take rest space ++ new); read = read + q .read; done = done + q .done }) turn-is
         ∙ ap (λ z. standAfter z new) (g .before .is);
+    told = printed-now count told;
+    few = omega (arith, g .before .few);
   }
     where
       rest-is : take left next ≡ drop (r .place) (take rest space ++ new)

@@ -1,5 +1,5 @@
 -- The lines of a day file that comes in pieces, turn after turn, are the lines of all bytes so far.
-use mathlib.Core.Bool.{Bool, true}
+use mathlib.Core.Bool.{Bool, true, false}
 use mathlib.Core.List.{List, [], _∷_, _++_, append-assoc, append-nil}
 use mathlib.Core.Logic.{_⊎_, inl, inr}
 use mathlib.Core.Path.{_≡_, refl, sym, ap, _∙_}
@@ -7,12 +7,14 @@ use Prim.Native.Nat.{ℕ, zero, suc, _+_, _-_, _≤_}
 use native.Mathlib.Nat.{add-zero}
 use native.Mathlib.Omega.{arith}
 use lib.Dec.{leb}
-use lib.ListN.{length, drop, length-drop}
+use lib.ListN.{length, drop, length-append}
 use lib.Seq.{drop-append-le}
 use borrow.Author.Tests.{leb-true}
+use Rattle.sums.specs.Choice.{pick}
 use Rattle.rows.specs.declared.Book.{Book}
+use Rattle.book.specs.Sound.{soundB}
 use Rattle.book.specs.Facts.{Sound}
-use Rattle.book.proofs.SoundTest.{sound←}
+use Rattle.book.proofs.SoundTest.{sound→, sound←}
 use Rattle.dayfile.specs.declared.Found.{Found}
 use Rattle.dayfile.specs.declared.Found.the-variants.{End as NoBytes, Cut as TooFew, Whole}
 use Rattle.dayfile.specs.Reading.{foundAt}
@@ -23,16 +25,18 @@ use Rattle.desk.specs.Steps.{stepOf}
 use Rattle.records.specs.declared.Closing.{Closing}
 use Rattle.records.specs.declared.Closing.the-variants.{End, Cut, Long, Unsound}
 use Rattle.records.specs.declared.Ran.{Ran}
-use Rattle.records.specs.Runs.{stopped, onward, runOf, ranOf}
+use Rattle.records.specs.Runs.{stopped, onward, runOf, ranOf, onFrom}
 use Rattle.records.specs.LineNumbers.{answering, answersOf}
 use Rattle.records.proofs.Stops.{run-stops}
 use Rattle.records.proofs.NumbersPut.{ran-sound}
 use Rattle.records.proofs.SoundRun.{ran-keeps}
-use Rattle.records.proofs.Pieces.{onFrom, after-end, nothing-left as nothing-after}
+use Rattle.records.proofs.Pieces.{after-end, nothing-left as nothing-after}
 use Rattle.lines.specs.Lines.{lineOf, linesOf}
-use Rattle.feed.specs.Pieces.{Stand, turnMost, turnOf, standAfter, turnLines, after, cameBy, linesBy}
+use Rattle.lines.specs.Texts.{textOf}
+use Rattle.feed.specs.Fed.{printedOf, wholeDay}
+use Rattle.feed.specs.Pieces.{Stand, turnMost, turnOf, standAfter, dayBy, turnLines, after, cameBy, linesBy, printedBy}
 use Rattle.feed.specs.Inner.{stopsAt}
-use Rattle.feed.proofs.Pieces.{turn-stops, sound-so-far}
+use Rattle.feed.proofs.Pieces.{turn-stops, sound-so-far, last-turn}
 
 lines-append : (a b : List Answer) → linesOf (a ++ b) ≡ linesOf a ++ linesOf b
 unfolding linesOf
@@ -195,6 +199,37 @@ lines-whole b h before piece short e =
     ∙ ap (λ l. linesBy b (piece ∷ before) ++ linesOf (answersOf l (1_000_000 - t .read) (t .book) 0)) (sym (append-nil (t .rest)))
     ∙ lines-so-far b h (piece ∷ before) []
     ∙ ap (λ l. linesOf (answersOf l 1_000_000 b 0)) (append-nil (cameBy (piece ∷ before)))
+
+-- ---- how many bytes were printed
+
+-- one piece more
+pub printed-on : (printing : Bool) (b : Book) (before : List (List ℕ)) (piece : List ℕ) → soundB b ≡ true
+    → printedBy printing b (piece ∷ before) ≡ printedBy printing b before + length (pick printing (turnLines (after b before) piece) [])
+unfolding printedBy linesBy pick
+printed-on true b before piece h = rw h (length-append (linesBy b before) (turnLines (after b before) piece))
+printed-on false b before piece h = refl
+
+-- THE BYTES OF ALL TURNS are those of the whole day's lines, where the last turn ends it ..
+last-printed : (printing : Bool) (b : Book) (before : List (List ℕ)) (piece : List ℕ) (short : Bool)
+    → (let s = after b before in stopsAt (turnOf s piece .closing) short (leb 1_000_000 (s .read + turnOf s piece .read)) ≡ true)
+    → printedBy printing b (piece ∷ before) ≡ printedOf printing b (cameBy (piece ∷ before))
+unfolding printedBy printedOf textOf pick
+last-printed false b before piece short e = refl
+last-printed true b before piece short e = by (soundB b) refl
+  where
+    by : (t : Bool) → soundB b ≡ t
+        → length (pick t (linesBy b (piece ∷ before)) []) ≡ length (pick t (linesOf (answersOf (cameBy (piece ∷ before)) 1_000_000 b 0)) [])
+    by true h = ap length (lines-whole b (sound→ b h) before piece short e)
+    by false h = refl
+
+-- .. and so is the day
+pub last-day : (printing : Bool) (b : Book) (before : List (List ℕ)) (piece : List ℕ) (short : Bool)
+    → (let s = after b before in stopsAt (turnOf s piece .closing) short (leb 1_000_000 (s .read + turnOf s piece .read)) ≡ true)
+    → dayBy (printedBy printing b (piece ∷ before)) (after b before) piece ≡ wholeDay printing b (cameBy (piece ∷ before))
+unfolding wholeDay
+last-day printing b before piece short e =
+    ap (λ n. dayBy n (after b before) piece) (last-printed printing b before piece short e)
+    ∙ last-turn (printedOf printing b (cameBy (piece ∷ before))) b before piece short e
 
 -- ---- two files one after the other
 

@@ -15,11 +15,11 @@ use Rattle.book.specs.Facts.{Sound}
 use Rattle.records.specs.declared.Closing.{Closing}
 use Rattle.records.specs.declared.Closing.the-variants.{End, Cut, Long, Unsound}
 use Rattle.records.specs.declared.Ran.{Ran}
-use Rattle.records.specs.Runs.{ranOf}
+use Rattle.records.specs.Runs.{ranOf, onFrom}
 use Rattle.records.proofs.SoundRun.{ran-keeps}
 use Rattle.records.proofs.Stops.{Stopped, ran-stops, ran-moves, ran-enough}
-use Rattle.records.proofs.Pieces.{onFrom, on-twice, on-none, in-pieces}
-use Rattle.feed.specs.Fed.{dayOf, wholeDay}
+use Rattle.records.proofs.Pieces.{on-twice, on-none, in-pieces}
+use Rattle.feed.specs.Fed.{dayOf}
 use Rattle.feed.specs.Pieces.{Stand, turnMost, turnOf, standAfter, dayBy, after, cameBy, placeBy}
 use Rattle.feed.specs.Inner.{stopsAt}
 
@@ -117,12 +117,12 @@ unfolding after
 sound-so-far b h [] = h
 sound-so-far b h (piece ∷ before) = let s = after b before in ran-keeps (s .book) (s .rest ++ piece) (turnMost (s .read)) (sound-so-far b h before)
 
--- THE LAST TURN: the day is that of all bytes that came
-pub last-turn : (b : Book) (before : List (List ℕ)) (piece : List ℕ) (short : Bool)
+-- THE LAST TURN: the day is that of all bytes that came, whatever was printed
+pub last-turn : (printed : ℕ) (b : Book) (before : List (List ℕ)) (piece : List ℕ) (short : Bool)
     → (let s = after b before in stopsAt (turnOf s piece .closing) short (leb 1_000_000 (s .read + turnOf s piece .read)) ≡ true)
-    → dayBy (after b before) piece ≡ wholeDay b (cameBy (piece ∷ before))
-unfolding wholeDay cameBy
-last-turn b before piece short e =
+    → dayBy printed (after b before) piece ≡ dayOf printed (ranOf b (cameBy (piece ∷ before)) 1_000_000)
+unfolding cameBy
+last-turn printed b before piece short e =
     let s = after b before in
-    ap (λ r. dayOf (onFrom (placeBy b before) (s .read) (s .done) r)) (sym (turn-enough s piece (turn-last s piece short e)))
-    ∙ ap dayOf (sym (so-far b before piece))
+    ap (λ r. dayOf printed (onFrom (placeBy b before) (s .read) (s .done) r)) (sym (turn-enough s piece (turn-last s piece short e)))
+    ∙ ap (dayOf printed) (sym (so-far b before piece))

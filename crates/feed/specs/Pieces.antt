@@ -1,9 +1,11 @@
 -- A day file that comes in pieces: one turn for each of them, a function of how far the day file is carried out and of the piece.
-use mathlib.Core.Bool.{false}
+use mathlib.Core.Bool.{Bool, false, _&&_}
 use mathlib.Core.List.{List, [], _∷_, _++_}
 use Prim.Native.Nat.{ℕ, _+_, _-_, min}
-use lib.ListN.{drop}
+use lib.ListN.{length, drop}
+use Rattle.sums.specs.Choice.{pick}
 use Rattle.rows.specs.declared.Book.{Book}
+use Rattle.book.specs.Sound.{soundB}
 use Rattle.table.specs.Words.{turned}
 use Rattle.records.specs.declared.Ran.{Ran}
 use Rattle.records.specs.Runs.{ranOf}
@@ -36,11 +38,11 @@ standAfter s piece =
     let r = turnOf s piece in
     record { book = r .book; rest = drop (r .place) (s .rest ++ piece); read = s .read + r .read; done = s .done + r .done }
 
--- the day that a turn ends
-abbrev pub dayBy : Stand → List ℕ → Day
-dayBy s piece =
+-- the day that a turn ends, and the bytes printed
+abbrev pub dayBy : ℕ → Stand → List ℕ → Day
+dayBy printed s piece =
     let r = turnOf s piece in
-    record { table = turned (r .book); closing = r .closing; read = s .read + r .read; done = s .done + r .done; failed = false }
+    record { table = turned (r .book); closing = r .closing; read = s .read + r .read; done = s .done + r .done; printed = printed; failed = false }
 
 -- the lines of a turn's records
 abbrev pub turnLines : Stand → List ℕ → List ℕ
@@ -62,3 +64,7 @@ placeBy b (piece ∷ before) = placeBy b before + turnOf (after b before) piece 
 unfoldable pub linesBy : Book → List (List ℕ) → List ℕ
 linesBy b [] = []
 linesBy b (piece ∷ before) = linesBy b before ++ turnLines (after b before) piece
+
+-- how many bytes were printed so far, where that is asked for; of an unsound book none
+unfoldable pub printedBy : Bool → Book → List (List ℕ) → ℕ
+printedBy printing b pieces = length (pick (printing && soundB b) (linesBy b pieces) [])

@@ -5,32 +5,34 @@ ghost use Rattle.table.specs.Words.{turnedBack};
 ghost use Rattle.book.specs.Facts.{Sound};
 ghost use Rattle.records.specs.Runs.{endedWith};
 ghost use Rattle.feed.specs.Fed.{noDay, dayOf, Came};
+use print::ROOM;
+use print::print_lines;
 pub use records::Closing;
 use space::SPACE;
 use steps::At;
 use steps::modes_of;
 pub use streams::Moved;
-use streams::standard::write_output;
 pub use table::Table;
 use table::modes::look_all;
 use table::needs::deemed_under;
 use turn::NUMBERS;
-use turn::ROOM;
 use turn::stops;
 
 pub mod books;
+mod print;
 mod space;
 mod turn;
 
 // "at a million records"
 pub const MILLION: u64 = 1_000_000;
 
-// What a whole day file came to, or that a read or a write failed.
+// What a whole day file came to, with how many bytes of lines were printed, or that a read or a write failed.
 pub struct Day {
     pub table: Table,
     pub closing: Closing,
     pub read: u64,
     pub done: u64,
+    pub printed: usize,
     pub failed: bool,
 }
 
@@ -54,12 +56,13 @@ fn no_day() -> Day
         closing: Closing::End,
         read: 0,
         done: 0,
+        printed: 0,
         failed: true,
     }
 }
 
 fn unsound(t: Table) -> Day
-    ensures { λ d. ⌜ d ≡ dayOf (endedWith Closing.Unsound (turnedBack t) 0 0 0) ⌝ }
+    ensures { λ d. ⌜ d ≡ dayOf 0 (endedWith Closing.Unsound (turnedBack t) 0 0 0) ⌝ }
 {
     let sort = t.sort;
     let live = t.live;
@@ -71,6 +74,7 @@ fn unsound(t: Table) -> Day
         closing: Closing::Unsound,
         read: 0,
         done: 0,
+        printed: 0,
         failed: false,
     }
 }
@@ -79,7 +83,7 @@ fn unsound(t: Table) -> Day
 // space is the last one.
 fn in_turns(program: &[u8], printing: bool, t: Table) -> Day
     requires { ⌜ Sound (turnedBack t) ⌝ }
-    ensures { λ d. ⌜ Came (turnedBack t) d ⌝ }
+    ensures { λ d. ⌜ Came printing (turnedBack t) d ⌝ }
 {
     let mut space = space::blank();
     let mut numbers = [0u16; NUMBERS];
@@ -100,11 +104,12 @@ fn in_turns(program: &[u8], printing: bool, t: Table) -> Day
     let mut rest: usize = 0;
     let mut read: u64 = 0;
     let mut done: u64 = 0;
+    let mut printed: usize = 0;
     let mut ended = false;
     let closing = loop {
         let got = space::refill(program, &mut space, rest, ended);
         let held = rest + got.count;
-        let turn = turn::carry_on(
+        let went = turn::carry_on(
             &mut sort,
             &mut live,
             &mut tm,
@@ -118,19 +123,18 @@ fn in_turns(program: &[u8], printing: bool, t: Table) -> Day
             MILLION - read,
             printing,
             &mut numbers,
-            &mut text,
         );
-        let n = turn.text;
-        let went = turn.went;
         let word = went.closing;
         let stands = went.at;
-        let put = write_output(program, &text[..n]);
+        let lines = went.read as usize;
+        let put = print_lines(program, printing, &numbers, lines, &mut text);
         if got.failed | put.failed {
             return no_day();
         }
         at = stands;
         read += went.read;
         done += went.done;
+        printed += put.count;
         ended = held < SPACE;
         if stops(word, ended, MILLION <= read) {
             break word;
@@ -152,6 +156,7 @@ fn in_turns(program: &[u8], printing: bool, t: Table) -> Day
         closing,
         read,
         done,
+        printed,
         failed: false,
     }
 }
@@ -159,7 +164,7 @@ fn in_turns(program: &[u8], printing: bool, t: Table) -> Day
 // The day file on standard input, carried out over a book, with a line for each record on standard output where that is asked for. Of a book that isn't sound
 // nothing is read. A failure is told on standard error, for the program named.
 pub fn whole_day(program: &[u8], printing: bool, t: Table) -> Day
-    ensures { λ d. ⌜ Came (turnedBack t) d ⌝ }
+    ensures { λ d. ⌜ Came printing (turnedBack t) d ⌝ }
 {
     if !book::is_sound(t) {
         return unsound(t);

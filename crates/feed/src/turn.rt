@@ -1,34 +1,25 @@
-// One turn of the day file: the records of the bytes held, and their lines. Nothing is read or written here.
+// One turn of the day file: the records of the bytes held, and the numbers of their lines. Nothing is read or written here.
 ghost use mathlib.Core.Bool.{true};
-ghost use mathlib.Core.List.{[]};
 ghost use mathlib.Core.Path.{_≡_};
 ghost use Prim.Native.Nat.{_+_, _≤_, min};
-ghost use lib.ListN.{length, take};
-ghost use Rattle.sums.specs.Choice.{pick};
+ghost use lib.ListN.{length};
 ghost use Rattle.table.specs.Words.{marksFrom};
 ghost use Rattle.steps.specs.Steps.{bookAt, Going};
 ghost use Rattle.records.specs.Runs.{runOf};
 ghost use Rattle.records.specs.LineNumbers.{answersOf};
 ghost use Rattle.records.specs.Inner.{ranIn};
 ghost use Rattle.lines.specs.Lines.{linesOf};
+ghost use Rattle.lines.specs.Texts.{linesTo};
 ghost use Rattle.feed.specs.Inner.{stopsAt};
 use records::Closing;
 use records::Went;
 use records::go;
 use steps::At;
 
-// The records that a turn takes, with five numbers and 32 bytes of room for each.
+// The records that a turn takes, with five numbers for each.
 pub(crate) const RECORDS: u64 = 640;
 
 pub(crate) const NUMBERS: usize = 3_200;
-
-pub(crate) const ROOM: usize = 20_480;
-
-// What a turn came to, and how long its lines are.
-pub(crate) struct Turn {
-    pub(crate) went: Went,
-    pub(crate) text: usize,
-}
 
 // Whether the turn is the last: it took all of a piece that is shorter than its space, or the million is full.
 pub(crate) fn stops(word: Closing, short: bool, full: bool) -> bool
@@ -48,6 +39,7 @@ fn at_once(left: u64) -> u64
     if left < RECORDS { left } else { RECORDS }
 }
 
+// Where lines are asked for, their numbers are put from the room's start.
 pub(crate) fn carry_on(
     sort: &mut [u8; 256],
     live: &mut [bool; 256],
@@ -62,14 +54,13 @@ pub(crate) fn carry_on(
     left: u64,
     printing: bool,
     numbers: &mut [u16; 3200],
-    text: &mut [u8; 20480],
-) -> Turn
-    requires { ⌜ Going at (marksFrom (now sort) (now live) (now tm)) (now w) (now was) (now modes) (now needs) (now excess) × (length (now numbers) ≡ 3200) × (length (now text) ≡ 20480) ⌝ }
-    ensures { λ x. ⌜ ranIn (x .went) (marksFrom (now (sort .exit)) (now (live .exit)) (now (tm .exit))) (now (w .exit)) (now (was .entry)) (now (modes .exit)) (now (needs .exit)) ≡ runOf (now (held .entry)) (min left 640) (bookAt at (marksFrom (now (sort .entry)) (now (live .entry)) (now (tm .entry))) (now (w .entry)) (now (was .entry)) (now (modes .entry)) (now (needs .entry))) 0 0 0 ⌝ }
-    ensures { λ x. ⌜ Going (x .went .at) (marksFrom (now (sort .exit)) (now (live .exit)) (now (tm .exit))) (now (w .exit)) (now (was .entry)) (now (modes .exit)) (now (needs .exit)) (now (excess .exit)) ⌝ }
-    ensures { λ x. ⌜ (x .text ≤ length (now (text .exit))) × (take (x .text) (now (text .exit)) ≡ pick printing (linesOf (answersOf (now (held .entry)) (min left 640) (bookAt at (marksFrom (now (sort .entry)) (now (live .entry)) (now (tm .entry))) (now (w .entry)) (now (was .entry)) (now (modes .entry)) (now (needs .entry))) 0)) []) × (length (now (numbers .exit)) ≡ 3200) × (length (now (text .exit)) ≡ 20480) ⌝ }
+) -> Went
+    requires { ⌜ Going at (marksFrom (now sort) (now live) (now tm)) (now w) (now was) (now modes) (now needs) (now excess) × (length (now numbers) ≡ 3200) ⌝ }
+    ensures { λ x. ⌜ ranIn x (marksFrom (now (sort .exit)) (now (live .exit)) (now (tm .exit))) (now (w .exit)) (now (was .entry)) (now (modes .exit)) (now (needs .exit)) ≡ runOf (now (held .entry)) (min left 640) (bookAt at (marksFrom (now (sort .entry)) (now (live .entry)) (now (tm .entry))) (now (w .entry)) (now (was .entry)) (now (modes .entry)) (now (needs .entry))) 0 0 0 ⌝ }
+    ensures { λ x. ⌜ Going (x .at) (marksFrom (now (sort .exit)) (now (live .exit)) (now (tm .exit))) (now (w .exit)) (now (was .entry)) (now (modes .exit)) (now (needs .exit)) (now (excess .exit)) ⌝ }
+    ensures { λ x. ⌜ (x .read ≤ 640) × (length (now (numbers .exit)) ≡ 3200) × (printing ≡ true → linesTo (now (numbers .exit)) (x .read) ≡ linesOf (answersOf (now (held .entry)) (min left 640) (bookAt at (marksFrom (now (sort .entry)) (now (live .entry)) (now (tm .entry))) (now (w .entry)) (now (was .entry)) (now (modes .entry)) (now (needs .entry))) 0)) ⌝ }
 {
-    let went = go(
+    go(
         sort,
         live,
         tm,
@@ -83,11 +74,5 @@ pub(crate) fn carry_on(
         at_once(left),
         numbers,
         printing,
-    );
-    if !printing {
-        return Turn { went, text: 0 };
-    }
-    let n = went.read as usize;
-    let text = lines::lines_of_numbers(numbers, n, text);
-    Turn { went, text }
+    )
 }

@@ -1,7 +1,9 @@
 // The words: `SERIAL ACCOUNT INITIAL`, with `--record` in front where the record is asked for.
-ghost use Prim.Native.Nat.{_≤_};
+ghost use mathlib.Core.Path.{_≡_};
+ghost use Rattle.margins.specs.Asked.{notAsked, askedFor, askedByWords, Came};
 use crate::digits::Decimal;
 use crate::digits::number_of;
+use streams::words::is_same;
 
 pub(crate) struct Asked {
     pub(crate) is_good: bool,
@@ -11,7 +13,9 @@ pub(crate) struct Asked {
     pub(crate) initial: u64,
 }
 
-fn nothing() -> Asked {
+fn nothing() -> Asked
+    ensures { λ a. ⌜ a ≡ notAsked ⌝ }
+{
     Asked {
         is_good: false,
         record: false,
@@ -21,23 +25,9 @@ fn nothing() -> Asked {
     }
 }
 
-// The number that a word is. Word 1 is the first behind the program's own name.
-fn number_in(word: usize) -> Decimal {
-    let mut bytes = io::buffer();
-    let n = os::arg(word, &mut bytes);
-    if os::errno() != 0 {
-        return Decimal::No;
-    }
-    number_of(&bytes[..n])
-}
-
-fn is_record(word: usize) -> bool {
-    let mut bytes = io::buffer();
-    let n = os::arg(word, &mut bytes);
-    check::same(&bytes[..n], b"--record")
-}
-
-fn from_numbers(record: bool, serial: u64, account: u64, initial: u64) -> Asked {
+fn from_numbers(record: bool, serial: u64, account: u64, initial: u64) -> Asked
+    ensures { λ a. ⌜ a ≡ askedFor «record» (Decimal.Is serial) (Decimal.Is account) (Decimal.Is initial) ⌝ }
+{
     if (65_535 < serial) | (65_535 < account) {
         return nothing();
     }
@@ -50,32 +40,54 @@ fn from_numbers(record: bool, serial: u64, account: u64, initial: u64) -> Asked 
     }
 }
 
-// The three numbers from a word on.
-fn from_word(record: bool, first: usize) -> Asked
-    requires { ⌜ first ≤ 2 ⌝ }
+fn from_three(record: bool, serial: Decimal, account: Decimal, initial: Decimal) -> Asked
+    ensures { λ a. ⌜ a ≡ askedFor «record» serial account initial ⌝ }
 {
-    let Decimal::Is(serial) = number_in(first) else {
+    let Decimal::Is(serial) = serial else {
         return nothing();
     };
-    let Decimal::Is(account) = number_in(first + 1) else {
+    let Decimal::Is(account) = account else {
         return nothing();
     };
-    let Decimal::Is(initial) = number_in(first + 2) else {
+    let Decimal::Is(initial) = initial else {
         return nothing();
     };
     from_numbers(record, serial, account, initial)
 }
 
-pub(crate) fn from_words() -> Asked {
-    let words = os::arg_count();
-    if is_record(1) {
-        if words != 5 {
-            return nothing();
-        }
-        return from_word(true, 2);
+// So many words, the program's own name among them; the first four behind the name.
+fn from_four(count: usize, a: &[u8], b: &[u8], c: &[u8], d: &[u8]) -> Asked
+    ensures { λ r. ⌜ r ≡ askedByWords count (now (a .entry)) (now (b .entry)) (now (c .entry)) (now (d .entry)) ⌝ }
+{
+    if count == 4 {
+        return from_three(false, number_of(a), number_of(b), number_of(c));
     }
-    if words != 4 {
+    if count != 5 {
         return nothing();
     }
-    from_word(false, 1)
+    if !is_same(a, b"--record") {
+        return nothing();
+    }
+    from_three(true, number_of(b), number_of(c), number_of(d))
+}
+
+// A word that is missing, or too long for its room, counts as empty.
+pub(crate) fn from_words() -> Asked
+    ensures { λ a. ⌜ Came a ⌝ }
+{
+    let mut a = io::buffer();
+    let mut b = io::buffer();
+    let mut c = io::buffer();
+    let mut d = io::buffer();
+    let first = os::arg(1, &mut a);
+    let second = os::arg(2, &mut b);
+    let third = os::arg(3, &mut c);
+    let fourth = os::arg(4, &mut d);
+    from_four(
+        os::arg_count(),
+        &a[..first],
+        &b[..second],
+        &c[..third],
+        &d[..fourth],
+    )
 }

@@ -1,8 +1,12 @@
 // The words behind `figures`: PREMIUM LOSS, and at the end of day EXERCISE SETTLEMENT behind them.
+ghost use mathlib.Core.List.{_∷_};
+ghost use mathlib.Core.Path.{_≡_};
+ghost use Rattle.margins.specs.Words.{wordsOf};
+ghost use Rattle.margins.specs.Figures.{aboveZero, belowZero, figureOf, told, figuresBehind};
 use crate::digits::Decimal;
 use crate::digits::number_of;
 use crate::lines::Line;
-use crate::lines::up_to;
+use crate::words::up_to;
 
 // One client's figures, as `exposure` takes them.
 pub(crate) struct Figures {
@@ -20,7 +24,9 @@ enum Figure {
 const LARGEST: u64 = 9_223_372_036_854_775_807;
 
 // One that does not fit the signed type counts as its largest or its least.
-fn above(n: u64) -> i64 {
+fn above(n: u64) -> i64
+    ensures { λ z. ⌜ z ≡ aboveZero n ⌝ }
+{
     if n <= LARGEST {
         n as i64
     } else {
@@ -28,7 +34,9 @@ fn above(n: u64) -> i64 {
     }
 }
 
-fn below(n: u64) -> i64 {
+fn below(n: u64) -> i64
+    ensures { λ z. ⌜ z ≡ belowZero n ⌝ }
+{
     if n <= LARGEST {
         0 - n as i64
     } else {
@@ -36,7 +44,9 @@ fn below(n: u64) -> i64 {
     }
 }
 
-fn figure_of(word: &[u8]) -> Figure {
+fn figure_of(word: &[u8]) -> Figure
+    ensures { λ f. ⌜ f ≡ figureOf (now (word .entry)) ⌝ }
+{
     if word.len() == 0 {
         return Figure::No;
     }
@@ -52,17 +62,19 @@ fn figure_of(word: &[u8]) -> Figure {
     Figure::Is(above(n))
 }
 
-fn all_of(premium: &[u8], loss: &[u8], exercise: &[u8], settlement: &[u8]) -> Line {
-    let Figure::Is(premium) = figure_of(premium) else {
+fn all_of(premium: Figure, loss: Figure, exercise: Figure, settlement: Figure) -> Line
+    ensures { λ l. ⌜ l ≡ told premium loss exercise settlement ⌝ }
+{
+    let Figure::Is(premium) = premium else {
         return Line::Bad;
     };
-    let Figure::Is(loss) = figure_of(loss) else {
+    let Figure::Is(loss) = loss else {
         return Line::Bad;
     };
-    let Figure::Is(exercise) = figure_of(exercise) else {
+    let Figure::Is(exercise) = exercise else {
         return Line::Bad;
     };
-    let Figure::Is(settlement) = figure_of(settlement) else {
+    let Figure::Is(settlement) = settlement else {
         return Line::Bad;
     };
     Line::Told(Figures {
@@ -73,26 +85,41 @@ fn all_of(premium: &[u8], loss: &[u8], exercise: &[u8], settlement: &[u8]) -> Li
     })
 }
 
-pub(crate) fn of_words(words: &[u8]) -> Line {
-    let first = up_to(words, 0, b' ');
-    if first == words.len() {
-        return Line::Bad;
-    }
-    let from = first + 1;
-    let second = up_to(words, from, b' ');
-    if second == words.len() {
-        return all_of(&words[..first], &words[from..], b"0", b"0");
-    }
-    let behind = second + 1;
-    let third = up_to(words, behind, b' ');
+// The last two words go up to the end: a space in the second leaves it no figure.
+fn of_four(premium: &[u8], loss: &[u8], words: &[u8]) -> Line
+    ensures { λ l. ⌜ l ≡ figuresBehind (now (premium .entry) ∷ now (loss .entry) ∷ wordsOf (now (words .entry))) ⌝ }
+{
+    let third = up_to(words, b' ');
     if third == words.len() {
         return Line::Bad;
     }
     let last = third + 1;
     all_of(
-        &words[..first],
-        &words[from..second],
-        &words[behind..third],
-        &words[last..],
+        figure_of(premium),
+        figure_of(loss),
+        figure_of(&words[..third]),
+        figure_of(&words[last..]),
     )
+}
+
+pub(crate) fn of_words(words: &[u8]) -> Line
+    ensures { λ l. ⌜ l ≡ figuresBehind (wordsOf (now (words .entry))) ⌝ }
+{
+    let first = up_to(words, b' ');
+    if first == words.len() {
+        return Line::Bad;
+    }
+    let from = first + 1;
+    let behind = &words[from..];
+    let second = up_to(behind, b' ');
+    if second == behind.len() {
+        return all_of(
+            figure_of(&words[..first]),
+            figure_of(behind),
+            Figure::Is(0),
+            Figure::Is(0),
+        );
+    }
+    let more = second + 1;
+    of_four(&words[..first], &behind[..second], &behind[more..])
 }

@@ -1,12 +1,19 @@
 // One line of the input: `PRODUCT SIDE NOTIONAL`, `figures ..`, or nothing to read.
-ghost use Prim.Native.Nat.{_≤_};
-ghost use lib.ListN.{length};
+ghost use mathlib.Core.List.{_∷_};
+ghost use mathlib.Core.Path.{_≡_};
+ghost use Rattle.margins.specs.Words.{wordsOf};
+ghost use Rattle.margins.specs.Lines.{holding, positionOf, ofWords, lineSays};
 use crate::digits::Decimal;
 use crate::digits::number_of;
 use crate::figures;
 use crate::figures::Figures;
+use crate::products::names_product;
+use crate::products::product_of;
+use crate::sides::Word;
+use crate::sides::side_of;
+use crate::words::up_to;
 use currency::Position;
-use currency::Side;
+use streams::words::is_same;
 
 // What a line says. An empty one, and one that begins with `#`, says nothing.
 pub(crate) enum Line {
@@ -16,129 +23,58 @@ pub(crate) enum Line {
     Bad,
 }
 
-enum Word {
-    Is(Side),
-    No,
-}
-
-// Where the first byte of this kind stands from a place on, or the end.
-pub(crate) fn up_to(text: &[u8], from: usize, byte: u8) -> usize
-    requires { ⌜ from ≤ length (now text) ⌝ }
-    ensures { λ at. ⌜ (from ≤ at) × (at ≤ length (now (text .entry))) ⌝ }
+fn held(product: u8, side: Word, notional: Decimal) -> Line
+    ensures { λ l. ⌜ l ≡ holding product side notional ⌝ }
 {
-    let mut i = from;
-    while i < text.len() {
-        if text[i] == byte {
-            return i;
-        }
-        i += 1;
-    }
-    i
-}
-
-fn is_capital_or_digit(byte: u8) -> bool {
-    ((b'A' <= byte) & (byte <= b'Z')) | ((b'0' <= byte) & (byte <= b'9'))
-}
-
-// Whether a word may name a product, known or not.
-fn names_product(word: &[u8]) -> bool {
-    let mut i: usize = 0;
-    while i < word.len() {
-        if !is_capital_or_digit(word[i]) {
-            return false;
-        }
-        i += 1;
-    }
-    0 < word.len()
-}
-
-// A product's number, in the paper's order; 10 for any other.
-fn product_of(word: &[u8]) -> u8 {
-    if check::same(word, b"EURINR") {
-        return 0;
-    }
-    if check::same(word, b"EURUSD") {
-        return 1;
-    }
-    if check::same(word, b"GBPINR") {
-        return 2;
-    }
-    if check::same(word, b"GBPUSD") {
-        return 3;
-    }
-    if check::same(word, b"JPYINR") {
-        return 4;
-    }
-    if check::same(word, b"USDINR") {
-        return 5;
-    }
-    if check::same(word, b"USDJPY") {
-        return 6;
-    }
-    if check::same(word, b"INTEREST") {
-        return 7;
-    }
-    if check::same(word, b"TBILL91") {
-        return 8;
-    }
-    if check::same(word, b"ONMIBOR") {
-        return 9;
-    }
-    10
-}
-
-fn side_of(word: &[u8]) -> Word {
-    if check::same(word, b"futures") {
-        return Word::Is(Side::Futures);
-    }
-    if check::same(word, b"short") {
-        return Word::Is(Side::Short);
-    }
-    if check::same(word, b"long") {
-        return Word::Is(Side::Long);
-    }
-    if check::same(word, b"spread") {
-        return Word::Is(Side::Spread);
-    }
-    Word::No
-}
-
-fn position(product: &[u8], side: &[u8], notional: &[u8]) -> Line {
-    if !names_product(product) {
-        return Line::Bad;
-    }
-    let Word::Is(side) = side_of(side) else {
+    let Word::Is(side) = side else {
         return Line::Bad;
     };
-    let Decimal::Is(notional) = number_of(notional) else {
+    let Decimal::Is(notional) = notional else {
         return Line::Bad;
     };
     Line::Holds(Position {
-        product: product_of(product),
+        product,
         side,
         notional,
     })
 }
 
-// Words are parted by single spaces: the third goes up to the end.
-fn of_words(line: &[u8]) -> Line {
-    let first = up_to(line, 0, b' ');
+// The words behind the product; the notional goes up to the end, where a space leaves it no number.
+fn position(product: &[u8], words: &[u8]) -> Line
+    ensures { λ l. ⌜ l ≡ positionOf (now (product .entry) ∷ wordsOf (now (words .entry))) ⌝ }
+{
+    let second = up_to(words, b' ');
+    if second == words.len() {
+        return Line::Bad;
+    }
+    if !names_product(product) {
+        return Line::Bad;
+    }
+    let last = second + 1;
+    held(
+        product_of(product),
+        side_of(&words[..second]),
+        number_of(&words[last..]),
+    )
+}
+
+fn of_words(line: &[u8]) -> Line
+    ensures { λ l. ⌜ l ≡ ofWords (wordsOf (now (line .entry))) ⌝ }
+{
+    let first = up_to(line, b' ');
     if first == line.len() {
         return Line::Bad;
     }
     let from = first + 1;
-    if check::same(&line[..first], b"figures") {
+    if is_same(&line[..first], b"figures") {
         return figures::of_words(&line[from..]);
     }
-    let second = up_to(line, from, b' ');
-    if second == line.len() {
-        return Line::Bad;
-    }
-    let last = second + 1;
-    position(&line[..first], &line[from..second], &line[last..])
+    position(&line[..first], &line[from..])
 }
 
-pub(crate) fn line_of(line: &[u8]) -> Line {
+pub(crate) fn line_of(line: &[u8]) -> Line
+    ensures { λ l. ⌜ l ≡ lineSays (now (line .entry)) ⌝ }
+{
     if line.len() == 0 {
         return Line::Nothing;
     }

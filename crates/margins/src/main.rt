@@ -1,67 +1,46 @@
 // A client's margin on the currency desk: its positions and figures as text lines on standard input, its initial margin among the words. Prints the refusal or 0 and the
 // margin; or, if asked, hands over the bytes of the record that sets it, for a day file.
+ghost use mathlib.Core.Bool.{false};
+ghost use mathlib.Core.Path.{_≡_};
+ghost use Prim.Native.Nat.{_≤_};
+ghost use lib.ListN.{length};
+ghost use Rattle.margins.specs.Positions.{heldIn};
+ghost use Rattle.margins.specs.Printed.{printedFor};
+use answers::answer;
 use asked::Asked;
-use dayfile::Record;
-use dayfile::Wrote;
-use positions::Held;
+use libc::STDERR_FILENO;
+use streams::Moved;
 use streams::standard::read_input;
 use streams::standard::write_output;
 
+mod answers;
 mod asked;
 mod digits;
 mod figures;
 mod lines;
 mod positions;
+mod printed;
+mod products;
+mod sides;
 mod told;
+mod words;
 
 // The most bytes of the input.
 const INPUT: usize = 65_536;
 
-// "the refusal or 0, then the margin (0 with a refusal)"
-fn print_line(refusal: u8, margin: u64) {
-    let mut room = [0u8; 42];
-    let list = [refusal as u64, margin];
-    let n = text::put_spaced(&mut room, 0, &list);
-    write_output(b"margins", &room[..n]);
-}
-
-fn write_record(record: Record) {
-    let mut room = [0u8; 70];
-    match dayfile::write(record, &mut room) {
-        Wrote::Written(n) => {
-            if n <= 70 {
-                write_output(b"margins", &room[..n]);
-            }
-        }
-        Wrote::Refused(refusal) => told::refused(refusal),
-    }
-}
-
-fn answer(asked: Asked, held: Held) {
-    let positions = held.positions;
-    let figures = held.figures;
-    let made = exposure::margin(
-        asked.serial,
-        asked.account,
-        asked.initial,
-        positions,
-        held.number,
-        figures.premium,
-        figures.loss,
-        figures.exercise,
-        figures.settlement,
-    );
-    if asked.record {
-        match made {
-            currency::Made::Given(record) => write_record(record),
-            currency::Made::Refused(refusal) => told::refused(refusal),
-        }
-    } else {
-        match made {
-            currency::Made::Given(record) => print_line(0, record.margin),
-            currency::Made::Refused(refusal) => print_line(refusal, 0),
-        }
-    }
+// Hands over what is printed of the input's text, whole unless a write failed.
+fn hand_over(asked: Asked, text: &[u8]) -> Moved
+    requires { ⌜ length (now text) ≤ 65_536 ⌝ }
+    ensures { λ m. ⌜ (m .failed ≡ false → m .count ≡ length (printedFor asked (heldIn (now (text .entry))))) ⌝ }
+{
+    let held = positions::read(text);
+    let mut out = [0u8; 70];
+    let mut err = [0u8; 70];
+    let said = answer(asked, held, &mut out, &mut err);
+    let told = said.told;
+    let printed = said.printed;
+    io::write_all(STDERR_FILENO, &err[..told]);
+    write_output(b"margins", &out[..printed])
 }
 
 fn run(asked: Asked) {
@@ -75,12 +54,7 @@ fn run(asked: Asked) {
         told::too_long();
         return;
     }
-    let held = positions::read(&room[..n]);
-    if held.bad != 0 {
-        told::no_position(held.bad);
-        return;
-    }
-    answer(asked, held);
+    hand_over(asked, &room[..n]);
 }
 
 fn main() {

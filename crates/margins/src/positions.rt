@@ -1,11 +1,15 @@
 // The positions and the figures that the input's lines hold.
+ghost use mathlib.Core.List.{[]};
 ghost use mathlib.Core.Path.{_≡_};
 ghost use Prim.Native.Nat.{_+_, _≤_};
 ghost use lib.ListN.{length};
+ghost use Rattle.margins.specs.Lines.{lineSays};
+ghost use Rattle.margins.specs.Positions.{heldBy, heldIn};
+ghost use Rattle.margins.specs.Inner.{withPosition, withBad, withFigures, withLine};
 use crate::figures::Figures;
 use crate::lines::Line;
 use crate::lines::line_of;
-use crate::lines::up_to;
+use crate::words::up_to;
 use currency::MOST;
 use currency::Position;
 use currency::Side;
@@ -21,7 +25,7 @@ pub(crate) struct Held {
 }
 
 fn none() -> Held
-    ensures { λ h. ⌜ h .number ≡ 0 ⌝ }
+    ensures { λ h. ⌜ h ≡ heldBy [] ⌝ }
 {
     let empty = Position {
         product: 0,
@@ -45,12 +49,14 @@ fn none() -> Held
 
 fn with_position(held: Held, position: Position) -> Held
     requires { ⌜ held .number ≤ 65_536 ⌝ }
-    ensures { λ h. ⌜ h .number ≤ held .number + 1 ⌝ }
+    ensures { λ h. ⌜ h ≡ withPosition held position ⌝ }
 {
-    let mut more = held;
     let n = held.number;
+    let mut more = held;
     if n < MOST {
         more.positions[n] = position;
+        more.number = n + 1;
+        return more;
     }
     more.number = n + 1;
     more
@@ -58,7 +64,7 @@ fn with_position(held: Held, position: Position) -> Held
 
 // The first line that is none counts.
 fn with_bad(held: Held, number: u64) -> Held
-    ensures { λ h. ⌜ h .number ≡ held .number ⌝ }
+    ensures { λ h. ⌜ h ≡ withBad held number ⌝ }
 {
     let mut bad = held;
     if held.bad == 0 {
@@ -69,7 +75,7 @@ fn with_bad(held: Held, number: u64) -> Held
 
 // Figures stand there at most once.
 fn with_figures(held: Held, figures: Figures, number: u64) -> Held
-    ensures { λ h. ⌜ h .number ≡ held .number ⌝ }
+    ensures { λ h. ⌜ h ≡ withFigures held figures number ⌝ }
 {
     if held.told {
         return with_bad(held, number);
@@ -82,7 +88,7 @@ fn with_figures(held: Held, figures: Figures, number: u64) -> Held
 
 fn with_line(held: Held, line: &[u8], number: u64) -> Held
     requires { ⌜ held .number ≤ 65_536 ⌝ }
-    ensures { λ h. ⌜ h .number ≤ held .number + 1 ⌝ }
+    ensures { λ h. ⌜ h ≡ withLine held (lineSays (now (line .entry))) number ⌝ }
 {
     match line_of(line) {
         Line::Nothing => held,
@@ -94,15 +100,17 @@ fn with_line(held: Held, line: &[u8], number: u64) -> Held
 
 pub(crate) fn read(text: &[u8]) -> Held
     requires { ⌜ length (now text) ≤ 65_536 ⌝ }
+    ensures { λ h. ⌜ h ≡ heldIn (now (text .entry)) ⌝ }
 {
     let mut held = none();
     let mut at: usize = 0;
     let mut lines: u64 = 0;
     while at < text.len() {
-        let end = up_to(text, at, b'\n');
+        let rest = &text[at..];
+        let n = up_to(rest, b'\n');
         lines += 1;
-        held = with_line(held, &text[at..end], lines);
-        at = end + 1;
+        held = with_line(held, &rest[..n], lines);
+        at = at + n + 1;
     }
     held
 }

@@ -1,5 +1,5 @@
 -- The book file: a book's written form and the book are one to one. A value of the type has arrays of their lengths and words that fit (`bookfile.Facts.Fits`); whether it is sound doesn't matter.
-use mathlib.Core.Bool.{true}
+use mathlib.Core.Bool.{Bool, true}
 use mathlib.Core.List.{List}
 use mathlib.Core.Path.{_≡_, ap}
 use Prim.Native.Nat.{ℕ}
@@ -36,5 +36,5 @@ pub the-lent-room-reads-back : (t : Table) (room : List ℕ) → Fits t → wrot
 the-lent-room-reads-back = room-reads
 
 -- Over the night: a day over the book in the file that was written is the day over the book.
-pub a-day-over-the-file : (t : Table) → Fits t → (x : List ℕ) → wholeDay (turnedBack (readOf (writtenOf t) .table)) x ≡ wholeDay (turnedBack t) x
-a-day-over-the-file t f x = ap (λ (h : Held). wholeDay (turnedBack (h .table)) x) (read-written t f)
+pub a-day-over-the-file : (printing : Bool) (t : Table) → Fits t → (x : List ℕ) → wholeDay printing (turnedBack (readOf (writtenOf t) .table)) x ≡ wholeDay printing (turnedBack t) x
+a-day-over-the-file printing t f x = ap (λ (h : Held). wholeDay printing (turnedBack (h .table)) x) (read-written t f)

@@ -21,7 +21,7 @@ use Rattle.dayfile.specs.declared.Found.the-variants.{End as NoBytes, Cut as To
 use Rattle.dayfile.specs.Records.{faultOf}
 use Rattle.dayfile.specs.Reading.{got, past, recordOf, foundFrom, foundAt, sizeOf}
 use Rattle.rules.specs.Effects.{amended}
-use Rattle.rules.specs.Inner.{refusalBy, changeBy}
+use Rattle.rules.proofs.WhatIsBeside.{refusalBy, changeBy}
 use Rattle.desk.specs.declared.Outcome.the-variants.{Refused, End}
 use Rattle.desk.specs.declared.Next.{Next}
 use Rattle.desk.specs.Answers.{nobody, refusalIn}

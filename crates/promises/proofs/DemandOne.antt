@@ -8,8 +8,6 @@ use mathlib.Core.Path.{_≡_, refl, sym, ap, _∙_}
 use Prim.Native.Nat.{ℕ, zero, suc, _+_, _≤_, _<_}
 use lib.ListN.{length, getD}
 use Rattle.sums.specs.Choice.{unlessRefused}
-use Rattle.sums.specs.Table.{Line, first, Given}
-use Rattle.sums.proofs.Tables.{given-first, first-given}
 use Rattle.rows.specs.declared.Book.{Book}
 use Rattle.rows.specs.Rows.{rowAt, modeAt, view}
 use Rattle.book.specs.Sound.{soundB}
@@ -18,11 +16,11 @@ use Rattle.book.specs.NeedsListed.{needsRefusals, needsRefusal, allNeeds, needs
 use Rattle.book.proofs.StandingRefusals.{standing-number}
 use Rattle.dayfile.specs.declared.Record.{Record}
 use Rattle.dayfile.specs.declared.Found.the-variants.{End as NoBytes, Cut as TooFew, Whole}
-use Rattle.dayfile.specs.declared.Read.the-variants.{Good, Bad}
 use Rattle.dayfile.specs.Records.{faults, faultOf}
 use Rattle.dayfile.specs.declared.Wrote.the-variants.{Refused as NotWritten}
-use Rattle.dayfile.specs.Reading.{sizeOf, foundAt, judged, readOf, readAt, numberFound, numberOf}
+use Rattle.dayfile.specs.Reading.{sizeOf, foundAt, readAt, numberFound, numberOf, refusalAt, readerRefusal}
 use Rattle.dayfile.specs.Written.{writerRefusals, writerRefusal, wroteOf, roomAfter, refusalWrote}
+use Rattle.dayfile.proofs.Numbers.{found-number, read-number}
 use Rattle.dayfile.proofs.Answers.{wrote-refusal, refused-writer-leaves-room as writer-leaves}
 use Rattle.dayfile.proofs.Places.{cut-at, at-cut}
 use Rattle.rules.specs.Refusals.{refusalOf}
@@ -40,6 +38,8 @@ use Rattle.records.proofs.NumbersPut.{ran-unsound, numbers-unsound}
 use Rattle.closeout.specs.Closing.{lossAt, noTotal, closeOutRefusals, closeOutRefusal, closedOf, roomOf}
 use Rattle.closeout.specs.Columns.{total}
 use Rattle.closeout.proofs.Carried.{refused-total, refused-untouched}
+use Rattle.promises.specs.InOrder.{InOrder}
+use Rattle.promises.proofs.Exactly.{in-order}
 
 -- The answer to a record names the number of document 01's table (which number, and when: `given-exactly-when` of DemandTwo).
 pub answer-names-the-number : (b : Book) (r : Record) → refusalIn (stepOf b r .answer .outcome) ≡ refusalOf b r
@@ -97,23 +97,13 @@ module _ (piece : List ℕ) (place : ℕ) where
       × ((place < length piece) × (length piece < place + sizeOf (getD piece (place + 1) 0)) → foundAt piece place ≡ TooFew)
   too-few-exactly-when = (cut-at piece place, λ h. at-cut piece place (h .0) (h .1))
 
-  -- What is found at a place then names 2, ..
-  pub found-names-2 : foundAt piece place ≡ TooFew → numberFound (foundAt piece place) ≡ 2
-  found-names-2 e = ap numberFound e
+  -- What is found at a place names 2 exactly then, ..
+  pub found-names-2 : numberFound (foundAt piece place) ≡ refusalAt piece place
+  found-names-2 = found-number piece place
 
-  -- .. and so does what the reader gives there; ..
-  pub reader-names-2 : foundAt piece place ≡ TooFew → numberOf (readAt piece place) ≡ 2
-  unfolding readAt readOf
-  reader-names-2 e = ap (λ f. numberOf (readOf f)) e
-
-  -- .. for a whole record it names the first of 4, 5, 6 that applies, or 0.
-  pub reader-names-the-number : (r : Record) (next : ℕ) → foundAt piece place ≡ Whole r next → numberOf (readAt piece place) ≡ faultOf r
-  unfolding readAt readOf judged
-  reader-names-the-number r next e = ap (λ f. numberOf (readOf f)) e ∙ by (faultOf r)
-    where
-      by : (n : ℕ) → numberOf (unlessRefused n (Good r next) (λ m. Bad m (r .serial) (r .code) (r .account) next)) ≡ n
-      by zero = refl
-      by (suc n) = refl
+  -- .. and so does what the reader gives there; for a whole record it names the first of 4, 5, 6 that applies, or 0.
+  pub reader-names-the-number : numberOf (readAt piece place) ≡ readerRefusal (foundAt piece place)
+  reader-names-the-number = read-number piece place
 
 -- The writer's answer names the first of 4, 5, 6 and 15 that applies, or 0.
 pub writer-names-the-number : (r : Record) (room : List ℕ) → refusalWrote (wroteOf r room) ≡ writerRefusal r room
@@ -155,35 +145,29 @@ module _ (b : Book) (losses room : List ℕ) where
   pub refused-close-out-leaves-room : (n : ℕ) → closeOutRefusal b losses room ≡ suc n → roomOf b losses room ≡ room
   refused-close-out-leaves-room = refused-untouched b losses room
 
--- "in its order": a number other than 0 is given exactly when its test holds and no earlier line's does. For a record:
--- `given-exactly-when` of DemandTwo.
-abbrev InOrder : ℕ → ℕ → List Line → Type 0
-InOrder given k table = (given ≡ k → Given k table) × (Given k table → given ≡ k)
-
-in-order : (table : List Line) (k : ℕ) → 0 < k → InOrder (first table) k table
-in-order table k p = (first-given table k p, given-first)
+-- Each number in its order: it is given exactly when its test holds and no earlier line's does. For a record: `given-exactly-when` of DemandTwo.
 
 -- A standing's 1 and 7.
 pub standing-in-its-order : (b : Book) (account k : ℕ) → 0 < k → InOrder (standingRefusal b account) k (standingRefusals b account)
 unfolding standingRefusal
-standing-in-its-order b account = in-order (standingRefusals b account)
+standing-in-its-order b account = in-order (standingRefusals b account) refl
 
 -- The list of needs' 1 and 15.
 pub needs-in-their-order : (b : Book) (room : List ℕ) (k : ℕ) → 0 < k → InOrder (needsRefusal b room) k (needsRefusals b room)
 unfolding needsRefusal
-needs-in-their-order b room = in-order (needsRefusals b room)
+needs-in-their-order b room = in-order (needsRefusals b room) refl
 
 -- The reader's 4, 5 and 6.
 pub reader-in-its-order : (r : Record) (k : ℕ) → 0 < k → InOrder (faultOf r) k (faults r)
 unfolding faultOf
-reader-in-its-order r = in-order (faults r)
+reader-in-its-order r = in-order (faults r) refl
 
 -- The writer's 4, 5, 6 and 15.
 pub writer-in-its-order : (r : Record) (room : List ℕ) (k : ℕ) → 0 < k → InOrder (writerRefusal r room) k (writerRefusals r room)
 unfolding writerRefusal
-writer-in-its-order r room = in-order (writerRefusals r room)
+writer-in-its-order r room = in-order (writerRefusals r room) refl
 
 -- The close-out's 1, 15 (losses, then room) and 16.
 pub close-out-in-its-order : (b : Book) (losses room : List ℕ) (k : ℕ) → 0 < k → InOrder (closeOutRefusal b losses room) k (closeOutRefusals b losses room)
 unfolding closeOutRefusal
-close-out-in-its-order b losses room = in-order (closeOutRefusals b losses room)
+close-out-in-its-order b losses room = in-order (closeOutRefusals b losses room) refl

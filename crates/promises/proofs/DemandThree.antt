@@ -1,5 +1,5 @@
--- Demand 3. Every sequence of records from a fresh book leaves a sound book; what a client or CP pays in a close-out; the
--- fund's bound.
+-- Demand 3. Every sequence of records leaves a sound book sound, and a fresh book is sound; what a client or CP pays in a
+-- close-out; the fund's bound.
 use mathlib.Core.Bool.{true}
 use mathlib.Core.List.{List}
 use mathlib.Core.Logic.{_⊎_, inl, inr}
@@ -15,7 +15,7 @@ use Rattle.book.specs.Sound.{soundB}
 use Rattle.book.specs.Facts.{Sound}
 use Rattle.book.specs.Asked.{shortfall}
 use Rattle.rows.proofs.BySort.{client-sort, client-tm}
-use Rattle.book.proofs.FreshSound.{fresh-sound}
+use Rattle.book.proofs.FreshSound.{fresh-test}
 use Rattle.book.proofs.SoundTest.{sound→, sound←}
 use Rattle.dayfile.specs.declared.Record.{Record}
 use Rattle.desk.specs.Steps.{stepOf, nextOf}
@@ -43,13 +43,21 @@ every-record b r e = sound← (stepOf b r .book) (step-sound b r (sound→ b e))
 pub every-place : (b : Book) (piece : List ℕ) (place : ℕ) → soundB b ≡ true → soundB (nextOf b piece place .book) ≡ true
 every-place b piece place e = sound← (nextOf b piece place .book) (next-sound b piece place (sound→ b e))
 
--- Every sequence of records, handed over as values to a fresh book, leaves a sound book, ..
-pub every-sequence : (rs : List Record) → soundB (afterAll freshBook rs) ≡ true
-every-sequence rs = sound← (afterAll freshBook rs) (all-sound freshBook rs fresh-sound)
+-- Every sequence of records, handed over as values, leaves a sound book sound, ..
+pub every-sequence : (b : Book) (rs : List Record) → soundB b ≡ true → soundB (afterAll b rs) ≡ true
+every-sequence b rs e = sound← (afterAll b rs) (all-sound b rs (sound→ b e))
 
--- .. and so do any bytes at all.
-pub any-bytes : (piece : List ℕ) (most : ℕ) → soundB (ranOf freshBook piece most .book) ≡ true
-any-bytes piece most = sound← (ranOf freshBook piece most .book) (ran-keeps freshBook piece most fresh-sound)
+-- .. and so do any bytes at all, up to any number of records: over a book that a day left, and over one taken over (K7: `a-book-taken-over-is-sound` of Haircut), too.
+pub any-bytes : (b : Book) (piece : List ℕ) (most : ℕ) → soundB b ≡ true → soundB (ranOf b piece most .book) ≡ true
+any-bytes b piece most e = sound← (ranOf b piece most .book) (ran-keeps b piece most (sound→ b e))
+
+-- A fresh book is sound. So every sequence of records from a fresh book leaves a sound book, ..
+pub every-sequence-from-a-fresh-book : (rs : List Record) → soundB (afterAll freshBook rs) ≡ true
+every-sequence-from-a-fresh-book rs = every-sequence freshBook rs fresh-test
+
+-- .. and so do any bytes over one.
+pub any-bytes-over-a-fresh-book : (piece : List ℕ) (most : ℕ) → soundB (ranOf freshBook piece most .book) ≡ true
+any-bytes-over-a-fresh-book piece most = any-bytes freshBook piece most fresh-test
 
 client-or-CP : (b : Book) (i : ℕ) → (rowAt b i .sort ≡ 2) ⊎ (rowAt b i .sort ≡ 3) → isClientOrCP (view b) i ≡ true
 client-or-CP b i (inl e) = rw e

@@ -31,7 +31,7 @@ use Rattle.dayfile.specs.Written.{writtenOf, wroteOf, roomAfter}
 use Rattle.dayfile.proofs.RoundTrip.{read-written, file-reads, reads-once, room-reads, written-read, written-once, read-file}
 use Rattle.rules.specs.Refusals.{namedRow, refusals, refusalOf}
 use Rattle.rules.specs.Effects.{effectOf, changedBy}
-use Rattle.rules.proofs.Amending.{by-receive, by-hand-back, by-allocate, by-release, by-pledge, by-unpledge, by-margin, by-retire}
+use Rattle.rules.proofs.Amending.{by-receive, by-hand-back, by-allocate, by-release, by-pledge, by-unpledge, by-margin, by-retire, by-set-pledged, by-set-margin}
 use Rattle.desk.specs.declared.Outcome.the-variants.{Opened}
 use Rattle.desk.specs.Answers.{carriedIn}
 use Rattle.desk.specs.Steps.{doneBy, stepOf, nextOf}
@@ -170,6 +170,14 @@ module _ (b : Book) (r : Record) (carried : refusalOf b r ≡ 0) where
   -- 11, retire: the account is no longer live, and the rest of its row stays.
   pub retire-retires : r .code ≡ 11 → after (r .account) ≡ withLive row false
   retire-retires e = named-after b r carried (rw e) ∙ by-retire row r e
+
+  -- 12 (K8): pledged is the record's. The whole book after 12 and after 13: PricesMove.
+  pub pledged-is-set : r .code ≡ 12 → after (r .account) ≡ withPledged row (r .pledged)
+  pledged-is-set e = named-after b r carried (rw e) ∙ by-set-pledged row r e
+
+  -- 13 (K8): the margin is the record's.
+  pub margin-is-set-anew : r .code ≡ 13 → after (r .account) ≡ withMargin row (r .margin)
+  margin-is-set-anew e = named-after b r carried (rw e) ∙ by-set-margin row r e
 
 -- Accounts, their numbers and their rows last.
 module _ (b : Book) (r : Record) where

@@ -6,6 +6,7 @@ use Prim.Native.Nat.{_≤_}
 use native.Mathlib.Omega.{arith}
 use lib.Dec.{ltb, eqb}
 use borrow.Author.Tests.{ltb-true, not-false}
+use Rattle.sums.specs.Choice.{pick}
 use Rattle.sums.specs.Table.{_when_, first}
 use Rattle.sums.proofs.Choices.{and-split}
 use Rattle.sums.proofs.Tables.{first-on, first-beyond}
@@ -31,7 +32,7 @@ a-margin-that-doesn't-rise-stays-covered b r s none live h =
 -- .. so that 13's line may ask for a rising margin: from K8 on this asks that the shortfall is 0 before the record; then every record gets the refusal that the table
 -- before K6 gives, where 13 is asked of every new margin.
 pub no-answer-moved : (b : Book) (r : Record) → shortfall (view b) ≡ 0 → refusalOf b r ≡ first (asBefore b r)
-unfolding refusalOf
+unfolding refusalOf pick
 no-answer-moved b r none =
     first-on 1 _ _ _ (λ e₁. first-on 3 _ _ _ (λ e₃. first-beyond (faults r) _ _ (three-numbered r) (λ e₆. first-on 7 _ _ _ (λ e₇. first-on 8 _ _ _ (λ e₈.
     first-on 9 _ _ _ (λ e₉. first-on 10 _ _ _ (λ e₁₀. first-on 11 _ _ _ (λ e₁₁. first-on 17 _ _ _ (λ e₁₇. first-on 12 _ _ _ (λ e₁₂. same (not-false _ e₁) (not-false _ e₇)))))))))))
@@ -47,6 +48,7 @@ no-answer-moved b r none =
 pub never-meets-13 : (b : Book) (r : Record) → shortfall (view b) ≡ 0 → r .margin ≤ namedRow b r .margin → first (asBefore b r) ≡ 13 → ⊥
 never-meets-13 b r none h e = omega (arith, h, rises-at-13 b r (no-answer-moved b r none ∙ e))
 
--- .. and by the table of today whatever the shortfall: K8, "A margin under code 10 that doesn't rise is carried out even while there is a shortfall."
+-- .. and by the table of today whatever the shortfall. K8, "A margin under code 10 that doesn't rise is carried out even while there is a shortfall": when it is refused,
+-- exactly, and that it is carried out otherwise: PricesMove.
 pub never-meets-13-under-a-shortfall : (b : Book) (r : Record) → r .margin ≤ namedRow b r .margin → refusalOf b r ≡ 13 → ⊥
 never-meets-13-under-a-shortfall b r h e = omega (arith, h, rises-at-13 b r e)

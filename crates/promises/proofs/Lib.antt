@@ -8,12 +8,15 @@ pub mod Modes
 pub mod NoTakingOut
 pub mod FallingMargins
 pub mod Haircut
+pub mod PricesMove
 pub mod Shortfall
 pub mod Needs
 pub mod ExtremeLoss
 pub mod Obligations
 pub mod OneResult
 pub mod Quick
+pub mod Exactly
+pub mod Positions
 pub mod Claim
 pub mod PieceByPiece
 pub mod TwoDays

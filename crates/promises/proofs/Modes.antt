@@ -23,7 +23,6 @@ use Rattle.rows.specs.Inner.{inTenths}
 use Rattle.rows.proofs.BySort.{need-TM, need-CM, deemed-client, deemed-TM, deemed-CP}
 use Rattle.rows.proofs.Tenths.{own-excess, TM's-use, TM's-excess, CM's-use}
 use Rattle.rows.proofs.Looks.{look-twice}
-use Rattle.book.specs.declared.Figures.{Figures}
 use Rattle.book.specs.Sound.{soundB}
 use Rattle.book.specs.Asked.{standingRefusal, noFigures, figuresOf, standingOf}
 use Rattle.book.proofs.SoundTest.{sound→}
@@ -40,6 +39,7 @@ use Rattle.desk.proofs.ModesAfter.{mode-after, modes-stay, looked-after, been-l
 use Rattle.closeout.specs.Closing.{closeOutRefusal, closedOf, roomOf}
 use Rattle.closeout.specs.Columns.{four}
 use Rattle.promises.specs.Sequences.{afterAll}
+use Rattle.promises.specs.Standings.{allButMode}
 
 -- "Figures as 004 Annexure 5, in tenths": in the view with ten margins and nine collaterals for each account (`inTenths`) a use is a need, and an
 -- excess is what is deemed. Sorts: 0 is the CM, 1 a TM, 2 a client, 3 a CP.
@@ -118,17 +118,13 @@ module _ (b : Book) (modes : List Bool) where
   pub same-columns : (loss : ℕ → ℕ) (i : ℕ) → four (view (withModes b modes)) loss i ≡ four (view b) loss i
   same-columns loss i = refl
 
--- all of a standing but the mode: its refusal and its five figures
-abbrev pub allButMode : Figures → List ℕ
-allButMode f = f .refusal ∷ f .collateral ∷ f .need ∷ f .blocked ∷ f .deemed ∷ f .free ∷ []
-
 -- Where both are sound, the same are ..
 module _ (b : Book) (modes : List Bool) (s : soundB b ≡ true) (t : soundB (withModes b modes) ≡ true) where
   standing-refusal : (account : ℕ) → standingRefusal (withModes b modes) account ≡ standingRefusal b account
   unfolding standingRefusal
   standing-refusal account = rw (s, t)
 
-  -- .. every standing's refusal and five figures, ..
+  -- .. every standing's refusal, five figures and shortfall, ..
   pub same-figures : (account : ℕ) → allButMode (standingOf (withModes b modes) account) ≡ allButMode (standingOf b account)
   unfolding standingOf
   same-figures account = rw (standing-refusal account) (by (standingRefusal b account))

@@ -1,12 +1,13 @@
--- "Show that it admits one result only": for each public call, under its name, `OneResultOnly` of its own promise. No clause is copied:
+-- "Show that it admits one result only": for each public call, under its name, `OneResultOnly` of its own promise, but for the exceptions that docs/PROMISES.md names with their reasons. No clause is copied:
 -- `book.needs.Reads.Learnt` is what the check itself makes of the `ensures` clauses of `book::needs` in crates/book/src, and what the proof
 -- of each caller is given as `.ensures`; `book.needs.ended` is the call's signature. `needs-word-for-word` shows it for one call. The check makes
--- no `Learnt` of the reader's three calls: their clauses are written out below, and held to the source's.
-use mathlib.Core.Bool.{false}
+-- no `Learnt` of the reader's three calls: their clauses are written out (`ReaderSays`), and held to the source's below.
+use mathlib.Core.Bool.{true, false, _&&_}
 use mathlib.Core.List.{List}
-use mathlib.Core.Logic.{_⊎_, inl, inr}
 use mathlib.Core.Path.{_≡_, refl, sym, ap, _∙_}
-use Prim.Native.Nat.{ℕ}
+use Prim.Native.Nat.{ℕ, _≤_}
+use lib.Dec.{ltb}
+use lib.ListN.{length}
 use base.Logic.{sep}
 use contract.Lifetimes.{Lfts}
 use contract.Monad.{fact}
@@ -16,15 +17,19 @@ use denote.Triple.Clauses.{AtExit, atExit}
 use borrow.Fn.World.{World}
 use Rattle.table.specs.declared.Table.{Table}
 use Rattle.table.specs.Words.{turnedBack}
+use Rattle.book.specs.Sound.{soundB}
 use Rattle.book.specs.NeedsListed.{needsRefusal, needsRoom}
 use Rattle.dayfile.specs.Reading.{placeAfter}
-use Rattle.dayfile.specs.Reader.{startOf, readBy, movedTo}
+use Rattle.dayfile.specs.Reader.{movedTo}
 use Rattle.sums.specs.Choice.{pick}
 use Rattle.numbers.specs.Bytes.{Bytes}
 use Rattle.streams.specs.declared.Moved.{Moved}
+use Rattle.streams.specs.declared.standard.Helped.{Helped}
+use Rattle.streams.specs.Words.{isThere, tooMany, sameBytes, helpWord}
+use Rattle.streams.proofs.Taken.{all-taken}
 use Rattle.bookfile.specs.Reading.{readOf}
 use Rattle.feed.specs.Fed.{noDay, wholeDay}
-use Rattle.feed.specs.Books.{freshFrom, fromHeld}
+use Rattle.feed.specs.Books.{namesFile, freshFrom, fromHeld, wentTo, nowhere}
 use Rattle.table.proofs as table
 use Rattle.book.proofs as book
 use Rattle.dayfile.proofs as dayfile
@@ -32,20 +37,32 @@ use Rattle.desk.proofs as desk
 use Rattle.run.proofs as run
 use Rattle.lines.proofs as lines
 use Rattle.closeout.proofs as closeout
+use Rattle.streams.proofs as streams
 use Rattle.feed.proofs as feed
 use Rattle.bookfile.proofs as bookfile
 use Rattle.report.proofs as report
 use Rattle.currency.proofs as currency
 use Rattle.exposure.proofs as exposure
-use Rattle.promises.specs.OneResult.{Promise, OneResultOnly}
-
--- two ends of a write that didn't fail
-one-moved : (x y : Moved) → x .failed ≡ false → y .failed ≡ false → x .count ≡ y .count → x ≡ y
-one-moved x y f g e = ap (λ t. record { failed = t; count = x .count }) (f ∙ sym g) ∙ ap (λ n. record { failed = y .failed; count = n }) e
+use Rattle.promises.specs.OneResult.{OneResultOnly}
+use Rattle.promises.specs.ReaderSays.{newSays, peekSays, nextAnswer, nextReader, nextSays}
 
 -- two results, of which each is what the promise says, are the same; so are two rooms
 one-result : {A : Type 0} {said x y : A} → x ≡ said → y ≡ said → x ≡ y
 one-result p q = p ∙ sym q
+
+-- two ends of a read or a write
+same-moved : (x y : Moved) → x .failed ≡ y .failed → x .count ≡ y .count → x ≡ y
+same-moved x y f e = ap (λ t. record { failed = t; count = x .count }) f ∙ ap (λ n. record { failed = y .failed; count = n }) e
+
+-- of a write that didn't fail
+one-moved : (x y : Moved) → x .failed ≡ false → y .failed ≡ false → x .count ≡ y .count → x ≡ y
+one-moved x y f g e = same-moved x y (f ∙ sym g) e
+
+-- of a text of n bytes, which fails where not all was taken
+as-taken : (x y : Moved) (n : ℕ) → (x .count ≤ n) × (x .failed ≡ ltb (x .count) n) → (y .count ≤ n) × (y .failed ≡ ltb (y .count) n)
+    → (x .count ≡ y .count → x ≡ y) × (x .failed ≡ false → y .failed ≡ false → x ≡ y)
+as-taken x y n p q =
+    (λ e. same-moved x y (p .1 ∙ ap (λ k. ltb k n) e ∙ sym (q .1)) e, λ f g. one-moved x y f g (one-result (all-taken x n (p .0) (p .1) f) (all-taken y n (q .0) (q .1) g)))
 
 -- What `Learnt` is: the two clauses of `book::needs`, word for word. x comes back, and `after` is in the room then.
 pub needs-word-for-word :
@@ -116,31 +133,15 @@ of-dayfile-fault-of κs a x y u v p q = (one-result p q, refl)
 
 -- what stands at a place
 pub of-dayfile-found-at : OneResultOnly dayfile.found_at.ended dayfile.found_at.Reads.Learnt
-of-dayfile-found-at κs a x y u v p q = (one-result p q, refl)
+of-dayfile-found-at κs a x y u v p q = (one-result (p .0) (q .0), refl)
 
 -- what is read there
 pub of-dayfile-read-at : OneResultOnly dayfile.read_at.ended dayfile.read_at.Reads.Learnt
-of-dayfile-read-at κs a x y u v p q = (one-result p q, refl)
+of-dayfile-read-at κs a x y u v p q = (one-result (p .0) (q .0), refl)
 
 -- how many bytes were written or the refusal, and the room
 pub of-dayfile-write : OneResultOnly dayfile.write.ended dayfile.write.Reads.Learnt
-of-dayfile-write κs a x y u v p q = (one-result (p .0) (q .0), ap (λ room. (tt, (room, tt))) (one-result (p .1) (q .1)))
-
--- The reader's three calls: their clauses, as crates/dayfile/src/reader.rt has them. x is what comes back, and `after` the reader then.
-abbrev newSays : Promise dayfile.reader.new.ended
-newSays κs (piece, _) x e = x ≡ startOf piece
-
-abbrev peekSays : Promise dayfile.reader.peek.ended
-peekSays κs (r, _) x e = x ≡ readBy r
-
-abbrev nextAnswer : Promise dayfile.reader.next.ended
-nextAnswer κs (r, _) x e = x ≡ readBy (now r)
-
-abbrev nextReader : Promise dayfile.reader.next.ended
-nextReader κs (r, _) x (after, _) = now after ≡ movedTo (now r) (placeAfter x (now r .place))
-
-abbrev nextSays : Promise dayfile.reader.next.ended
-nextSays κs a x e = nextAnswer κs a x e × nextReader κs a x e
+of-dayfile-write κs a x y u v p q = (one-result (p .0 .0) (q .0 .0), ap (λ room. (tt, (room, tt))) (one-result (p .1) (q .1)))
 
 -- in every model of the logic the calls' clauses are those facts and nothing else
 module _ (w : World) where
@@ -178,21 +179,21 @@ of-dayfile-reader-next κs a x y u v p q =
 
 -- the answer to a record, and the book after it
 pub of-desk-carry-out : OneResultOnly desk.carry_out.ended desk.carry_out.Reads.Learnt
-of-desk-carry-out κs a x y u v p q = (one-result p q, refl)
+of-desk-carry-out κs a x y u v p q = (one-result (p .0) (q .0), refl)
 
 -- the answer to what stands at a place, the book and the place after it
 pub of-desk-carry-out-next : OneResultOnly desk.carry_out_next.ended desk.carry_out_next.Reads.Learnt
-of-desk-carry-out-next κs a x y u v p q = (one-result p q, refl)
+of-desk-carry-out-next κs a x y u v p q = (one-result (p .0) (q .0), refl)
 
 -- ---- run
 
 -- the book after a piece, the place, the closing word and the counts
 pub of-run-day : OneResultOnly run.day.ended run.day.Reads.Learnt
-of-run-day κs a x y u v p q = (one-result p q, refl)
+of-run-day κs a x y u v p q = (one-result (p .0) (q .0), refl)
 
 -- the same, and the room with each record's numbers
 pub of-run-day-with-numbers : OneResultOnly run.day_with_numbers.ended run.day_with_numbers.Reads.Learnt
-of-run-day-with-numbers κs a x y u v p q = (one-result (p .0) (q .0), ap (λ room. (tt, (tt, (tt, (room, tt))))) (one-result (p .1) (q .1)))
+of-run-day-with-numbers κs a x y u v p q = (one-result (p .0) (q .0), ap (λ room. (tt, (tt, (tt, (room, tt))))) (one-result (p .1 .0) (q .1 .0)))
 
 -- ---- lines
 
@@ -218,7 +219,7 @@ of-closeout-close-out κs a x y u v p q = (one-result (p .0) (q .0), ap (λ room
 
 -- the record that sets a margin, or the refusal
 pub of-currency-margin : OneResultOnly currency.margin.ended currency.margin.Reads.Learnt
-of-currency-margin κs a x y u v p q = (one-result p q, refl)
+of-currency-margin κs a x y u v p q = (one-result (p .0) (q .0), refl)
 
 -- ---- exposure
 
@@ -232,7 +233,7 @@ of-exposure-end-of-day κs a x y u v p q = (one-result p q, refl)
 
 -- the record with both, or the refusal
 pub of-exposure-margin : OneResultOnly exposure.margin.ended exposure.margin.Reads.Learnt
-of-exposure-margin κs a x y u v p q = (one-result p q, refl)
+of-exposure-margin κs a x y u v p q = (one-result (p .0) (q .0), refl)
 
 -- 0 or 15 for a list of clients, and the room
 pub of-exposure-lists-exposures : OneResultOnly exposure.lists.exposures.ended exposure.lists.exposures.Reads.Learnt
@@ -252,28 +253,83 @@ of-report-needs-text κs a x y u v p q = (one-result (p .0) (q .0), ap (λ room.
 pub of-report-close-out-text : OneResultOnly report.close_out_text.ended report.close_out_text.Reads.Learnt
 of-report-close-out-text κs a x y u v p q = (one-result (p .0) (q .0), ap (λ room. (tt, (tt, (tt, (tt, (room, tt)))))) (one-result (p .1) (q .1)))
 
--- how much of the closing line was handed over: all of it, unless a write failed, which no promise can say. Where none failed the results are the same.
+-- How much of the closing line was handed over: all of it, unless a write failed, which no promise can say. Where as many bytes were taken, and where none failed, the results are the same.
 pub of-report-closing :
     (κs : Lfts 1) (a : Args report.closing.signature κs) (x y : Res report.closing.signature κs) (e : AtExit report.closing.ended κs)
     (p : report.closing.Reads.Learnt κs a x e) (q : report.closing.Reads.Learnt κs a y e) →
-    x .failed ≡ false → y .failed ≡ false → x ≡ y
-of-report-closing κs a x y e p q f g = one-moved x y f g (one-result (p f) (q g))
+    (x .count ≡ y .count → x ≡ y) × (x .failed ≡ false → y .failed ≡ false → x ≡ y)
+of-report-closing κs a x y e p q = as-taken x y _ p q
 
 -- of the standings' lines
 pub of-report-standings :
     (κs : Lfts 1) (a : Args report.standings.signature κs) (x y : Res report.standings.signature κs) (e : AtExit report.standings.ended κs)
     (p : report.standings.Reads.Learnt κs a x e) (q : report.standings.Reads.Learnt κs a y e) →
-    x .failed ≡ false → y .failed ≡ false → x ≡ y
-of-report-standings κs a x y e p q f g = one-moved x y f g (one-result (p f) (q g))
+    (x .count ≡ y .count → x ≡ y) × (x .failed ≡ false → y .failed ≡ false → x ≡ y)
+of-report-standings κs a x y e p q = as-taken x y _ p q
 
 -- of the needs' lines
 pub of-report-needs :
     (κs : Lfts 1) (a : Args report.needs.signature κs) (x y : Res report.needs.signature κs) (e : AtExit report.needs.ended κs)
     (p : report.needs.Reads.Learnt κs a x e) (q : report.needs.Reads.Learnt κs a y e) →
-    x .failed ≡ false → y .failed ≡ false → x ≡ y
-of-report-needs κs a x y e p q f g = one-moved x y f g (one-result (p f) (q g))
+    (x .count ≡ y .count → x ≡ y) × (x .failed ≡ false → y .failed ≡ false → x ≡ y)
+of-report-needs κs a x y e p q = as-taken x y _ p q
 
--- ---- feed. It prints the records' lines where that is asked for: of this too no promise can speak.
+-- ---- streams. What the system answers no promise can say: how many bytes came, how many were taken, whether a call failed, how many words a program was started with and which bytes they
+-- have. `read_all`, `read_input` and `read_named` give only that, and have no statement here.
+
+-- whether there is a word at a place
+pub of-streams-words-is-there : OneResultOnly streams.words.is_there.ended streams.words.is_there.Reads.Learnt
+of-streams-words-is-there κs a x y u v p q = (one-result p q, refl)
+
+-- whether there are too many words
+pub of-streams-words-too-many : OneResultOnly streams.words.too_many.ended streams.words.too_many.Reads.Learnt
+of-streams-words-too-many κs a x y u v p q = (one-result p q, refl)
+
+-- whether a word is just these bytes
+pub of-streams-words-is-same : OneResultOnly streams.words.is_same.ended streams.words.is_same.Reads.Learnt
+of-streams-words-is-same κs a x y u v p q = (one-result p q, refl)
+
+-- How much of a text was written: where as many bytes were taken the results are the same, and where none failed all were.
+pub of-streams-write-all :
+    (κs : Lfts 1) (a : Args streams.write_all.signature κs) (x y : Res streams.write_all.signature κs) (e : AtExit streams.write_all.ended κs)
+    (p : streams.write_all.Reads.Learnt κs a x e) (q : streams.write_all.Reads.Learnt κs a y e) →
+    (x .count ≡ y .count → x ≡ y) × (x .failed ≡ false → y .failed ≡ false → x ≡ y)
+of-streams-write-all κs a x y e p q = as-taken x y _ p q
+
+-- the same of standard output
+pub of-streams-standard-write-output :
+    (κs : Lfts 2) (a : Args streams.standard.write_output.signature κs) (x y : Res streams.standard.write_output.signature κs) (e : AtExit streams.standard.write_output.ended κs)
+    (p : streams.standard.write_output.Reads.Learnt κs a x e) (q : streams.standard.write_output.Reads.Learnt κs a y e) →
+    (x .count ≡ y .count → x ≡ y) × (x .failed ≡ false → y .failed ≡ false → x ≡ y)
+of-streams-standard-write-output κs a x y e p q = as-taken x y _ p q
+
+-- A file that is replaced: where both failed or neither did, the results are the same.
+pub of-streams-files-replace-named :
+    (κs : Lfts 3) (a : Args streams.files.replace_named.signature κs) (x y : Res streams.files.replace_named.signature κs) (e : AtExit streams.files.replace_named.ended κs)
+    (p : streams.files.replace_named.Reads.Learnt κs a x e) (q : streams.files.replace_named.Reads.Learnt κs a y e) →
+    x .failed ≡ y .failed → x ≡ y
+of-streams-files-replace-named κs a x y e p q luck = same-moved x y luck (p ∙ ap (λ t. pick t 0 (length (now (a .1 .1 .1 .0)))) luck ∙ sym q)
+
+-- Whether help was asked for: where the first word is the same, and as many bytes of the help were taken.
+pub of-streams-standard-help :
+    (κs : Lfts 1) (a : Args streams.standard.help.signature κs) (x y : Res streams.standard.help.signature κs) (e : AtExit streams.standard.help.ended κs)
+    (p : streams.standard.help.Reads.Learnt κs a x e) (q : streams.standard.help.Reads.Learnt κs a y e) →
+    p .word ≡ q .word → x .count ≡ y .count → x ≡ y
+of-streams-standard-help κs a x y e p q same taken =
+    let asked = p .asked ∙ ap (λ l. sameBytes l helpWord) same ∙ sym (q .asked) in
+    let n = length (now (a .0)) in
+    let failed = p .failed ∙ ap (λ t. ltb (x .count) (pick t n 0)) asked ∙ ap (λ k. ltb k (pick (y .asked) n 0)) taken ∙ sym (q .failed) in
+    ap (λ t. record { asked = t; failed = x .failed; count = x .count }) asked ∙ ap (λ t. record { asked = y .asked; failed = t; count = x .count }) failed
+    ∙ ap (λ k. record { asked = y .asked; failed = y .failed; count = k }) taken
+
+-- Whether there are too many words: where there are as many.
+pub of-streams-standard-too-many-words :
+    (κs : Lfts 1) (a : Args streams.standard.too_many_words.signature κs) (x y : Res streams.standard.too_many_words.signature κs) (e : AtExit streams.standard.too_many_words.ended κs)
+    (p : streams.standard.too_many_words.Reads.Learnt κs a x e) (q : streams.standard.too_many_words.Reads.Learnt κs a y e) →
+    p .count ≡ q .count → x ≡ y
+of-streams-standard-too-many-words κs a x y e p q same = p .is ∙ ap (λ n. tooMany n (a .1 .0)) same ∙ sym (q .is)
+
+-- ---- feed. It prints the records' lines where that is asked for: how many bytes of them is said, and no promise can say which bytes standard output holds.
 
 -- The day of standard input: its promise is that some bytes came, of which this is the day, unless a read or a write failed. Where the bytes that came are
 -- the same, and neither failed or both did, so are the results,
@@ -282,24 +338,33 @@ pub of-feed-whole-day :
     (p : feed.whole_day.Reads.Learnt κs a x e) (q : feed.whole_day.Reads.Learnt κs a y e) →
     p .input ≡ q .input → x .failed ≡ y .failed → x ≡ y
 of-feed-whole-day κs a x y e p q same luck =
-    let b = turnedBack (a .1 .1 .0) in
-    p .is ∙ ap (λ t. pick t noDay (wholeDay b (p .input))) luck ∙ ap (λ s. pick (y .failed) noDay (wholeDay b s)) same ∙ sym (q .is)
+    let day = wholeDay (a .1 .0) (turnedBack (a .1 .1 .0)) in
+    let sound = soundB (turnedBack (a .1 .1 .0)) in
+    p .is ∙ ap (λ t. pick (t && sound) noDay (day (p .input))) luck ∙ ap (λ s. pick (y .failed && sound) noDay (day s)) same ∙ sym (q .is)
 
--- and that is all that it leaves open: the day of any bytes meets it, and so does a failure.
+-- and that is all that it leaves open: the day of any bytes meets it, and so does a failure where the book is sound.
 pub whatever-bytes-came :
     (κs : Lfts 1) (a : Args feed.whole_day.signature κs) (e : AtExit feed.whole_day.ended κs) (s : List ℕ) →
-    Bytes s → feed.whole_day.Reads.Learnt κs a (wholeDay (turnedBack (a .1 .1 .0)) s) e × feed.whole_day.Reads.Learnt κs a noDay e
+    Bytes s → feed.whole_day.Reads.Learnt κs a (wholeDay (a .1 .0) (turnedBack (a .1 .1 .0)) s) e
+    × (soundB (turnedBack (a .1 .1 .0)) ≡ true → feed.whole_day.Reads.Learnt κs a noDay e)
 unfolding pick wholeDay noDay
-whatever-bytes-came κs a e s bytes = (record { input = s; bytes = bytes; is = refl }, record { input = s; bytes = bytes; is = refl })
+whatever-bytes-came κs a e s bytes = (record { input = s; bytes = bytes; is = refl }, λ sound. record { input = s; bytes = bytes; is = rw sound })
 
--- The book that a day starts from: the fresh one, or what the bytes of a file are. Where neither is the fresh one and the bytes are the same, so are the results.
+-- The book that a day starts from: where the words and the file's bytes are the same, so are the results.
 pub of-feed-books-from-word :
     (κs : Lfts 1) (a : Args feed.books.from_word.signature κs) (x y : Res feed.books.from_word.signature κs) (e : AtExit feed.books.from_word.ended κs)
     (p : feed.books.from_word.Reads.Learnt κs a x e) (q : feed.books.from_word.Reads.Learnt κs a y e) →
-    (x ≡ freshFrom → ⊥) → (y ≡ freshFrom → ⊥) → p .file ≡ q .file → x ≡ y
-of-feed-books-from-word κs a x y e p q f g same = by (p .is) (q .is)
-  where
-    by : (x ≡ freshFrom) ⊎ (x ≡ fromHeld (readOf (p .file))) → (y ≡ freshFrom) ⊎ (y ≡ fromHeld (readOf (q .file))) → x ≡ y
-    by (inl h) k = absurd (f h)
-    by (inr h) (inl k) = absurd (g k)
-    by (inr h) (inr k) = h ∙ ap (λ s. fromHeld (readOf s)) same ∙ sym k
+    p .count ≡ q .count → p .name ≡ q .name → p .file ≡ q .file → x ≡ y
+of-feed-books-from-word κs a x y e p q many word same =
+    let named = p .named ∙ ap (λ n. namesFile n (a .1 .0) (p .name)) many ∙ ap (namesFile (q .count) (a .1 .0)) word ∙ sym (q .named) in
+    p .is ∙ ap (λ t. pick t (fromHeld (readOf (p .file))) freshFrom) named ∙ ap (λ s. pick (y .named) (fromHeld (readOf s)) freshFrom) same ∙ sym (q .is)
+
+-- Where the book after it goes: where there are as many words, and both failed or neither did.
+pub of-feed-books-to-word :
+    (κs : Lfts 1) (a : Args feed.books.to_word.signature κs) (x y : Res feed.books.to_word.signature κs) (e : AtExit feed.books.to_word.ended κs)
+    (p : feed.books.to_word.Reads.Learnt κs a x e) (q : feed.books.to_word.Reads.Learnt κs a y e) →
+    p .count ≡ q .count → x .failed ≡ y .failed → x ≡ y
+of-feed-books-to-word κs a x y e p q many luck =
+    let t = a .1 .1 .0 in
+    let named = p .named ∙ ap (λ n. isThere n (a .1 .0)) many ∙ sym (q .named) in
+    p .is ∙ ap (λ n. pick n (wentTo (x .failed) t) nowhere) named ∙ ap (λ f. pick (y .named) (wentTo f t) nowhere) luck ∙ sym (q .is)

@@ -1,5 +1,5 @@
--- "The program reads a day file .. from standard input": a day file that comes in pieces of any lengths, a turn for each of them, is the day file carried out at once. Which bytes came is all that
--- is left to believe.
+-- "The program reads a day file .. from standard input": a day file that comes in pieces of any lengths, a turn for each of them, is the day file carried out at once, book, counts and lines.
+-- What is left to believe: which bytes came, that the lines handed over were written, and whether a call failed.
 use mathlib.Core.Bool.{Bool, true}
 use mathlib.Core.List.{List, _∷_, _++_}
 use mathlib.Core.Path.{_≡_}
@@ -7,15 +7,14 @@ use Prim.Native.Nat.{ℕ, _+_, _-_, _≤_}
 use lib.Dec.{leb}
 use Rattle.rows.specs.declared.Book.{Book}
 use Rattle.book.specs.Facts.{Sound}
-use Rattle.records.specs.Runs.{ranOf}
+use Rattle.records.specs.Runs.{ranOf, onFrom}
 use Rattle.records.specs.LineNumbers.{answersOf}
-use Rattle.records.proofs.Pieces.{onFrom}
 use Rattle.lines.specs.Lines.{linesOf}
 use Rattle.feed.specs.Fed.{wholeDay}
-use Rattle.feed.specs.Pieces.{turnOf, dayBy, after, cameBy, placeBy, linesBy}
+use Rattle.feed.specs.Pieces.{turnOf, dayBy, after, cameBy, placeBy, linesBy, printedBy}
 use Rattle.feed.specs.Inner.{stopsAt}
-use Rattle.feed.proofs.Pieces.{so-far, read-so-far, done-so-far, sound-so-far, last-turn}
-use Rattle.feed.proofs.PieceLines.{lines-so-far, lines-whole}
+use Rattle.feed.proofs.Pieces.{so-far, read-so-far, done-so-far, sound-so-far}
+use Rattle.feed.proofs.PieceLines.{lines-so-far, lines-whole, last-day}
 
 -- After any pieces, and with whatever follows: the day of all bytes is what the turns so far came to, and then the records of what is left and of what follows.
 pub the-day-of-all-bytes-so-far : (b : Book) (pieces : List (List ℕ)) (x : List ℕ) → (let s = after b pieces in
@@ -31,11 +30,11 @@ the-lines-of-all-bytes-so-far = lines-so-far
 pub on-the-way : (b : Book) → Sound b → (pieces : List (List ℕ)) → (let s = after b pieces in (s .read ≤ 1_000_000) × (s .done ≤ s .read) × Sound (s .book))
 on-the-way b h pieces = (read-so-far b pieces, done-so-far b pieces, sound-so-far b h pieces)
 
--- A turn that is the last, since it took all of a piece that is shorter than its space or the million is full, ends the day of all bytes that came ..
-pub the-last-turn-ends-the-day : (b : Book) (before : List (List ℕ)) (piece : List ℕ) (short : Bool)
+-- A turn that is the last, since it took all of a piece that is shorter than its space or the million is full, ends the day of all bytes that came, with as many bytes printed as its lines have ..
+pub the-last-turn-ends-the-day : (printing : Bool) (b : Book) (before : List (List ℕ)) (piece : List ℕ) (short : Bool)
     → (let s = after b before in stopsAt (turnOf s piece .closing) short (leb 1_000_000 (s .read + turnOf s piece .read)) ≡ true)
-    → dayBy (after b before) piece ≡ wholeDay b (cameBy (piece ∷ before))
-the-last-turn-ends-the-day = last-turn
+    → dayBy (printedBy printing b (piece ∷ before)) (after b before) piece ≡ wholeDay printing b (cameBy (piece ∷ before))
+the-last-turn-ends-the-day = last-day
 
 -- .. and then the lines of all turns are those of the whole day.
 pub the-lines-of-all-turns : (b : Book) → Sound b → (before : List (List ℕ)) (piece : List ℕ) (short : Bool)

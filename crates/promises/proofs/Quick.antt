@@ -13,9 +13,8 @@ use Rattle.book.specs.Sound.{soundB}
 use Rattle.book.specs.Facts.{Sound}
 use Rattle.book.proofs.SoundTest.{sound←}
 use Rattle.dayfile.specs.declared.Record.{Record}
-use Rattle.rules.specs.Refusals.{namedRow}
-use Rattle.rules.specs.Inner.{IsBeside, changeBy}
-use Rattle.rules.proofs.WhatIsBeside.{besideOf, beside-is, change-beside}
+use Rattle.rules.specs.Refusals.{namedRow, besideOf}
+use Rattle.rules.proofs.WhatIsBeside.{IsBeside, changeBy, beside-is, change-beside}
 use Rattle.records.proofs.SoundRun.{step-sound}
 use Rattle.desk.specs.declared.Done.{Done}
 use Rattle.desk.specs.Steps.{doneBy, stepOf}

@@ -21,8 +21,7 @@ use Rattle.currency.specs.declared.Side.{Side}
 use Rattle.currency.specs.declared.Side.the-variants.{Futures, Short, Spread}
 use Rattle.currency.specs.declared.Position.{Position}
 use Rattle.currency.specs.declared.Made.{Made}
-use Rattle.currency.specs.declared.Made.the-variants.{Given, Refused}
-use Rattle.currency.specs.Margins.{madeOf}
+use Rattle.currency.specs.Margins.{madeOf, numberMade, marginMade}
 use Rattle.exposure.specs.Exposures.{intradayOf}
 use Rattle.promises.specs.Sequences.{afterAll}
 
@@ -268,8 +267,7 @@ zeros = replicate 16 0
 
 -- of what is made for a client the refusal or 0 and the margin
 abbrev madeIn : Made → List ℕ
-madeIn (Given r) = 0 ∷ r .margin ∷ []
-madeIn (Refused n) = n ∷ 0 ∷ []
+madeIn m = numberMade m ∷ marginMade m ∷ []
 
 abbrev pub marginIn : Position → List ℕ
 marginIn p = madeIn (madeOf 0 0 0 (p ∷ []) 1)

@@ -2,4 +2,9 @@ pub mod Sequences
 pub mod Before
 pub mod Figures
 pub mod Payers
+pub mod Positions
 pub mod OneResult
+pub mod InOrder
+pub mod PricesMove
+pub mod Standings
+pub mod ReaderSays

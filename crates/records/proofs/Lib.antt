@@ -5,3 +5,4 @@ pub mod SoundRun
 pub mod Stops
 pub mod Pieces
 pub mod Rounds
+pub mod Closings

@@ -20,14 +20,10 @@ use Rattle.desk.specs.Answers.{carriedIn}
 use Rattle.desk.specs.Steps.{stepOf}
 use Rattle.records.specs.declared.Closing.the-variants.{End, Long, Unsound}
 use Rattle.records.specs.declared.Ran.{Ran}
-use Rattle.records.specs.Runs.{endedWith, stopped, onward, runOf, ranOf}
+use Rattle.records.specs.Runs.{endedWith, stopped, onward, runOf, ranOf, onFrom}
 use Rattle.records.proofs.SoundRun.{run-sound}
 use Rattle.records.proofs.Stops.{run-stops, ran-stops, ran-enough}
 use Rattle.records.proofs.NumbersPut.{ran-sound, ran-unsound}
-
--- what a run came to, after place bytes and with these counts before it
-abbrev pub onFrom : ℕ → ℕ → ℕ → Ran → Ran
-onFrom place read done r = endedWith (r .closing) (r .book) (place + r .place) (read + r .read) (done + r .done)
 
 pub on-twice : (p k d p′ k′ d′ : ℕ) (r : Ran) → onFrom p k d (onFrom p′ k′ d′ r) ≡ onFrom (p + p′) (k + k′) (d + d′) r
 on-twice p k d p′ k′ d′ r =

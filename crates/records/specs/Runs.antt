@@ -39,3 +39,18 @@ runOf s (suc most) b place read done = onward (runOf s most) (foundAt s place) b
 -- as the closing word, place 0, counts of 0 and the same book."
 unfoldable pub ranOf : Book → List ℕ → ℕ → Ran
 ranOf b s most = pick (soundB b) (runOf s most b 0 0 0) (endedWith Unsound b 0 0 0)
+
+-- Document 01's number of a closing word: "An unsound book gives 1 as the closing word". `end`, `cut` and `long` are no numbers, and have 0 here; `wordOf` of the crate lines has all four in bytes.
+abbrev pub numberClosing : Closing → ℕ
+numberClosing End = 0
+numberClosing Cut = 0
+numberClosing Long = 0
+numberClosing Unsound = 1
+
+-- 1 for an unsound book, 0 for any other
+abbrev pub closingRefusal : Book → ℕ
+closingRefusal b = pick (soundB b) 0 1
+
+-- what a run came to, counted on from a place reached and counts that were there before it
+abbrev pub onFrom : ℕ → ℕ → ℕ → Ran → Ran
+onFrom place read done r = endedWith (r .closing) (r .book) (place + r .place) (read + r .read) (done + r .done)

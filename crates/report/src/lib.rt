@@ -1,7 +1,7 @@
 // What the programs print behind the records' lines: each text is made in a room and then handed over at once.
-ghost use mathlib.Core.Bool.{false};
 ghost use mathlib.Core.Path.{_≡_};
-ghost use Prim.Native.Nat.{min};
+ghost use Prim.Native.Nat.{_≤_, min};
+ghost use lib.Dec.{ltb};
 ghost use lib.ListN.{length};
 ghost use Rattle.lines.specs.Lines.{closingLineOf};
 ghost use Rattle.sums.specs.Room.{atStart};
@@ -63,7 +63,8 @@ pub fn close_out_text(
 
 // Prints the closing line for the program named: "`end`, `cut` or `long`, then records read .. and records carried out".
 pub fn closing(program: &[u8], word: Closing, read: u64, done: u64) -> Moved
-    ensures { λ m. ⌜ (m .failed ≡ false → m .count ≡ length (closingLineOf word read done)) ⌝ }
+    ensures { λ m. ⌜ m .count ≤ length (closingLineOf word read done) ⌝ }
+    ensures { λ m. ⌜ m .failed ≡ ltb (m .count) (length (closingLineOf word read done)) ⌝ }
 {
     let mut room = [0u8; 64];
     let n = lines::closing_line(word, read, done, &mut room);
@@ -72,7 +73,8 @@ pub fn closing(program: &[u8], word: Closing, read: u64, done: u64) -> Moved
 
 // Prints the lines of all accounts' standings for the program named.
 pub fn standings(program: &[u8], t: Table) -> Moved
-    ensures { λ m. ⌜ (m .failed ≡ false → m .count ≡ length (standingsText (turnedBack t))) ⌝ }
+    ensures { λ m. ⌜ m .count ≤ length (standingsText (turnedBack t)) ⌝ }
+    ensures { λ m. ⌜ m .failed ≡ ltb (m .count) (length (standingsText (turnedBack t))) ⌝ }
 {
     let mut room = [0u8; 65536];
     let n = standings_text(t, &mut room);
@@ -81,7 +83,8 @@ pub fn standings(program: &[u8], t: Table) -> Moved
 
 // Prints the lines of all accounts' needs for the program named.
 pub fn needs(program: &[u8], t: Table) -> Moved
-    ensures { λ m. ⌜ (m .failed ≡ false → m .count ≡ length (needsText (turnedBack t))) ⌝ }
+    ensures { λ m. ⌜ m .count ≤ length (needsText (turnedBack t)) ⌝ }
+    ensures { λ m. ⌜ m .failed ≡ ltb (m .count) (length (needsText (turnedBack t))) ⌝ }
 {
     let mut room = [0u8; 65536];
     let n = needs_text(t, &mut room);

@@ -1,4 +1,5 @@
 pub mod Counted
+pub mod Cover
 pub mod BySort
 pub mod NeedSums
 pub mod DeemedUnder

@@ -1,4 +1,5 @@
--- What is deemed directly under each account, and the needs that are kept by it (K3), over any view: under the CM what each TM and each CP is, under a TM what each client of it is.
+-- Only for internal functions and proofs: what is deemed directly under each account, and the needs that are kept by it (K3), over any view. Under the CM it is what each TM and
+-- each CP is deemed, under a TM what each client of it is, under a client or CP nothing.
 use mathlib.Core.Path.{_≡_}
 use mathlib.Core.Bool.{_&&_}
 use mathlib.Core.List.{List}

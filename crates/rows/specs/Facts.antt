@@ -7,7 +7,7 @@ use Prim.Native.Nat.{ℕ, _≤_, _<_}
 use lib.ListN.{getD}
 use Rattle.rows.specs.declared.Kinds.{Kinds}
 use Rattle.rows.specs.declared.Row.{Row}
-use Rattle.rows.specs.View.{View, isTM, needCM}
+use Rattle.rows.specs.View.{View, isTM}
 use Rattle.rows.specs.Rows.{ceiling}
 use Rattle.rows.specs.Ranges.{ceilings}
 use Rattle.rows.specs.KeptNeeds.{keptNeed}
@@ -26,10 +26,6 @@ NoTM v = (i : ℕ) → i < v .count → (v .sort i ≡ 2 → ⊥) → v .tm i �
 -- no row beyond the number is a TM's
 abbrev pub NoneBeyond : View → Type 0
 NoneBeyond v = (i : ℕ) → v .count ≤ i → isTM v i ≡ false
-
--- "The CM's need, defined below, is at most the CM's collateral."
-abbrev pub Covered : View → Type 0
-Covered v = needCM v ≤ v .collateral 0
 
 -- document 02, K3: "each kept need equals the need worked out afresh"
 abbrev pub NeedsKept : View → List ℕ → Type 0

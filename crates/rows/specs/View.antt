@@ -67,7 +67,7 @@ members v f g i = only (isTM v i) (f i) + only (isCP v i) (g i)
 unfoldable pub needCM : View → ℕ
 needCM v = v .margin 0 + sum (v .count) (members v (deemedTM v) (ownDeemed v))
 
--- an account's need, by its sort: the CM, a TM, and otherwise "for a client or CP, its margin"
+-- an account's need, by its sort: the CM, a TM, and otherwise "for a client or CP, its margin". Behind refusal 1 only account 0 has the CM's sort.
 unfoldable pub need : View → ℕ → ℕ
 need v i = pick (isCM v i) (needCM v) (pick (isTM v i) (needTM v i) (v .margin i))
 

@@ -18,10 +18,9 @@ use Rattle.book.proofs.SoundTest.{sound←}
 use Rattle.dayfile.specs.declared.Record.{Record}
 use Rattle.rules.specs.declared.Change.{Change}
 use Rattle.rules.specs.declared.Change.the-variants.{Refuse, Put, Open}
-use Rattle.rules.specs.Refusals.{isOpening, namedRow, refusalOf}
+use Rattle.rules.specs.Refusals.{isOpening, namedRow, besideOf, refusalOf}
 use Rattle.rules.specs.Effects.{amended, effectOf, changeOf}
-use Rattle.rules.specs.Inner.{refusalsBy}
-use Rattle.rules.proofs.WhatIsBeside.{besideOf}
+use Rattle.rules.proofs.WhatIsBeside.{refusalsBy}
 use Rattle.rules.proofs.Passing.{Passes, passes-all}
 
 -- a change other than a refusal is made where no refusal applies

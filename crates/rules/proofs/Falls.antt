@@ -13,7 +13,7 @@ use Rattle.sums.proofs.Tables.{first-names}
 use Rattle.rows.specs.declared.Book.{Book}
 use Rattle.rows.specs.View.{blocked}
 use Rattle.rows.specs.Rows.{modeAt, view, withMargin, hasLiveClient}
-use Rattle.rows.specs.Facts.{Covered}
+use Rattle.rows.proofs.Cover.{Covered}
 use Rattle.book.specs.Facts.{Sound}
 use Rattle.book.proofs.SoundAfter.{in-table}
 use Rattle.book.proofs.OneRow.{row-no-worse}

@@ -38,9 +38,10 @@ use Rattle.book.proofs.NeedsAfter.{kept-aside, needs-put, needs-open}
 use Rattle.book.proofs.Settled.{sound-rows, none-beyond}
 use Rattle.dayfile.specs.declared.Record.{Record}
 use Rattle.rules.specs.declared.Change.the-variants.{Put, Open}
-use Rattle.rules.specs.Refusals.{namedRow, takenOut, leftBelow, needPasses, newMargin}
+use Rattle.rules.specs.Refusals.{namedRow, rowLeft, leftBelow, needPasses, newMargin}
 use Rattle.rules.specs.Effects.{amended, changeOf, changedBy}
-use Rattle.rules.specs.Inner.{IsBeside, besideBy, topMargin}
+use Rattle.rules.specs.Inner.{besideBy, topMargin}
+use Rattle.rules.proofs.WhatIsBeside.{IsBeside}
 use Rattle.rules.proofs.Deciding.{put-passes, open-below, made-put, made-open}
 use Rattle.rules.proofs.SoundChange.{change-rows}
 
@@ -110,12 +111,12 @@ module _ (b : Book) (s : Sound b) (under : List ℕ) (h : DeemedUnder (view b) u
       ∙ ap (ltb (collateral (rowAt b 0))) (sym (need-after l))
       ∙ ap (λ z. ltb z (needCM (view (newMargin b r)))) (sym (same-collateral b r s l))
 
-  below : r .account < b .count → ltb (collateral (takenOut row r)) (blockedOf (row .margin + getD under (r .account) 0) (collateral row))
+  below : r .account < b .count → ltb (collateral (rowLeft row r)) (blockedOf (row .margin + getD under (r .account) 0) (collateral row))
       ≡ leftBelow row (blocked (view b) (r .account)) r
-  below l = sym (ap (λ n. ltb (collateral (takenOut row r)) (blockedOf n (collateral row))) (h .each (r .account) l))
+  below l = sym (ap (λ n. ltb (collateral (rowLeft row r)) (blockedOf n (collateral row))) (h .each (r .account) l))
 
   pub beside-by-deemed : (t : Bool) → (r .code ≡ 11 → t ≡ hasLiveClient b (r .account))
-      → IsBeside b r (besideBy (modeAt b (r .account)) (collateral (takenOut row r)) a (getD under (r .account) 0) (accountOf (rowAt b p)) (getD under p 0) top (getD under 0 0) t r)
+      → IsBeside b r (besideBy (modeAt b (r .account)) (collateral (rowLeft row r)) a (getD under (r .account) 0) (accountOf (rowAt b p)) (getD under p 0) top (getD under 0 0) t r)
   beside-by-deemed t k = record {
     mode-kinds = λ e l. refl;
     mode-pledge = λ e l. refl;

@@ -17,10 +17,9 @@ use Rattle.book.specs.Facts.{Sound}
 use Rattle.book.proofs.SoundTest.{sound→}
 use Rattle.dayfile.specs.declared.Record.{Record}
 use Rattle.dayfile.specs.Records.{faults, faultOf}
-use Rattle.rules.specs.Refusals.{namedRow, wrongSort, noNumberLeft, pastCeiling, tooMuch, heldByMode, leftBelow, takesBlocked, losesCover, notRetirable, needPasses, newMargin, refusalOf}
-use Rattle.rules.specs.Inner.{from7}
+use Rattle.rules.specs.Refusals.{namedRow, wrongSort, noNumberLeft, pastCeiling, tooMuch, heldByMode, leftBelow, takesBlocked, losesCover, notRetirable, needPasses, newMargin, besideOf, refusalOf}
 use Rattle.dayfile.proofs.Good.{Good, no-fault-good, three-numbered}
-use Rattle.rules.proofs.WhatIsBeside.{besideOf}
+use Rattle.rules.proofs.WhatIsBeside.{from7}
 
 pub record Passes (b : Book) (r : Record) : Type 0 where
   pub sound : Sound b

@@ -1,19 +1,20 @@
 -- The table on the row named, with what stands beside it, is the table of refusals.
 use mathlib.Core.Bool.{Bool, true, false, not, _&&_, _||_}
+use mathlib.Core.List.{List, _∷_, _++_}
 use mathlib.Core.Logic.{_⊎_, inl, inr}
 use mathlib.Core.Path.{_≡_, refl, sym, ap, _∙_}
-use Prim.Native.Nat.{ℕ, _<_}
+use Prim.Native.Nat.{ℕ, _≤_, _<_}
 use lib.ListN.{drop}
 use lib.Dec.{ltb, eqb}
 use borrow.Author.Tests.{ltb-true, eqb-true, not-false}
 use Rattle.sums.specs.Choice.{unlessRefused}
-use Rattle.sums.specs.Table.{first}
+use Rattle.sums.specs.Table.{Line, _when_, first}
 use Rattle.sums.proofs.Choices.{and-split, and-same, or-split}
 use Rattle.sums.proofs.Tables.{first-later, first-on, first-beyond}
 use Rattle.rows.specs.declared.Row.{Row}
 use Rattle.rows.specs.declared.Book.{Book}
 use Rattle.rows.specs.View.{blocked}
-use Rattle.rows.specs.Rows.{modeAt, placeOf, view, hasLiveClient, isLive}
+use Rattle.rows.specs.Rows.{ceiling, modeAt, placeOf, view, hasLiveClient, isLive}
 use Rattle.rows.specs.Ranges.{noAmounts}
 use Rattle.book.specs.Facts.{Sound}
 use Rattle.book.proofs.SoundTest.{sound←}
@@ -22,9 +23,9 @@ use Rattle.dayfile.specs.Records.{faults, faultOf}
 use Rattle.rules.specs.declared.Change.{Change}
 use Rattle.rules.specs.declared.Change.the-variants.{Refuse}
 use Rattle.rules.specs.declared.Beside.{Beside}
-use Rattle.rules.specs.Refusals.{namedRow, heldByMode, leftBelow, takesBlocked, needPasses, newMargin, refusalOf}
+use Rattle.rules.specs.Refusals.{namedRow, heldByMode, leftBelow, takesBlocked, needPasses, newMargin, besideOf, before8, from8, refusalOf}
 use Rattle.rules.specs.Effects.{effectOf, changeOf}
-use Rattle.rules.specs.Inner.{AmountsIn, IsBeside, from7, refusalBy, changeBy}
+use Rattle.rules.specs.Inner.{AmountsIn}
 use Rattle.dayfile.proofs.Good.{no-fault-good, three-numbered}
 use Rattle.rules.proofs.Faults.{amounts-in}
 
@@ -44,9 +45,28 @@ below-same = mode-same
 abbrev belowIn : Book → Record → Bool
 belowIn b r = leftBelow (namedRow b r) (blocked (view b) (r .account)) r
 
--- what there is to see
-abbrev pub besideOf : Book → Record → Beside
-besideOf b r = record { mode = modeAt b (r .account); below = belowIn b r; passes = needPasses (view (newMargin b r)); client = hasLiveClient b (r .account) }
+-- the table from 7 on
+abbrev pub from7 : Row → ℕ → Beside → Record → List Line
+from7 row count beside r = (7 when not (ltb (r .account) count && row .live)) ∷ from8 row count beside r
+
+-- and from 3 on, with what a record then does
+abbrev pub refusalsBy : Row → ℕ → ℕ → Beside → Record → List Line
+refusalsBy row count serial beside r = before8 (ltb (r .account) count && row .live) serial r ++ from8 row count beside r
+
+unfoldable pub refusalBy : Row → ℕ → ℕ → Beside → Record → ℕ
+refusalBy row count serial beside r = first (refusalsBy row count serial beside r)
+
+unfoldable pub changeBy : Row → ℕ → ℕ → Beside → Record → Change
+changeBy row count serial beside r = unlessRefused (refusalBy row count serial beside r) (effectOf row (r .account) r) Refuse
+
+-- what stands beside the row is right where the table asks for it
+pub record IsBeside (b : Book) (r : Record) (s : Beside) : Type 0 where
+  pub mode-kinds : r .code ≡ 7 → r .account < b .count → s .mode ≡ modeAt b (placeOf b (r .account))
+  pub mode-pledge : r .code ≡ 9 → r .account < b .count → s .mode ≡ modeAt b (placeOf b (r .account))
+  pub below-kinds : r .code ≡ 7 → r .account < b .count → s .below ≡ leftBelow (namedRow b r) (blocked (view b) (placeOf b (r .account))) r
+  pub below-pledge : r .code ≡ 9 → r .account < b .count → s .below ≡ leftBelow (namedRow b r) (blocked (view b) (placeOf b (r .account))) r
+  pub cover : r .code ≡ 10 → r .account < b .count → r .margin ≤ ceiling → s .passes ≡ needPasses (view (newMargin b r))
+  pub clients : r .code ≡ 11 → r .account < b .count → s .client ≡ hasLiveClient b (placeOf b (r .account))
 
 pub beside-is : (b : Book) (r : Record) → IsBeside b r (besideOf b r)
 beside-is b r = record {

@@ -1,4 +1,4 @@
--- Document 01, 'Refusal numbers, in order of checking': the table, for a record at a book; with document 02, K5: its 17; K7: its 12.
+-- Document 01, 'Refusal numbers, in order of checking': the table, for a record at a book; with document 02, K5: its 17; K6: its 13; K7: its 12.
 use mathlib.Core.Bool.{Bool, not, _&&_, _||_}
 use mathlib.Core.List.{List, [], _∷_, _++_}
 use Prim.Native.Nat.{ℕ, _+_, _-_}
@@ -13,6 +13,7 @@ use Rattle.rows.specs.Ranges.{kindsCapped, kindsWithin, noAmounts}
 use Rattle.book.specs.Sound.{soundB}
 use Rattle.dayfile.specs.declared.Record.{Record}
 use Rattle.dayfile.specs.Records.{faults}
+use Rattle.rules.specs.declared.Beside.{Beside}
 
 -- codes 1 open TM, 2 open client, 3 open CP
 abbrev pub isOpening : Record → Bool
@@ -23,7 +24,7 @@ abbrev pub namedRow : Book → Record → Row
 namedRow b r = rowAt b (placeOf b (r .account))
 
 -- "8: opening: the account named is of the wrong sort; retiring: account 0". Opening a TM or a CP names the CM, opening a
--- client its TM; an account that is not live was refused with 7 before.
+-- client its TM; an account that is not live was refused with 7 before. Behind refusal 1 only account 0 has the CM's sort.
 abbrev pub wrongSort : Row → Record → Bool
 wrongSort row r =
     (eqb (r .code) 1 || eqb (r .code) 3) && not (eqb (row .sort) 0)
@@ -54,12 +55,12 @@ abbrev pub heldByMode : Bool → Record → Bool
 heldByMode on r = (eqb (r .code) 7 || eqb (r .code) 9) && on
 
 -- the row after a release or unpledge
-abbrev pub takenOut : Row → Record → Row
-takenOut row r = pick (eqb (r .code) 7) (withAllocated row (lessKinds (row .allocated) (r .kinds))) (withPledged row (row .pledged - r .pledged))
+abbrev pub rowLeft : Row → Record → Row
+rowLeft row r = pick (eqb (r .code) 7) (withAllocated row (lessKinds (row .allocated) (r .kinds))) (withPledged row (row .pledged - r .pledged))
 
 -- Document 02, K7: "the collateral left after a release or unpledge would be below what was blocked", before the record
 abbrev pub leftBelow : Row → ℕ → Record → Bool
-leftBelow row held r = ltb (collateral (takenOut row r)) held
+leftBelow row held r = ltb (collateral (rowLeft row r)) held
 
 -- "12 is now given exactly when" that is so
 abbrev pub takesBlocked : Bool → Record → Bool
@@ -81,23 +82,44 @@ losesCover row passes r = eqb (r .code) 10 && (ltb (row .margin) (r .margin) && 
 abbrev pub notRetirable : Row → Bool → Record → Bool
 notRetirable row liveClient r = eqb (r .code) 11 && (not (noAmounts row) || liveClient)
 
--- the table for a record; 4, 5, 6 are its faults. 2 is about bytes (`nextOf` of the crate desk), 15 is the writer's, the list of
--- needs' and the close-out's, 16 the close-out's.
+-- what the table asks beside the row of the account named: its mode, whether what is left would be below what was blocked, whether the CM's need would pass its collateral, and
+-- whether the account has a live client
+abbrev pub besideOf : Book → Record → Beside
+besideOf b r = record {
+  mode = modeAt b (placeOf b (r .account));
+  below = leftBelow (namedRow b r) (blocked (view b) (placeOf b (r .account))) r;
+  passes = needPasses (view (newMargin b r));
+  client = hasLiveClient b (placeOf b (r .account));
+}
+
+-- The table for a record, past 1: first the lines that ask of the book only its next serial and whether the account named is live ("7: the account is not live, or its number was
+-- never given"); 4, 5, 6 are the record's faults.
+abbrev pub before8 : Bool → ℕ → Record → List Line
+before8 alive serial r =
+    (3 when not (eqb (r .serial) serial))
+    ∷ (faults r
+    ++ ((7 when not alive)
+    ∷ []))
+
+-- then those by the row of that account, the number of accounts, and what stands beside the row
+abbrev pub from8 : Row → ℕ → Beside → Record → List Line
+from8 row count beside r =
+    (8 when wrongSort row r)
+    ∷ (9 when noNumberLeft count r)
+    ∷ (10 when pastCeiling row r)
+    ∷ (11 when tooMuch row r)
+    ∷ (17 when heldByMode (beside .mode) r)
+    ∷ (12 when takesBlocked (beside .below) r)
+    ∷ (13 when losesCover row (beside .passes) r)
+    ∷ (14 when notRetirable row (beside .client) r)
+    ∷ []
+
+-- the whole table. 2 is about bytes (`nextOf` of the crate desk); 15, 16 and 18 to 22 are given by calls that carry no record out.
 abbrev pub refusals : Book → Record → List Line
 refusals b r =
     (1 when not (soundB b))
-    ∷ (3 when not (eqb (r .serial) (b .serial)))
-    ∷ (faults r
-    ++ ((7 when not (isLive b (r .account)))
-    ∷ (8 when wrongSort (namedRow b r) r)
-    ∷ (9 when noNumberLeft (b .count) r)
-    ∷ (10 when pastCeiling (namedRow b r) r)
-    ∷ (11 when tooMuch (namedRow b r) r)
-    ∷ (17 when heldByMode (modeAt b (placeOf b (r .account))) r)
-    ∷ (12 when takesBlocked (leftBelow (namedRow b r) (blocked (view b) (placeOf b (r .account))) r) r)
-    ∷ (13 when losesCover (namedRow b r) (needPasses (view (newMargin b r))) r)
-    ∷ (14 when notRetirable (namedRow b r) (hasLiveClient b (placeOf b (r .account))) r)
-    ∷ []))
+    ∷ (before8 (isLive b (r .account)) (b .serial) r
+    ++ from8 (namedRow b r) (b .count) (besideOf b r) r)
 
 -- the first that applies, or 0
 unfoldable pub refusalOf : Book → Record → ℕ

@@ -6,7 +6,7 @@ ghost use lib.ListN.{length};
 ghost use Rattle.sums.specs.Choice.{pick};
 ghost use Rattle.book.specs.Facts.{Sound};
 ghost use Rattle.table.specs.Words.{turnedBack};
-ghost use Rattle.records.specs.Runs.{endedWith, runOf, ranOf};
+ghost use Rattle.records.specs.Runs.{endedWith, runOf, ranOf, numberClosing, closingRefusal};
 ghost use Rattle.records.specs.LineNumbers.{numbersRoom, roomFor};
 ghost use Rattle.records.specs.Inner.{putNumbersFrom};
 ghost use Rattle.run.specs.Over.{overRan};
@@ -106,6 +106,7 @@ fn unsound(t: Table) -> Ended
 // The records of a piece from its start, up to a stated number.
 pub fn day(t: Table, piece: &[u8], most: u64) -> Ended
     ensures { λ r. ⌜ r ≡ overRan (ranOf (turnedBack t) (now (piece .entry)) most) ⌝ }
+    ensures { λ r. ⌜ numberClosing (r .closing) ≡ closingRefusal (turnedBack t) ⌝ }
 {
     if !book::is_sound(t) {
         return unsound(t);
@@ -118,6 +119,7 @@ pub fn day(t: Table, piece: &[u8], most: u64) -> Ended
 pub fn day_with_numbers(t: Table, piece: &[u8], most: u64, room: &mut [u16]) -> Ended
     ensures { λ r. ⌜ r ≡ overRan (ranOf (turnedBack t) (now (piece .entry)) (roomFor most (now (room .entry)))) ⌝ }
     ensures { λ r. ⌜ now (room .exit) ≡ numbersRoom (turnedBack t) (now (piece .entry)) most (now (room .entry)) ⌝ }
+    ensures { λ r. ⌜ numberClosing (r .closing) ≡ closingRefusal (turnedBack t) ⌝ }
 {
     if !book::is_sound(t) {
         return unsound(t);

@@ -30,18 +30,18 @@ use Rattle.dayfile.proofs.Good.{Good, no-fault-good, three-numbered}
 use Rattle.rules.specs.declared.Beside.{Beside}
 use Rattle.rules.specs.declared.Change.{Change}
 use Rattle.rules.specs.declared.Change.the-variants.{Refuse, Put, Open}
-use Rattle.rules.specs.Refusals.{takenOut, isOpening, namedRow, refusalOf}
+use Rattle.rules.specs.Refusals.{rowLeft, isOpening, namedRow, besideOf, before8, from8, refusalOf}
 use Rattle.rules.specs.Effects.{amended, effectOf, changeOf, changedBy, nextSerial}
-use Rattle.rules.specs.Inner.{IsBeside, refusalBy, besideBy}
+use Rattle.rules.specs.Inner.{besideBy}
 use Rattle.rules.proofs.Faults.{amounts-in}
-use Rattle.rules.proofs.WhatIsBeside.{besideOf, beside-is, refusal-beside}
+use Rattle.rules.proofs.WhatIsBeside.{IsBeside, refusalBy, beside-is, refusal-beside}
 use Rattle.rules.proofs.SoundChange.{change-rows}
 use Rattle.rules.proofs.Moves.{beside-by-deemed}
 use Rattle.table.specs.Words.{Marks, wordAt, rowIn, bookFrom}
 use Rattle.table.proofs.Gathered.{row-in}
 use Rattle.table.specs.Inner.{Anew}
 use Rattle.steps.specs.Steps.{Ready, Decided, stayed, wentOn, goneWith}
-use Rattle.codes.specs.Own.{before8, earlyNumber, aliveIn, from8, clientIn, hasLiveClientIn, deemedUnderIn, besideIn, Held, Answered, Opens, Amending}
+use Rattle.codes.specs.Own.{earlyNumber, aliveIn, clientIn, hasLiveClientIn, deemedUnderIn, besideIn, Held, Answered, Opens, Amending}
 use Rattle.codes.proofs.Lines.{open-own}
 
 -- ---- which codes open
@@ -181,7 +181,7 @@ module _ (count serial : ℕ) (m : Marks) (w : List ℕ) (modes : List Bool) (ne
       slot-is = record { inside = tm-low; named = λ o. sym (ap (λ x. x .tm) row-is) }
 
       beside-by : (row its top : Row) → namedRow b r ≡ row → rowAt b p ≡ its → rowAt b 0 ≡ top
-          → IsBeside b r (besideBy on (collateral (takenOut row r)) (accountOf row) (getD under (r .account) 0) (accountOf its) (getD under p 0) (accountOf top) (getD under 0 0) (hasLiveClientIn m count (r .account)) r)
+          → IsBeside b r (besideBy on (collateral (rowLeft row r)) (accountOf row) (getD under (r .account) 0) (accountOf its) (getD under p 0) (accountOf top) (getD under 0 0) (hasLiveClientIn m count (r .account)) r)
       beside-by row its top er ei et =
           rw (← er, ← ei, ← et) (beside-by-deemed b (h .sound) under deemed-under r p slot-is (hasLiveClientIn m count (r .account)) (λ e. live-client-is))
 

@@ -1,19 +1,21 @@
 // Files that a program's words name. What fails is told on standard error: the program, what it can't do, the name, the system's reason.
 ghost use mathlib.Core.Bool.{true, false};
+ghost use mathlib.Core.List.{_++_};
 ghost use mathlib.Core.Path.{_≡_};
-ghost use Prim.Native.Nat.{_+_, _≤_};
+ghost use Prim.Native.Nat.{_≤_};
 ghost use lib.ListN.{length};
+ghost use Rattle.sums.specs.Choice.{pick};
+ghost use Rattle.streams.specs.Calls.{failedBy, errorIs, nothingMoved, andThen};
+ghost use Rattle.streams.specs.Names.{besideMark};
 use crate::Moved;
+use crate::beside::create_beside;
+use crate::beside::put_beside;
 use crate::read_all;
 use crate::write_all;
-use libc::EEXIST;
 use libc::STDERR_FILENO;
 
 // The longest name that a program's word can be, and three bytes more.
 const BESIDE: usize = 4099;
-
-// How many names are tried beside a file's own.
-const TRIES: usize = 100;
 
 // Called right behind the call that failed: a write that takes all leaves errno as it was.
 fn cannot(program: &[u8], what: &[u8], name: &[u8]) {
@@ -25,8 +27,7 @@ fn cannot(program: &[u8], what: &[u8], name: &[u8]) {
 }
 
 fn nothing_moved() -> Moved
-    ensures { λ m. ⌜ m .failed ≡ true ⌝ }
-    ensures { λ m. ⌜ m .count ≡ 0 ⌝ }
+    ensures { λ m. ⌜ m ≡ nothingMoved ⌝ }
 {
     Moved {
         failed: true,
@@ -34,10 +35,23 @@ fn nothing_moved() -> Moved
     }
 }
 
-fn read_file(program: &[u8], what: &[u8], name: &[u8], room: &mut [u8]) -> Moved
-    ensures { λ m. ⌜ m .count ≤ length (now (room .exit)) ⌝ }
+// A move, or nothing where the call behind it failed: that is told.
+fn and_then(program: &[u8], what: &[u8], name: &[u8], put: Moved, answer: i32) -> Moved
+    ensures { λ m. ⌜ m ≡ andThen put answer ⌝ }
 {
-    let fd = os::open_read(name);
+    if answer < 0 {
+        cannot(program, what, name);
+        return nothing_moved();
+    }
+    put
+}
+
+// Reads from a file that was opened, or that couldn't be.
+fn read_opened(program: &[u8], what: &[u8], name: &[u8], fd: i32, room: &mut [u8]) -> Moved
+    ensures { λ m. ⌜ m .count ≤ length (now (room .exit)) ⌝ }
+    ensures { λ m. ⌜ (m .failed ≡ true → m .count ≡ 0) ⌝ }
+    ensures { λ m. ⌜ (m .failed ≡ false → failedBy fd ≡ false) ⌝ }
+{
     if fd < 0 {
         cannot(program, what, name);
         return nothing_moved();
@@ -45,83 +59,60 @@ fn read_file(program: &[u8], what: &[u8], name: &[u8], room: &mut [u8]) -> Moved
     let read = read_all(fd, room);
     if read.failed {
         cannot(program, what, name);
+        libc::close(fd);
+        return nothing_moved();
     }
     libc::close(fd);
     read
 }
 
-// Reads the file that a word names until the room is full or the file ends. Word 1 is the first behind the program's own name.
-pub fn read_named(program: &[u8], what: &[u8], word: usize, room: &mut [u8]) -> Moved
+// Reads the file of a name that was had whole, where errno is 0.
+fn read_file(program: &[u8], what: &[u8], name: &[u8], error: i32, room: &mut [u8]) -> Moved
     ensures { λ m. ⌜ m .count ≤ length (now (room .exit)) ⌝ }
+    ensures { λ m. ⌜ (m .failed ≡ true → m .count ≡ 0) ⌝ }
+    ensures { λ m. ⌜ (m .failed ≡ false → errorIs 0 error ≡ true) ⌝ }
 {
-    let mut name = io::buffer();
-    let n = os::arg(word, &mut name);
-    if os::errno() != 0 {
+    if error != 0 {
         cannot(program, what, b"its name");
         return nothing_moved();
     }
-    read_file(program, what, &name[..n], room)
+    read_opened(program, what, name, os::open_read(name), room)
 }
 
-// A name, and `.00` behind it: its length.
-fn put_beside(name: &[u8], room: &mut [u8]) -> usize
-    requires { ⌜ length (now name) + 3 ≤ length (now room) ⌝ }
-    ensures { λ n. ⌜ n ≡ length (now (name .entry)) + 3 ⌝ }
+// Reads the file that a word names until the room is full or the file ends. Word 1 is the first behind the program's own name.
+pub fn read_named(program: &[u8], what: &[u8], word: usize, room: &mut [u8]) -> Moved
+    ensures { λ m. ⌜ m .count ≤ length (now (room .exit)) ⌝ }
+    ensures { λ m. ⌜ (m .failed ≡ true → m .count ≡ 0) ⌝ }
 {
-    let mut i: usize = 0;
-    while i < name.len() {
-        room[i] = name[i];
-        i += 1;
-    }
-    room[i] = b'.';
-    room[i + 1] = b'0';
-    room[i + 2] = b'0';
-    i + 3
-}
-
-// Makes a file that isn't there yet, by the first of a hundred names that is free: the last two bytes tell them apart. A run that was cut off may have left one.
-fn create_beside(name: &mut [u8]) -> i32
-    requires { ⌜ 3 ≤ length (now name) ⌝ }
-{
-    let last = name.len() - 1;
-    let mut tries: usize = 0;
-    let mut fd: i32 = -1;
-    while tries < TRIES {
-        name[last - 1] = b'0' + (tries / 10) as u8;
-        name[last] = b'0' + (tries % 10) as u8;
-        fd = os::create(name);
-        if (0 <= fd) | (os::errno() != EEXIST) {
-            break;
-        }
-        tries += 1;
-    }
-    fd
+    let mut name = io::buffer();
+    let n = os::arg(word, &mut name);
+    read_file(program, what, &name[..n], os::errno(), room)
 }
 
 // All of a text, on the disk and not only with the system.
 fn fill(program: &[u8], what: &[u8], name: &[u8], fd: i32, text: &[u8]) -> Moved
-    ensures { λ m. ⌜ m .count ≤ length (now (text .entry)) ⌝ }
-    ensures { λ m. ⌜ (m .failed ≡ false → m .count ≡ length (now (text .entry))) ⌝ }
+    ensures { λ m. ⌜ m .count ≡ pick (m .failed) 0 (length (now (text .entry))) ⌝ }
 {
     let put = write_all(fd, text);
     if put.failed {
         cannot(program, what, name);
-        return put;
-    }
-    if libc::fsync(fd) < 0 {
-        cannot(program, what, name);
         return nothing_moved();
     }
-    put
+    and_then(program, what, name, put, libc::fsync(fd))
 }
 
-// Writes a text whole into a new file, and then gives it the other's name.
-fn replace_by(program: &[u8], what: &[u8], name: &[u8], beside: &mut [u8], text: &[u8]) -> Moved
-    requires { ⌜ 3 ≤ length (now beside) ⌝ }
-    ensures { λ m. ⌜ m .count ≤ length (now (text .entry)) ⌝ }
-    ensures { λ m. ⌜ (m .failed ≡ false → m .count ≡ length (now (text .entry))) ⌝ }
+// Fills the file that was made beside, or that couldn't be, and then gives it the other's name.
+fn replace_by(
+    program: &[u8],
+    what: &[u8],
+    name: &[u8],
+    beside: &[u8],
+    fd: i32,
+    text: &[u8],
+) -> Moved
+    ensures { λ m. ⌜ m .count ≡ pick (m .failed) 0 (length (now (text .entry))) ⌝ }
+    ensures { λ m. ⌜ (m .failed ≡ false → failedBy fd ≡ false) ⌝ }
 {
-    let fd = create_beside(beside);
     if fd < 0 {
         cannot(program, what, name);
         return nothing_moved();
@@ -132,35 +123,42 @@ fn replace_by(program: &[u8], what: &[u8], name: &[u8], beside: &mut [u8], text:
         os::unlink(beside);
         return put;
     }
-    if os::rename(beside, name) < 0 {
-        cannot(program, what, name);
+    let replaced = and_then(program, what, name, put, os::rename(beside, name));
+    if replaced.failed {
         os::unlink(beside);
-        return nothing_moved();
     }
-    put
+    replaced
 }
 
-// Writes a text beside a file's place and brings it there whole: at any moment the old file stands there or the new one.
-fn replace_file(program: &[u8], what: &[u8], name: &[u8], text: &[u8]) -> Moved
+// Writes a text whole into a new file beside, and then gives it the other's name.
+fn replace_beside(program: &[u8], what: &[u8], name: &[u8], beside: &mut [u8], text: &[u8]) -> Moved
+    requires { ⌜ now beside ≡ now name ++ besideMark ⌝ }
+    ensures { λ m. ⌜ m .count ≡ pick (m .failed) 0 (length (now (text .entry))) ⌝ }
+{
+    let made = create_beside(beside);
+    replace_by(program, what, name, beside, made.fd, text)
+}
+
+// Writes a text beside the place of a file whose name was had whole, where errno is 0, and brings it there whole: at any moment the old file stands there or the new one.
+fn replace_file(program: &[u8], what: &[u8], name: &[u8], error: i32, text: &[u8]) -> Moved
     requires { ⌜ length (now name) ≤ 4096 ⌝ }
-    ensures { λ m. ⌜ m .count ≤ length (now (text .entry)) ⌝ }
-    ensures { λ m. ⌜ (m .failed ≡ false → m .count ≡ length (now (text .entry))) ⌝ }
+    ensures { λ m. ⌜ m .count ≡ pick (m .failed) 0 (length (now (text .entry))) ⌝ }
+    ensures { λ m. ⌜ (m .failed ≡ false → errorIs 0 error ≡ true) ⌝ }
 {
-    let mut beside = [0u8; BESIDE];
-    let n = put_beside(name, &mut beside);
-    replace_by(program, what, name, &mut beside[..n], text)
-}
-
-// The same for the file that a word names.
-pub fn replace_named(program: &[u8], what: &[u8], word: usize, text: &[u8]) -> Moved
-    ensures { λ m. ⌜ m .count ≤ length (now (text .entry)) ⌝ }
-    ensures { λ m. ⌜ (m .failed ≡ false → m .count ≡ length (now (text .entry))) ⌝ }
-{
-    let mut name = io::buffer();
-    let n = os::arg(word, &mut name);
-    if os::errno() != 0 {
+    if error != 0 {
         cannot(program, what, b"its name");
         return nothing_moved();
     }
-    replace_file(program, what, &name[..n], text)
+    let mut beside = [0u8; BESIDE];
+    let n = put_beside(name, &mut beside);
+    replace_beside(program, what, name, &mut beside[..n], text)
+}
+
+// The same for the file that a word names: all of the text is there, or none of it.
+pub fn replace_named(program: &[u8], what: &[u8], word: usize, text: &[u8]) -> Moved
+    ensures { λ m. ⌜ m .count ≡ pick (m .failed) 0 (length (now (text .entry))) ⌝ }
+{
+    let mut name = io::buffer();
+    let n = os::arg(word, &mut name);
+    replace_file(program, what, &name[..n], os::errno(), text)
 }

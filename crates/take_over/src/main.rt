@@ -3,10 +3,11 @@
 use feed::Table;
 use libc::STDERR_FILENO;
 use streams::standard::write_output;
+use streams::words::is_there;
 
 // Both words are wanted.
 fn too_few_words() -> bool {
-    let few = os::arg_count() < 3;
+    let few = !is_there(os::arg_count(), 2);
     if few {
         io::write_all(
             STDERR_FILENO,

@@ -6,13 +6,14 @@ use lib.ListN.{length, take, length-take}
 use Rattle.currency.specs.declared.Made.the-variants.{Given, Refused}
 use Rattle.currency.specs.Margins.{sumOf, marginRecord}
 use Rattle.currency.proofs.Faultless.{charges-most}
+use Rattle.currency.proofs.Numbers.{made-named}
 use Rattle.currency.proofs.Making.{too-many, at-fault, initial-past, sum-past, sum-within}
 use borrow.Author.Needs.{needs}
 use Rattle.currency.proofs.margin.Statement.{statement}
 use Rattle.currency.proofs.margin.Tie as tie
 
 returns : tie.Need-returns
-returns c = sym (too-many _ _ _ _ _ (c .if1 .taken))
+returns c = made-named _ _ _ _ _ _ (sym (too-many _ _ _ _ _ (c .if1 .taken)))
 
 first-fault-requires : tie.Need-first-fault-requires
 first-fault-requires c κs = search needs
@@ -20,12 +21,12 @@ first-fault-requires c κs = search needs
 returns-2 : tie.Need-returns-2
 returns-2 c =
     let f = c .before .first-fault .ensures in
-    ap Refused f ∙ sym (at-fault _ _ _ _ _ (c .before .before .if1 .left) (λ e. c .if2 .taken (f ∙ e)))
+    made-named _ _ _ _ _ _ (ap Refused f ∙ sym (at-fault _ _ _ _ _ (c .before .before .if1 .left) (λ e. c .if2 .taken (f ∙ e))))
 
 returns-3 : tie.Need-returns-3
 returns-3 c =
     let f = c .before .before in
-    sym (initial-past _ _ _ _ _ (f .before .if1 .left) (sym (f .first-fault .ensures) ∙ c .before .if2 .left) (c .if3 .taken))
+    made-named _ _ _ _ _ _ (sym (initial-past _ _ _ _ _ (f .before .if1 .left) (sym (f .first-fault .ensures) ∙ c .before .if2 .left) (c .if3 .taken)))
 
 charged-requires : tie.Need-charged-requires
 charged-requires c κs = search needs
@@ -45,7 +46,7 @@ returns-4 c =
     let f = d .before .before .before in
     let a = f .before .before .args in
     let sum = ap (λ x. a .initial + x) (d .charged .ensures) in
-    sym (sum-past _ _ _ _ _ (f .before .if1 .left) (sym (f .first-fault .ensures) ∙ d .before .before .if2 .left) (d .before .if3 .left) (omega (arith, sum)))
+    made-named _ _ _ _ _ _ (sym (sum-past _ _ _ _ _ (f .before .if1 .left) (sym (f .first-fault .ensures) ∙ d .before .before .if2 .left) (d .before .if3 .left) (omega (arith, sum))))
 
 record-of-requires : tie.Need-record-of-requires
 record-of-requires c κs = search needs
@@ -57,8 +58,9 @@ returns-5 c =
     let f = d .before .before .before in
     let a = f .before .before .args in
     let sum = ap (λ x. a .initial + x) (d .charged .ensures) in
-    ap Given (c .record-of .ensures ∙ ap (marginRecord (a .serial) (a .account)) sum)
-    ∙ sym (sum-within _ _ _ _ _ (f .before .if1 .left) (sym (f .first-fault .ensures) ∙ d .before .before .if2 .left) (d .before .if3 .left) (omega (arith, sum)))
+    made-named _ _ _ _ _ _
+    (ap Given (c .record-of .ensures ∙ ap (marginRecord (a .serial) (a .account)) sum)
+    ∙ sym (sum-within _ _ _ _ _ (f .before .if1 .left) (sym (f .first-fault .ensures) ∙ d .before .before .if2 .left) (d .before .if3 .left) (omega (arith, sum))))
 
 pub margin-spec : {M : Type 1} → statement M
 margin-spec =

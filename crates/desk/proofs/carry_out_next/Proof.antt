@@ -9,6 +9,7 @@ use Rattle.desk.specs.declared.Carried.{Carried}
 use Rattle.desk.specs.declared.CarriedNext.{CarriedNext}
 use Rattle.desk.specs.Over.{overNext}
 use Rattle.desk.proofs.Doing.{unsound-next, sound-next}
+use Rattle.desk.proofs.Numbers.{next-named}
 use Prim.Native.Nat.{ℕ}
 use borrow.Author.Needs.{needs}
 use Rattle.desk.proofs.carry_out_next.Statement.{statement}
@@ -34,8 +35,9 @@ at-requires c κs = search needs
 returns : tie.Need-returns
 returns c =
     let a = c .before .before .before .before .before .args in
-    c .at .ensures ∙ ap (placed (a .place)) (c .before .stays .ensures)
-    ∙ ap overNext (unsound-next _ (a .piece .now) (a .place) (sym (c .before .before .before .is-sound .ensures) ∙ not-true _ (c .before .before .if1 .taken)))
+    next-named _ _ _ _
+    (c .at .ensures ∙ ap (placed (a .place)) (c .before .stays .ensures)
+    ∙ ap overNext (unsound-next _ (a .piece .now) (a .place) (sym (c .before .before .before .is-sound .ensures) ∙ not-true _ (c .before .before .if1 .taken))))
 
 found-at-requires : tie.Need-found-at-requires
 found-at-requires c κs = search needs
@@ -71,22 +73,25 @@ returns-2 : tie.Need-returns-2
 returns-2 c =
     let f = c .before .before .before .before in
     let a = f .before .before .before .before .args in
-    c .at2 .ensures ∙ ap (placed (a .place)) (c .before .stays2 .ensures)
-    ∙ ap overNext (sound-next _ (a .piece .now) (a .place) _ (tested (f .before)) (sym (f .found-at .ensures) ∙ c .before .before .enum-told .given .1))
+    next-named _ _ _ _
+    (c .at2 .ensures ∙ ap (placed (a .place)) (c .before .stays2 .ensures)
+    ∙ ap overNext (sound-next _ (a .piece .now) (a .place) _ (tested (f .before)) (sym (f .found-at .ensures .0) ∙ c .before .before .enum-told .given .1)))
 
 returns-3 : tie.Need-returns-3
 returns-3 c =
     let f = c .before .before .before .before in
     let a = f .before .before .before .before .args in
-    c .at3 .ensures ∙ ap (placed (a .place)) (c .before .stays3 .ensures)
-    ∙ ap overNext (sound-next _ (a .piece .now) (a .place) _ (tested (f .before)) (sym (f .found-at .ensures) ∙ c .before .before .enum-told2 .given .1))
+    next-named _ _ _ _
+    (c .at3 .ensures ∙ ap (placed (a .place)) (c .before .stays3 .ensures)
+    ∙ ap overNext (sound-next _ (a .piece .now) (a .place) _ (tested (f .before)) (sym (f .found-at .ensures .0) ∙ c .before .before .enum-told2 .given .1)))
 
 returns-4 : tie.Need-returns-4
 returns-4 c =
     let f = c .before .before .before .before .before in
     let a = f .before .before .before .before .args in
-    c .at4 .ensures ∙ ap (placed _) (c .before .step-at .ensures)
-    ∙ ap overNext (sound-next _ (a .piece .now) (a .place) _ (tested (f .before)) (sym (f .found-at .ensures) ∙ c .before .before .before .found .given .1))
+    next-named _ _ _ _
+    (c .at4 .ensures ∙ ap (placed _) (c .before .step-at .ensures)
+    ∙ ap overNext (sound-next _ (a .piece .now) (a .place) _ (tested (f .before)) (sym (f .found-at .ensures .0) ∙ c .before .before .before .found .given .1)))
 
 pub carry-out-next-spec : {M : Type 1} → statement M
 carry-out-next-spec =

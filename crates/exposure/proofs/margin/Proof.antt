@@ -4,7 +4,7 @@ use native.Mathlib.Omega.{arith}
 use mir.Facts.{toZ-ofZ}
 use Rattle.exposure.specs.Exposures.{exposureOf}
 use Rattle.exposure.specs.Inner.{withExposure}
-use Rattle.exposure.proofs.Joining.{made-bounded, amount-most, joined-is}
+use Rattle.exposure.proofs.Joining.{made-bounded, amount-most, joined-is, joined-named}
 use borrow.Author.Needs.{needs}
 use Rattle.exposure.proofs.margin.Statement.{statement}
 use Rattle.exposure.proofs.margin.Tie as tie
@@ -25,7 +25,7 @@ margin-requires c κs = search needs
 with-exposure-requires : tie.Need-with-exposure-requires
 with-exposure-requires c κs =
     let a = c .before .before .args in (
-      made-bounded (a .serial) (a .account) (a .initial) (a .positions) (a .number) (c .margin .result) (c .margin .ensures),
+      made-bounded (a .serial) (a .account) (a .initial) (a .positions) (a .number) (c .margin .result) (c .margin .ensures .0),
       omega (arith, ap (λ x. x .amount) (exposed (c .before)), amount-most (a .premium) (a .loss) (a .exercise) (a .settlement)),
     )
 
@@ -33,9 +33,10 @@ returns : tie.Need-returns
 returns c =
     let e = c .before .before in
     let a = e .before .args in
-    c .with-exposure .ensures
-    ∙ (λ i. withExposure (c .before .margin .ensures i) (exposed e i .refusal) (exposed e i .amount))
-    ∙ joined-is (a .premium) (a .loss) (a .exercise) (a .settlement) (a .serial) (a .account) (a .initial) (a .positions) (a .number)
+    joined-named _ _ _ _ _ _ _ _ _ _
+    (c .with-exposure .ensures
+    ∙ (λ i. withExposure (c .before .margin .ensures .0 i) (exposed e i .refusal) (exposed e i .amount))
+    ∙ joined-is (a .premium) (a .loss) (a .exercise) (a .settlement) (a .serial) (a .account) (a .initial) (a .positions) (a .number))
 
 pub margin-spec : {M : Type 1} → statement M
 margin-spec =

@@ -8,6 +8,7 @@ use lib.ListN.{length, length-replicate}
 use lib.Seq.{length-take-le}
 use borrow.Author.Needs.{needs}
 use Rattle.sums.specs.Choice.{pick}
+use Rattle.sums.proofs.Choices.{or-fails}
 use Rattle.rows.specs.declared.Book.{Book}
 use Rattle.table.specs.declared.Table.{Table}
 use Rattle.table.specs.Words.{marksOf, bookFrom, marksFrom, turned, turnedBack}
@@ -19,19 +20,21 @@ use Rattle.steps.proofs.Entering.{adds-up, looks-up, sound-enters}
 use Rattle.records.specs.declared.Ran.{Ran}
 use Rattle.records.specs.Inner.{ranIn}
 use Rattle.records.proofs.NumbersPut.{ran-sound}
-use Rattle.feed.proofs.Feeding.{Feeding, Piece, came-over, nothing-read, no-day-came, read-upto, last-turn-came, turn-fed, turn-reads-some, place-within, read-within, done-within}
+use Rattle.streams.proofs.Taken.{all-taken}
+use Rattle.feed.proofs.TurnText.{same-where}
+use Rattle.feed.proofs.Feeding.{Feeding, Piece, Told, came-over, nothing-read, no-day-came, read-upto, last-turn-came, turn-fed, turn-reads-some, place-within, read-within, done-within}
 use Rattle.feed.proofs.in_turns.Statement.{statement}
 use Rattle.feed.proofs.in_turns.Tie as tie
 
 abbrev Inv-loop : tie.InvT-loop
-Inv-loop program printing space₀ numbers₀ text₀ sort₀ live₀ tm₀ amounts₀ needs₀ was excess₀ modes₀ at₀ rest₀ read₀ done₀ ended₀ space numbers text sort live tm amounts needs excess modes at rest read done ended =
-    Feeding (bookFrom (at₀ .count) (at₀ .serial) (marksFrom sort₀ live₀ tm₀) amounts₀ was needs₀) space (bookAt at (marksFrom sort live tm) amounts was modes needs) rest read done
+Inv-loop program printing space₀ numbers₀ text₀ sort₀ live₀ tm₀ amounts₀ needs₀ was excess₀ modes₀ at₀ rest₀ read₀ done₀ printed₀ ended₀ space numbers text sort live tm amounts needs excess modes at rest read done printed ended =
+    Feeding printing (bookFrom (at₀ .count) (at₀ .serial) (marksFrom sort₀ live₀ tm₀) amounts₀ was needs₀) space (bookAt at (marksFrom sort live tm) amounts was modes needs) rest read done printed
     × Going at (marksFrom sort live tm) amounts was modes needs excess
     × (length numbers ≡ 3200)
     × (length text ≡ 20480)
 
 abbrev μ-loop : tie.MeasureT-loop
-μ-loop program printing space₀ numbers₀ text₀ sort₀ live₀ tm₀ amounts₀ needs₀ was excess₀ modes₀ at₀ rest₀ read₀ done₀ ended₀ space numbers text sort live tm amounts needs excess modes at rest read done ended =
+μ-loop program printing space₀ numbers₀ text₀ sort₀ live₀ tm₀ amounts₀ needs₀ was excess₀ modes₀ at₀ rest₀ read₀ done₀ printed₀ ended₀ space numbers text sort live tm amounts needs excess modes at rest read done printed ended =
     1_000_000 - read
 
 -- THE PLACES, each named once.
@@ -54,13 +57,13 @@ abbrev turn : tie.After-refill Inv-loop μ-loop → tie.At-loop Inv-loop μ-loop
 turn f = f .before .before
 
 abbrev filled : tie.After-carry-on Inv-loop μ-loop → tie.After-refill Inv-loop μ-loop
-filled c = c .before .before .before .before .before .before .before .before .before .before .before .before .before .before
+filled c = c .before .before .before .before .before .before .before .before .before .before .before .before .before
 
-abbrev carried : tie.After-write-output Inv-loop μ-loop → tie.After-carry-on Inv-loop μ-loop
+abbrev carried : tie.After-print-lines Inv-loop μ-loop → tie.After-carry-on Inv-loop μ-loop
 carried w = w .before .before .before .before
 
-abbrev written : tie.After-stops Inv-loop μ-loop → tie.After-write-output Inv-loop μ-loop
-written s = s .before .before .before .before .before .before
+abbrev written : tie.After-stops Inv-loop μ-loop → tie.After-print-lines Inv-loop μ-loop
+written s = s .before .before .before .before .before .before .before .before
 
 abbrev judged : tie.After-to-front Inv-loop μ-loop → tie.After-stops Inv-loop μ-loop
 judged k = k .before .before .before
@@ -80,10 +83,10 @@ is-first t =
 
 -- what the turn came to
 abbrev ran : tie.After-carry-on Inv-loop μ-loop → Ran
-ran c = let x = c .carry-on .last in ranIn (c .carry-on .result .went) (marksFrom (x .0) (x .1 .0) (x .1 .1 .0)) (x .1 .1 .1 .0) (handed (turn (filled c)) .modes) (x .1 .1 .1 .1 .0) (x .1 .1 .1 .1 .1 .0)
+ran c = let x = c .carry-on .last in ranIn (c .carry-on .result) (marksFrom (x .0) (x .1 .0) (x .1 .1 .0)) (x .1 .1 .1 .0) (handed (turn (filled c)) .modes) (x .1 .1 .1 .1 .0) (x .1 .1 .1 .1 .1 .0)
 
 piece : (c : tie.After-carry-on Inv-loop μ-loop) → (let f = filled c in let v = turn f .loop in
-    Piece (first (turn f)) (v .space) (bookAt (v .at) (marksFrom (v .sort) (v .live) (v .tm)) (v .amounts) (handed (turn f) .modes) (v .modes) (v .needs)) (v .rest) (v .read) (v .done) (f .refill .last .1 .0) (v .rest + f .refill .result .count) (ran c))
+    Piece (called (sized (summed (started (turn f) .before))) .args .printing) (first (turn f)) (v .space) (bookAt (v .at) (marksFrom (v .sort) (v .live) (v .tm)) (v .amounts) (handed (turn f) .modes) (v .modes) (v .needs)) (v .rest) (v .read) (v .done) (v .printed) (f .refill .last .1 .0) (v .rest + f .refill .result .count) (ran c))
 piece c =
     let g = turn (filled c) .loop .inv in
     let f = filled c .refill in
@@ -96,6 +99,13 @@ piece c =
       bytes = f .ensures .1 .1;
       is = c .carry-on .ensures .0 ∙ ran-sound _ _ _ (sound← _ (g .1 .sound));
     }
+
+-- what was printed of it, where no call failed
+shown : (s : tie.After-stops Inv-loop μ-loop) → Told (piece (carried (written s))) (written s .print-lines .result .count)
+shown s =
+    let p = written s .print-lines in
+    let none = or-fails (filled (carried (written s)) .refill .result .failed) (p .result .failed) (s .before .before .before .before .if1 .left) .1 in
+    all-taken (p .result) _ (p .ensures .0 .0) (p .ensures .1 .0) none ∙ ap length (same-where _ (carried (written s) .carry-on .ensures .1 .1 .2))
 
 blank-requires : tie.Need-blank-requires Inv-loop μ-loop
 blank-requires c κs = search needs
@@ -136,7 +146,7 @@ loop-holds c =
     let s = called z in
     let t = s .args .t in
     rw (c .starting .ensures) (
-      nothing-read (turnedBack t) _ (sym (blanked z .blank .ensures)),
+      nothing-read (s .args .printing) (turnedBack t) _ (sound← _ (s .pre)) (sym (blanked z .blank .ensures)),
       sound-enters (t .count) (t .serial) (marksOf t) (t .amounts) (t .modes) (t .needs) (s .pre) (z .before .before .sizes .ensures) (z .before .size .ensures) (z .size2 .ensures) _ _ (u .deemed-under .ensures) (l .look-all .ensures),
       length-replicate {A = ℕ} 3200 0,
       length-replicate {A = ℕ} 20480 0,
@@ -163,30 +173,38 @@ sub-carry-on : tie.Need-sub-carry-on Inv-loop μ-loop
 sub-carry-on c = read-upto (turn (c .before .before .before .before .before .before .before .before .before .before .before) .loop .inv .0)
 
 carry-on-requires : tie.Need-carry-on-requires Inv-loop μ-loop
-carry-on-requires c κs = let i = turn (c .before .before .before .before .before .before .before .before .before .before .before .before .before) .loop .inv in (i .1, i .2, i .3)
+carry-on-requires c κs = let i = turn (c .before .before .before .before .before .before .before .before .before .before .before .before) .loop .inv in (i .1, i .2)
 
-array-share-prefix-text : tie.Need-array-share-prefix-text Inv-loop μ-loop
-array-share-prefix-text c = c .before .before .carry-on .ensures .1 .1 .0
+slice-aggregate-print-lines : tie.Need-slice-aggregate-print-lines Inv-loop μ-loop
+slice-aggregate-print-lines c = sym (turn (filled (c .before .before .before)) .loop .inv .3)
 
-slice-aggregate-write-output : tie.Need-slice-aggregate-write-output Inv-loop μ-loop
-slice-aggregate-write-output c = sym (length-take-le _ _ (c .before .before .before .carry-on .ensures .1 .1 .0))
-
-write-output-requires : tie.Need-write-output-requires Inv-loop μ-loop
-write-output-requires c κs = search needs
+print-lines-requires : tie.Need-print-lines-requires Inv-loop μ-loop
+print-lines-requires c κs =
+    let t = c .before .before .before in
+    let k = t .carry-on .ensures .1 .1 in
+    (k .1, k .0, turn (filled t) .loop .inv .3)
 
 no-day-requires : tie.Need-no-day-requires Inv-loop μ-loop
 no-day-requires c κs = search needs
 
 returns : tie.Need-returns Inv-loop μ-loop
-returns c = no-day-came _ _ (c .no-day .ensures)
+returns c =
+    let t = turn (filled (carried (c .before .before .before .before .before))) in
+    came-over (is-first t) (no-day-came _ _ _ (t .loop .inv .0 .sound) (c .no-day .ensures))
 
 add-read : tie.Need-add-read Inv-loop μ-loop
-add-read c = omega (arith, read-within (piece (carried (c .before .before .before .before))))
+add-read c = omega (arith, read-within (piece (carried (c .before .before .before .before .before))))
 
 add-done : tie.Need-add-done Inv-loop μ-loop
 add-done c =
-    let t = carried (c .before .before .before .before .before) in
+    let t = carried (c .before .before .before .before .before .before) in
     omega (arith, read-within (piece t), done-within (piece t))
+
+add-printed : tie.Need-add-printed Inv-loop μ-loop
+add-printed c =
+    let w = c .before .before .before .before .before .before .before in
+    let g = piece (carried w) .before in
+    omega (arith, g .few, read-upto g, w .print-lines .ensures .0)
 
 stops-requires : tie.Need-stops-requires Inv-loop μ-loop
 stops-requires c κs = search needs
@@ -209,7 +227,10 @@ loop-again : tie.Need-loop-again Inv-loop μ-loop
 loop-again c =
     let t = carried (written (judged (c .before))) in
     let k = c .before .to-front in
-    (turn-fed (piece t) _ _ (k .kept .0 ∙ piece t .size) (k .ensures .0) (k .ensures .1), t .carry-on .ensures .1 .0, t .carry-on .ensures .1 .1 .2, t .carry-on .ensures .1 .1 .3)
+    let s = judged (c .before) in
+    let w = written s in
+    let some = turn-reads-some (piece t) (s .stops .result) (s .stops .ensures) (c .before .before .before .if2 .left) in
+    (turn-fed (piece t) _ (shown s) (w .print-lines .ensures .0 .1) some _ _ (k .kept .0 ∙ piece t .size) (k .ensures .0) (k .ensures .1), t .carry-on .ensures .1 .0, t .carry-on .ensures .1 .1 .1, w .print-lines .ensures .1 .1 .0)
 
 modes-of-requires : tie.Need-modes-of-requires Inv-loop μ-loop
 modes-of-requires c κs = search needs
@@ -219,9 +240,9 @@ returns-2 c =
     let s = c .before .before in
     let t = carried (written s) in
     let x = t .carry-on .last in
-    let at = t .carry-on .result .went .at in
+    let at = t .carry-on .result .at in
     let n = marksFrom (x .0) (x .1 .0) (x .1 .1 .0) in
-    came-over (is-first (turn (filled t))) (last-turn-came (piece t) _ (s .stops .result) (s .stops .ensures) (c .before .if2 .taken) _
+    came-over (is-first (turn (filled t))) (last-turn-came (piece t) _ (shown s) _ (s .stops .result) (s .stops .ensures) (c .before .if2 .taken) _
     (ap (λ (l : List Bool). turned (bookFrom (at .count) (at .serial) n (x .1 .1 .1 .0) l (x .1 .1 .1 .1 .1 .0))) (sym (c .modes-of .ensures)) ∙ back-and-over _ (t .carry-on .ensures .1 .0 .size)))
 
 pub in-turns-spec : {M : Type 1} → statement M
@@ -245,13 +266,13 @@ in-turns-spec =
     slice-aggregate-carry-on
     sub-carry-on
     carry-on-requires
-    array-share-prefix-text
-    slice-aggregate-write-output
-    write-output-requires
+    slice-aggregate-print-lines
+    print-lines-requires
     no-day-requires
     returns
     add-read
     add-done
+    add-printed
     stops-requires
     slice-aggregate-to-front
     to-front-requires

@@ -15,7 +15,7 @@ sizes-requires c κs = search needs
 returns : tie.Need-returns
 returns c =
     let t = c .before .before .before .before .before .args .t in
-    ap (λ (x : Table). record { table = x; closing = Unsound; read = 0; done = 0; failed = false }) (sym (back-and-over t (c .sizes .ensures)))
+    ap (λ (x : Table). record { table = x; closing = Unsound; read = 0; done = 0; printed = 0; failed = false }) (sym (back-and-over t (c .sizes .ensures)))
 
 pub unsound-spec : {M : Type 1} → statement M
 unsound-spec = tie.close (tie.spec sizes-requires returns)

@@ -17,7 +17,7 @@ unsound-requires c κs = search needs
 returns : tie.Need-returns
 returns c =
     let b = turnedBack (c .before .before .before .before .args .t) in
-    unsound-came b _ (sym (c .before .before .is-sound .ensures) ∙ not-true _ (c .before .if1 .taken)) (c .unsound .ensures)
+    unsound-came _ b _ (sym (c .before .before .is-sound .ensures) ∙ not-true _ (c .before .if1 .taken)) (c .unsound .ensures)
 
 in-turns-requires : tie.Need-in-turns-requires
 in-turns-requires c κs = sound→ _ (sym (c .before .is-sound .ensures) ∙ not-false _ (c .if1 .left))

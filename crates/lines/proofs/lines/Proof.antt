@@ -51,7 +51,7 @@ returns c =
     let d = c .before .before .before .before .before .before .before .day-with-numbers in
     let l = c .before .before .before .before .before .before .before .before .before .limit in
     let e : l .result ≡ limitOf (a .most) (a .room .now) = l .ensures in
-    rw (← e) (lines-left (turnedBack (a .t)) (a .piece .now) (l .result) blank (fits (l .result) (omega arith)) (d .ensures .0) (d .ensures .1) (c .before .before .before .put-lines .ensures))
+    rw (← e) (lines-left (turnedBack (a .t)) (a .piece .now) (l .result) blank (fits (l .result) (omega arith)) (d .ensures .0) (d .ensures .1 .0) (c .before .before .before .put-lines .ensures))
 
 pub lines-spec : {M : Type 1} → statement M
 lines-spec =

@@ -28,23 +28,14 @@ returns-2 c = search needs
 array-share-prefix-room : tie.Need-array-share-prefix-room
 array-share-prefix-room c = search needs
 
-slice-aggregate-read : tie.Need-slice-aggregate-read
-slice-aggregate-read c = sym (length-take-le _ _ (search needs))
+slice-aggregate-hand-over : tie.Need-slice-aggregate-hand-over
+slice-aggregate-hand-over c = sym (length-take-le _ _ (search needs))
 
-read-requires : tie.Need-read-requires
-read-requires c κs = simp length-take (omega arith)
-
-no-position-requires : tie.Need-no-position-requires
-no-position-requires c κs = search needs
+hand-over-requires : tie.Need-hand-over-requires
+hand-over-requires c κs = simp length-take (omega arith)
 
 returns-3 : tie.Need-returns-3
 returns-3 c = search needs
-
-answer-requires : tie.Need-answer-requires
-answer-requires c κs = search needs
-
-returns-4 : tie.Need-returns-4
-returns-4 c = search needs
 
 pub run-spec : {M : Type 1} → statement M
 run-spec =
@@ -57,9 +48,6 @@ run-spec =
     too-long-requires
     returns-2
     array-share-prefix-room
-    slice-aggregate-read
-    read-requires
-    no-position-requires
-    returns-3
-    answer-requires
-    returns-4)
+    slice-aggregate-hand-over
+    hand-over-requires
+    returns-3)

@@ -51,7 +51,7 @@ less-zero n = omega arith
 
 -- what stood in the piece is what was found there
 met : (f : tie.After-found-at Inv-loop μ-loop) (x : Found) → f .found-at .result ≡ x → foundAt (called (turn f) .args .piece .now) (turn f .loop .place) ≡ x
-met f x e = sym (f .found-at .ensures) ∙ e
+met f x e = sym (f .found-at .ensures .0) ∙ e
 
 -- the room after the record's numbers are put, or not
 numbers-are : (c : tie.Joined3 Inv-loop μ-loop) → (let s = c .before in let r = whole (more s) .found .given .0 .0 in let v = its-turn s .loop in

@@ -6,6 +6,7 @@ use lib.ListN.{length}
 use lib.Seq.{length-take-le}
 use Rattle.lines.specs.Lines.{closingLineOf}
 use Rattle.text.proofs.Puts.{text-within-room}
+use Rattle.streams.proofs.Taken.{taken-of}
 use Rattle.report.proofs.closing.Statement.{statement}
 use Rattle.report.proofs.closing.Tie as tie
 
@@ -29,7 +30,7 @@ write-output-requires c κs = search needs
 returns : tie.Need-returns
 returns c =
     let t = c .before .before in
-    λ e. c .write-output .ensures .1 e ∙ length-take-le _ _ (fits t) ∙ t .closing-line .ensures .0
+    taken-of _ _ _ (length-take-le _ _ (fits t) ∙ t .closing-line .ensures .0) (c .write-output .ensures .0) (c .write-output .ensures .1)
 
 pub closing-spec : {M : Type 1} → statement M
 closing-spec =

@@ -6,6 +6,7 @@ use Rattle.book.specs.Sound.{soundB}
 use Rattle.book.proofs.SoundTest.{sound→}
 use Rattle.table.specs.Words.{turnedBack}
 use Rattle.run.specs.Over.{overRan}
+use Rattle.run.proofs.Turned.{closing-named}
 use Rattle.records.proofs.NumbersPut.{ran-unsound, ran-sound}
 use borrow.Author.Needs.{needs}
 use Rattle.run.proofs.day.Statement.{statement}
@@ -24,7 +25,8 @@ unsound-requires c κs = search needs
 returns : tie.Need-returns
 returns c =
     let a = c .before .before .before .before .args in
-    c .unsound .ensures ∙ ap overRan (ran-unsound (turnedBack (a .t)) (a .piece .now) (a .most) (sym (c .before .before .is-sound .ensures) ∙ not-true _ (c .before .if1 .taken)))
+    let e = c .unsound .ensures ∙ ap overRan (ran-unsound (turnedBack (a .t)) (a .piece .now) (a .most) (sym (c .before .before .is-sound .ensures) ∙ not-true _ (c .before .if1 .taken))) in
+    (e, closing-named _ _ _ _ e)
 
 slice-aggregate-run : tie.Need-slice-aggregate-run
 slice-aggregate-run c = search needs
@@ -35,7 +37,8 @@ run-requires c κs = (sound→ _ (tested (c .before)), λ t. absurd (false≢tru
 returns-2 : tie.Need-returns-2
 returns-2 c =
     let a = c .before .before .before .before .before .before .args in
-    c .before .run .ensures .0 ∙ ap overRan (ran-sound (turnedBack (a .t)) (a .piece .now) (a .most) (tested (c .before .before .before)))
+    let e = c .before .run .ensures .0 ∙ ap overRan (ran-sound (turnedBack (a .t)) (a .piece .now) (a .most) (tested (c .before .before .before))) in
+    (e, closing-named _ _ _ _ e)
 
 pub day-spec : {M : Type 1} → statement M
 day-spec =

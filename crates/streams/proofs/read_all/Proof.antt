@@ -1,9 +1,11 @@
--- `streams::read_all` is safe and ends: each turn leaves less room.
+-- `streams::read_all` meets its contract, and ends: each turn leaves less room, and only a turn that has room can fail.
+use mathlib.Core.Bool.{false≢true}
+use mathlib.Core.Path.{_≡_, ap}
 use Prim.Native.Nat.{_-_, _≤_}
-use mathlib.Core.Path.{_≡_}
-use lib.ListN.{length}
 use native.Mathlib.Omega.{arith}
+use lib.ListN.{length}
 use borrow.Author.Needs.{needs}
+use Rattle.streams.specs.declared.Moved.{Moved}
 use Rattle.streams.proofs.read_all.Statement.{statement}
 use Rattle.streams.proofs.read_all.Tie as tie
 
@@ -28,11 +30,14 @@ part-read-more-end c = omega arith
 read-more-requires : tie.Need-read-more-requires Inv-loop μ-loop
 read-more-requires c κs = omega arith
 
+stopped-at-requires : tie.Need-stopped-at-requires Inv-loop μ-loop
+stopped-at-requires c κs = search needs
+
 same-length : tie.Need-same-length Inv-loop μ-loop
 same-length c = omega arith
 
 returns : tie.Need-returns Inv-loop μ-loop
-returns c = search needs
+returns c = let e = ap (λ (m : Moved). m .count) (c .stopped-at .ensures) in (omega arith, λ _. omega arith)
 
 add-n : tie.Need-add-n Inv-loop μ-loop
 add-n c = omega arith
@@ -47,7 +52,7 @@ same-length-2 : tie.Need-same-length-2 Inv-loop μ-loop
 same-length-2 c = omega arith
 
 returns-2 : tie.Need-returns-2 Inv-loop μ-loop
-returns-2 c = search needs
+returns-2 c = (search needs, λ e. absurd (false≢true e))
 
 pub read-all-spec : {M : Type 1} → statement M
 read-all-spec =
@@ -60,6 +65,7 @@ read-all-spec =
     part-read-more-start
     part-read-more-end
     read-more-requires
+    stopped-at-requires
     same-length
     returns
     add-n

@@ -1,9 +1,8 @@
--- `streams::read_more` is safe and ends: each read that is tried again leaves fewer tries.
-use Prim.Native.Nat.{_≤_}
+-- `streams::read_more` meets its contract, and ends: each read that is tried again leaves fewer tries.
 use mathlib.Core.Path.{_≡_}
 use lib.ListN.{length}
-use native.Mathlib.Omega.{arith}
 use borrow.Author.Needs.{needs}
+use Rattle.streams.proofs.Taken.{none-where-failed}
 use Rattle.streams.proofs.read_more.Statement.{statement}
 use Rattle.streams.proofs.read_more.Tie as tie
 
@@ -18,6 +17,9 @@ read-requires c κs = search needs
 
 loop-holds : tie.Need-loop-holds Inv-loop μ-loop
 loop-holds c = search needs
+
+errno-requires : tie.Need-errno-requires Inv-loop μ-loop
+errno-requires c κs = search needs
 
 interrupted-requires : tie.Need-interrupted-requires Inv-loop μ-loop
 interrupted-requires c κs = search needs
@@ -34,14 +36,14 @@ loop-less c = search needs
 loop-again : tie.Need-loop-again Inv-loop μ-loop
 loop-again c = search needs
 
-count-requires : tie.Need-count-requires Inv-loop μ-loop
-count-requires c κs = search needs
+meant-requires : tie.Need-meant-requires Inv-loop μ-loop
+meant-requires c κs = search needs
 
 same-length : tie.Need-same-length Inv-loop μ-loop
 same-length c = search needs
 
 returns : tie.Need-returns Inv-loop μ-loop
-returns c = search needs
+returns c = none-where-failed _ _ _ (c .meant .ensures)
 
 pub read-more-spec : {M : Type 1} → statement M
 read-more-spec =
@@ -51,11 +53,12 @@ read-more-spec =
     μ-loop
     read-requires
     loop-holds
+    errno-requires
     interrupted-requires
     sub-left
     read-requires-2
     loop-less
     loop-again
-    count-requires
+    meant-requires
     same-length
     returns)

@@ -1,10 +1,10 @@
--- `streams::write_all` meets its contract: each turn leaves less of the text, and only the end of the text ends it without a failure.
-use mathlib.Core.Bool.{false≢true}
+-- `streams::write_all` meets its contract: each turn leaves less of the text, and it fails where some is left.
 use mathlib.Core.Path.{sym}
 use Prim.Native.Nat.{_-_, _≤_}
 use native.Mathlib.Omega.{arith}
 use lib.ListN.{length, length-take, length-drop}
 use borrow.Author.Needs.{needs}
+use borrow.Author.Tests.{lt-ltb, le-ltb}
 use Rattle.streams.proofs.write_all.Statement.{statement}
 use Rattle.streams.proofs.write_all.Tie as tie
 
@@ -30,7 +30,9 @@ write-more-requires : tie.Need-write-more-requires Inv-loop μ-loop
 write-more-requires c κs = search needs
 
 returns : tie.Need-returns Inv-loop μ-loop
-returns c = (omega arith, λ e. absurd (false≢true (sym e)))
+returns c =
+    let l = c .before .before .before .before in
+    (omega arith, sym (lt-ltb (l .loop .n) (length (l .before .before .args .text .now)) (omega arith)))
 
 add-n : tie.Need-add-n Inv-loop μ-loop
 add-n c = omega (arith, simp (length-take, length-drop) at (c .before .write-more .ensures))
@@ -42,7 +44,9 @@ loop-again : tie.Need-loop-again Inv-loop μ-loop
 loop-again c = omega (arith, simp (length-take, length-drop) at (c .before .write-more .ensures))
 
 returns-2 : tie.Need-returns-2 Inv-loop μ-loop
-returns-2 c = (omega arith, λ e. omega arith)
+returns-2 c =
+    let l = c .before in
+    (omega arith, sym (le-ltb (l .loop .n) (length (l .before .before .args .text .now)) (omega arith)))
 
 pub write-all-spec : {M : Type 1} → statement M
 write-all-spec =

@@ -16,6 +16,9 @@ write-requires c κs = search needs
 loop-holds : tie.Need-loop-holds Inv-loop μ-loop
 loop-holds c = search needs
 
+errno-requires : tie.Need-errno-requires Inv-loop μ-loop
+errno-requires c κs = search needs
+
 interrupted-requires : tie.Need-interrupted-requires Inv-loop μ-loop
 interrupted-requires c κs = search needs
 
@@ -45,6 +48,7 @@ write-more-spec =
     μ-loop
     write-requires
     loop-holds
+    errno-requires
     interrupted-requires
     sub-left
     write-requires-2

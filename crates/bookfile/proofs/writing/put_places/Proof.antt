@@ -4,7 +4,7 @@ use Prim.Native.Nat.{_-_, _≤_}
 use native.Mathlib.Omega.{arith}
 use lib.ListN.{length}
 use lib.Seq.{sets}
-use Rattle.bookfile.specs.Written.{size, joined, placeOf}
+use Rattle.bookfile.specs.Written.{size, joined, placeBytes}
 use Rattle.bookfile.specs.Reading.{placeAt}
 use Rattle.bookfile.proofs.Joining.{joined-put}
 use Rattle.bookfile.proofs.Parts.{length-place, put-place}
@@ -13,7 +13,7 @@ use Rattle.bookfile.proofs.writing.put_places.Tie as tie
 
 abbrev Inv-loop : tie.InvT-loop
 Inv-loop room₀ t i₀ room i =
-    (i ≤ 256) × (length room ≡ size) × (room ≡ sets room₀ 8 (joined (placeOf t) i))
+    (i ≤ 256) × (length room ≡ size) × (room ≡ sets room₀ 8 (joined (placeBytes t) i))
 
 abbrev μ-loop : tie.MeasureT-loop
 μ-loop room₀ t i₀ room i = 256 - i
@@ -80,7 +80,7 @@ loop-again c =
     let t = c0 .before .before .args .t1 in (
       omega arith,
       ck .put-kept .kept .0 ∙ ca .put-amounts .kept .0 ∙ cm .put-marks .kept .0 ∙ l .inv .1,
-      joined-put (placeOf t) 93 (length-place t) _ _ _ 8 (l .i) (l .inv .2)
+      joined-put (placeBytes t) 93 (length-place t) _ _ _ 8 (l .i) (l .inv .2)
           (put-place t (l .room) _ _ _ (placeAt (l .i)) (l .i) (cm .put-marks .ensures) (ca .put-amounts .ensures) (ck .put-kept .ensures)),
     )
 
@@ -92,7 +92,7 @@ returns c =
     let l = c .before .loop in
     let a = c .before .before .before .args in
     let e : l .i ≡ 256 = omega arith in
-    l .inv .2 ∙ ap (λ n. sets (a .room .now) 8 (joined (placeOf (a .t1)) n)) e
+    l .inv .2 ∙ ap (λ n. sets (a .room .now) 8 (joined (placeBytes (a .t1)) n)) e
 
 pub put-places-spec : {M : Type 1} → statement M
 put-places-spec =

@@ -1,4 +1,4 @@
--- A walk by hand. The reader is taken apart, and `read_at` is called on its piece and place (`ReaderCall`).
+-- A walk by hand. The reader is taken apart, and `answer_at` is called on its piece and place (`ReaderCall`).
 use mathlib.Core.Path.{refl}
 use mathlib.Core.List.{[], _∷_}
 use lib.Dec.{T as Holds}
@@ -40,8 +40,8 @@ use Rattle.dayfile.proofs.Read.Laws as Answer′
 use Rattle.dayfile.proofs.reader.Reader as T
 use Rattle.dayfile.proofs.reader.Reader.Laws as T′
 use Rattle.dayfile.proofs.ReaderCall.{Called, at-call, call-asks, call-gives}
-use Rattle.dayfile.proofs.reading.read_at.Symbol as callee
-use Rattle.dayfile.proofs.reading.read_at.Met.{met}
+use Rattle.dayfile.proofs.reading.answer_at.Symbol as callee
+use Rattle.dayfile.proofs.reading.answer_at.Met.{met}
 use Rattle.dayfile.proofs.reader.peek.Key.{name}
 use Rattle.dayfile.proofs.reader.peek as peek
 use Rattle.dayfile.proofs.reader.peek.Statement.{statement}
@@ -117,4 +117,4 @@ peek-spec 𝓤 H 𝓜 𝓖 𝓡 =
     entered 𝓤 H (tripleOf 𝓤 H (𝓖 .A) peek.signature (peek.spec 𝓤 H (𝓖 .A) (𝓜 .mem) (𝓡 .run)))
     (tables 𝓤 H 𝓜 𝓡 code.env .C) (tables 𝓤 H 𝓜 𝓡 code.env .Λ) name code.function (code.unfolded 𝓤 H 𝓜 𝓡)
     (meets 𝓤 H (𝓖 .A) (givenOf 𝓤 H 𝓜 𝓖) (𝓜 .mem) (𝓡 .run) (tablesOf 𝓤 H 𝓜 (tables 𝓤 H 𝓜 𝓡 code.env))
-    (cited 𝓤 H (Called Answer.the-row readAt 𝓤 H (𝓖 .A)) 𝓜 𝓡 code.env callee.name callee.routine code.calls-dayfile·reading·read-at (met 𝓤 H 𝓜 𝓖 𝓡)))
+    (cited 𝓤 H (Called Answer.the-row readAt 𝓤 H (𝓖 .A)) 𝓜 𝓡 code.env callee.name callee.routine code.calls-dayfile·reading·answer-at (met 𝓤 H 𝓜 𝓖 𝓡)))

@@ -8,6 +8,7 @@ use Rattle.dayfile.specs.declared.Record.{Record}
 use Rattle.dayfile.specs.declared.Found.the-variants.{Whole}
 use Rattle.dayfile.specs.Reading.{recordOf, foundAt}
 use Rattle.dayfile.proofs.Looking.{found-end, found-one, found-short, found-whole}
+use Rattle.dayfile.proofs.Numbers.{found-named}
 use borrow.Author.Needs.{needs}
 use Rattle.dayfile.proofs.reading.found_at.Statement.{statement}
 use Rattle.dayfile.proofs.reading.found_at.Tie as tie
@@ -22,13 +23,13 @@ whole e =
     found-whole (now (a .piece)) (a .place) h _ (e .before .size .ensures) (e .if3 .left)
 
 returns : tie.Need-returns
-returns c = found-end _ _ (c .if1 .taken)
+returns c = found-named _ _ _ (found-end _ _ (c .if1 .taken))
 
 sub-left : tie.Need-sub-left
 sub-left c = search needs
 
 returns-2 : tie.Need-returns-2
-returns-2 c = found-one _ _ (c .before .if1 .left) (c .if2 .taken)
+returns-2 c = found-named _ _ _ (found-one _ _ (c .before .if1 .left) (c .if2 .taken))
 
 shared-slice-read-code : tie.Need-shared-slice-read-code
 shared-slice-read-code c = search needs
@@ -46,7 +47,7 @@ returns-3 : tie.Need-returns-3
 returns-3 c =
     let a = c .before .before .before .before .before .before .before .args in
     let h : a .place + 2 ≤ length (now (a .piece)) = omega (arith, c .before .before .before .before .before .if1 .left, c .before .before .before .before .if2 .left) in
-    found-short (now (a .piece)) (a .place) h _ (c .before .size .ensures) (c .if3 .taken)
+    found-named _ _ _ (found-short (now (a .piece)) (a .place) h _ (c .before .size .ensures) (c .if3 .taken))
 
 add-record-near : tie.Need-add-record-near
 add-record-near c = search needs
@@ -58,7 +59,7 @@ add-t14 : tie.Need-add-t14
 add-t14 c = search needs
 
 returns-4 : tie.Need-returns-4
-returns-4 c = whole (c .before .before) _ (c .record-near .ensures)
+returns-4 c = found-named _ _ _ (whole (c .before .before) _ (c .record-near .ensures))
 
 add-record-at : tie.Need-add-record-at
 add-record-at c = search needs
@@ -70,7 +71,7 @@ add-t9 : tie.Need-add-t9
 add-t9 c = search needs
 
 returns-5 : tie.Need-returns-5
-returns-5 c = whole (c .before .before) _ (c .record-at .ensures)
+returns-5 c = found-named _ _ _ (whole (c .before .before) _ (c .record-at .ensures))
 
 pub found-at-spec : {M : Type 1} → statement M
 found-at-spec =

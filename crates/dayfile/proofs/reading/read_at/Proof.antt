@@ -1,47 +1,14 @@
 -- `dayfile::reading::read_at` meets its contract.
-use mathlib.Core.Path.{sym, _∙_}
-use Rattle.dayfile.proofs.Looking.{read-end, read-cut, read-good, read-bad}
+use Rattle.dayfile.proofs.Numbers.{read-named}
 use borrow.Author.Needs.{needs}
 use Rattle.dayfile.proofs.reading.read_at.Statement.{statement}
 use Rattle.dayfile.proofs.reading.read_at.Tie as tie
 
-found-at-requires : tie.Need-found-at-requires
-found-at-requires c κs = search needs
-
-enum-told : tie.Need-enum-told
-enum-told c = search needs
-
-enum-told-2 : tie.Need-enum-told-2
-enum-told-2 c = search needs
-
-enum-known-record : tie.Need-enum-known-record
-enum-known-record c = search needs
-
-fault-of-requires : tie.Need-fault-of-requires
-fault-of-requires c κs = search needs
+answer-at-requires : tie.Need-answer-at-requires
+answer-at-requires c κs = search needs
 
 returns : tie.Need-returns
-returns c = read-good _ _ _ _ (sym (c .before .before .before .before .before .found-at .ensures) ∙ c .before .before .before .«record» .given .1) _ (c .before .fault-of .ensures) (c .if1 .taken)
-
-returns-2 : tie.Need-returns-2
-returns-2 c = read-end _ _ (sym (c .before .before .found-at .ensures) ∙ c .enum-told .given .1)
-
-returns-3 : tie.Need-returns-3
-returns-3 c = read-cut _ _ (sym (c .before .before .found-at .ensures) ∙ c .enum-told2 .given .1)
-
-returns-4 : tie.Need-returns-4
-returns-4 c = read-bad _ _ _ _ (sym (c .before .before .before .before .before .found-at .ensures) ∙ c .before .before .before .«record» .given .1) _ (c .before .fault-of .ensures) (c .if1 .left)
+returns c = read-named _ _ _ (c .answer-at .ensures)
 
 pub read-at-spec : {M : Type 1} → statement M
-read-at-spec =
-    tie.close
-    (tie.spec
-    found-at-requires
-    enum-told
-    enum-told-2
-    enum-known-record
-    fault-of-requires
-    returns
-    returns-2
-    returns-3
-    returns-4)
+read-at-spec = tie.close (tie.spec answer-at-requires returns)

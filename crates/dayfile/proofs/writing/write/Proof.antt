@@ -5,6 +5,7 @@ use denote.Ref.{now}
 use Rattle.dayfile.specs.Records.{faultOf}
 use Rattle.dayfile.proofs.Lengths.{length-written}
 use Rattle.dayfile.proofs.Answers.{write-refused, write-short, write-done}
+use Rattle.dayfile.proofs.Numbers.{wrote-named}
 use borrow.Author.Needs.{needs}
 use Rattle.dayfile.proofs.writing.write.Statement.{statement}
 use Rattle.dayfile.proofs.writing.write.Tie as tie
@@ -15,7 +16,7 @@ fault-of-requires c κs = search needs
 returns : tie.Need-returns
 returns c =
     let a = c .before .before .before .args in
-    write-refused (a .«record») (now (a .room)) _ (c .before .fault-of .ensures) (c .if1 .taken)
+    wrote-named _ _ _ _ _ (write-refused (a .«record») (now (a .room)) _ (c .before .fault-of .ensures) (c .if1 .taken))
 
 size-requires : tie.Need-size-requires
 size-requires c κs = search needs
@@ -25,7 +26,7 @@ returns-2 c =
     let a = c .before .before .before .before .before .args in
     let g : faultOf (a .«record») ≡ 0 = sym (c .before .before .before .fault-of .ensures) ∙ c .before .before .if1 .left in
     let n = length-written (a .«record») g in
-    write-short (a .«record») (now (a .room)) g (omega (arith, n, c .before .size .ensures, c .if2 .taken))
+    wrote-named _ _ _ _ _ (write-short (a .«record») (now (a .room)) g (omega (arith, n, c .before .size .ensures, c .if2 .taken)))
 
 put-record-requires : tie.Need-put-record-requires
 put-record-requires c κs =
@@ -42,7 +43,7 @@ returns-3 c =
     let a = c .before .before .before .before .before .before .before .before .before .args in
     let g : faultOf (a .«record») ≡ 0 = sym (c .before .before .before .before .before .before .before .fault-of .ensures) ∙ c .before .before .before .before .before .before .if1 .left in
     let n = length-written (a .«record») g in
-    write-done (a .«record») (now (a .room)) g _ _ (omega (arith, n, c .before .before .before .before .before .size .ensures)) (omega (arith, n, c .before .before .before .before .before .size .ensures, c .before .before .before .before .if2 .left)) (c .before .before .put-record .ensures)
+    wrote-named _ _ _ _ _ (write-done (a .«record») (now (a .room)) g _ _ (omega (arith, n, c .before .before .before .before .before .size .ensures)) (omega (arith, n, c .before .before .before .before .before .size .ensures, c .before .before .before .before .if2 .left)) (c .before .before .put-record .ensures))
 
 pub write-spec : {M : Type 1} → statement M
 write-spec =

@@ -5,14 +5,14 @@ use native.Mathlib.Omega.{arith}
 use denote.Ref.{now}
 use lib.ListN.{length}
 use Rattle.sums.specs.Listed.{listTo}
-use Rattle.exposure.specs.Lists.{placeOf, clientsIn, cellOf}
+use Rattle.exposure.specs.Lists.{figuresFrom, clientsIn, numberInRoom}
 use Rattle.exposure.proofs.Listing.{clients-few, figures-wrong, room-wrong, all-right, room-filled}
 use borrow.Author.Needs.{needs}
 use Rattle.exposure.proofs.lists.exposures.Statement.{statement}
 use Rattle.exposure.proofs.lists.exposures.Tie as tie
 
-place-is : (c : tie.After-place) → c .place .result ≡ placeOf (c .before .before .before .args .form) (clientsIn (c .before .before .before .args .form) (length (now (c .before .before .before .args .figures))))
-place-is c = c .place .ensures ∙ ap (placeOf (c .before .before .before .args .form)) (c .before .clients .ensures)
+place-is : (c : tie.After-place) → c .place .result ≡ figuresFrom (c .before .before .before .args .form) (clientsIn (c .before .before .before .args .form) (length (now (c .before .before .before .args .figures))))
+place-is c = c .place .ensures ∙ ap (figuresFrom (c .before .before .before .args .form)) (c .before .clients .ensures)
 
 clients-requires : tie.Need-clients-requires
 clients-requires c κs = search needs
@@ -55,7 +55,7 @@ returns-3 c =
     let even = sym (place-is w) ∙ d .before .if1 .left in
     let fits = d .if2 .left ∙ ap (λ n. 2 * n) (k .clients .ensures) in (
       sym (all-right (a .form) (now (a .figures)) (now (a .room)) even fits),
-      p .put-all .ensures ∙ ap (λ n. listTo (cellOf (a .form) (now (a .figures))) (2 * n)) (k .clients .ensures)
+      p .put-all .ensures ∙ ap (λ n. listTo (numberInRoom (a .form) (now (a .figures))) (2 * n)) (k .clients .ensures)
           ∙ sym (room-filled (a .form) (now (a .figures)) (now (a .room)) even fits),
     )
 

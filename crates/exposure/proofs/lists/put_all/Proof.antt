@@ -6,14 +6,14 @@ use borrow.Author.Needs.{needs}
 use lib.ListN.{length, getD, length-set}
 use denote.Ref.{now}
 use Rattle.sums.proofs.Lists.{list-is}
-use Rattle.exposure.specs.Lists.{clientsIn, cellOf}
+use Rattle.exposure.specs.Lists.{clientsIn, numberInRoom}
 use Rattle.exposure.proofs.Listing.{client-within, two-more}
 use Rattle.exposure.proofs.lists.put_all.Statement.{statement}
 use Rattle.exposure.proofs.lists.put_all.Tie as tie
 
 abbrev Inv-loop : tie.InvT-loop
 Inv-loop form figures n room₀ i₀ room i =
-    (n ≡ clientsIn form (length figures)) × (length room ≡ 2 * n) × (i ≤ n) × ((k : ℕ) → k < 2 * i → getD room k 0 ≡ cellOf form figures k)
+    (n ≡ clientsIn form (length figures)) × (length room ≡ 2 * n) × (i ≤ n) × ((k : ℕ) → k < 2 * i → getD room k 0 ≡ numberInRoom form figures k)
 
 abbrev μ-loop : tie.MeasureT-loop
 μ-loop form figures n room₀ i₀ room i = n - i
@@ -77,7 +77,7 @@ returns : tie.Need-returns Inv-loop μ-loop
 returns c =
     let at = c .before in
     let a = at .before .before .args in
-    sym (list-is (cellOf (a .form) (now (a .figures))) (2 * a .n) 0 (at .loop .room) (at .loop .inv .1) (λ k l. at .loop .inv .3 k (omega arith)))
+    sym (list-is (numberInRoom (a .form) (now (a .figures))) (2 * a .n) 0 (at .loop .room) (at .loop .inv .1) (λ k l. at .loop .inv .3 k (omega arith)))
 
 pub put-all-spec : {M : Type 1} → statement M
 put-all-spec =

@@ -13,7 +13,7 @@ tell-none-requires c κs = search needs
 
 returns : tie.Need-returns
 unfolding fromHeld
-returns c = ap fromHeld (c .before .before .before .read .ensures)
+returns c = (ap fromHeld (c .before .before .before .read .ensures), λ i. c .before .before .before .before .shared-slice-known3 .given i .fits)
 
 pub held-spec : {M : Type 1} → statement M
 held-spec = tie.close (tie.spec read-requires tell-none-requires returns)

@@ -1,8 +1,6 @@
 -- `streams::files::fill` meets its contract.
-use mathlib.Core.Bool.{false≢true}
-use mathlib.Core.Path.{sym, _∙_}
-use native.Mathlib.Omega.{arith}
 use borrow.Author.Needs.{needs}
+use Rattle.streams.proofs.Taken.{all-taken, no-bytes, whole, still-whole}
 use Rattle.streams.proofs.files.fill.Statement.{statement}
 use Rattle.streams.proofs.files.fill.Tie as tie
 
@@ -12,23 +10,23 @@ write-all-requires c κs = search needs
 cannot-requires : tie.Need-cannot-requires
 cannot-requires c κs = search needs
 
+nothing-moved-requires : tie.Need-nothing-moved-requires
+nothing-moved-requires c κs = search needs
+
 returns : tie.Need-returns
-returns c = search needs
+returns c = no-bytes (c .nothing-moved .ensures) _
 
 fsync-requires : tie.Need-fsync-requires
 fsync-requires c κs = search needs
 
-cannot-requires-2 : tie.Need-cannot-requires-2
-cannot-requires-2 c κs = search needs
-
-nothing-moved-requires : tie.Need-nothing-moved-requires
-nothing-moved-requires c κs = search needs
+and-then-requires : tie.Need-and-then-requires
+and-then-requires c κs = search needs
 
 returns-2 : tie.Need-returns-2
-returns-2 c = (omega arith, λ e. absurd (false≢true (sym e ∙ c .nothing-moved .ensures .0)))
-
-returns-3 : tie.Need-returns-3
-returns-3 c = search needs
+returns-2 c =
+    let w = c .before .before .before in
+    still-whole (w .write-all .result) _ _ _ (c .and-then .ensures)
+    (whole (w .write-all .result) _ (c .before .before .if1 .left) (all-taken (w .write-all .result) _ (w .write-all .ensures .0) (w .write-all .ensures .1) (c .before .before .if1 .left)))
 
 pub fill-spec : {M : Type 1} → statement M
 fill-spec =
@@ -36,9 +34,8 @@ fill-spec =
     (tie.spec
     write-all-requires
     cannot-requires
+    nothing-moved-requires
     returns
     fsync-requires
-    cannot-requires-2
-    nothing-moved-requires
-    returns-2
-    returns-3)
+    and-then-requires
+    returns-2)

@@ -1,11 +1,17 @@
 -- `streams::files::read_file` meets its contract.
+use mathlib.Core.Path.{sym, _∙_}
 use native.Mathlib.Omega.{arith}
+use mir.Syntax.{w32}
+use mir.Val.{ofZ}
 use borrow.Author.Needs.{needs}
+use borrow.Author.Tests.{eq-eqb}
+use Rattle.streams.proofs.Signed.{has-number}
+use Rattle.streams.proofs.Taken.{nothing-came, it-failed}
 use Rattle.streams.proofs.files.read_file.Statement.{statement}
 use Rattle.streams.proofs.files.read_file.Tie as tie
 
-open-read-requires : tie.Need-open-read-requires
-open-read-requires c κs = search needs
+slice-aggregate-cannot : tie.Need-slice-aggregate-cannot
+slice-aggregate-cannot c = search needs
 
 cannot-requires : tie.Need-cannot-requires
 cannot-requires c κs = search needs
@@ -14,33 +20,33 @@ nothing-moved-requires : tie.Need-nothing-moved-requires
 nothing-moved-requires c κs = search needs
 
 returns : tie.Need-returns
-returns c = omega arith
+returns c = (nothing-came (c .nothing-moved .ensures) _ .0, (nothing-came (c .nothing-moved .ensures) 0 .1, it-failed (c .nothing-moved .ensures)))
 
-read-all-requires : tie.Need-read-all-requires
-read-all-requires c κs = search needs
+open-read-requires : tie.Need-open-read-requires
+open-read-requires c κs = search needs
 
-cannot-requires-2 : tie.Need-cannot-requires-2
-cannot-requires-2 c κs = search needs
-
-close-requires : tie.Need-close-requires
-close-requires c κs = search needs
+read-opened-requires : tie.Need-read-opened-requires
+read-opened-requires c κs = search needs
 
 same-length : tie.Need-same-length
 same-length c = search needs
 
 returns-2 : tie.Need-returns-2
-returns-2 c = search needs
+returns-2 c =
+    let r = c .before .before in
+    let i = r .before .before .before in
+    let s = i .before .before .before .before .before in
+    (r .read-opened .ensures .0, (r .read-opened .ensures .1 .0, (λ _. sym (has-number 0 (s .args .error) (omega arith) (s .fits .error)) ∙ eq-eqb (ofZ w32 (s .args .error)) 0 (i .if1 .left))))
 
 pub read-file-spec : {M : Type 1} → statement M
 read-file-spec =
     tie.close
     (tie.spec
-    open-read-requires
+    slice-aggregate-cannot
     cannot-requires
     nothing-moved-requires
     returns
-    read-all-requires
-    cannot-requires-2
-    close-requires
+    open-read-requires
+    read-opened-requires
     same-length
     returns-2)

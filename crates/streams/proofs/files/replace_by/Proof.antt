@@ -1,13 +1,23 @@
 -- `streams::files::replace_by` meets its contract.
-use mathlib.Core.Bool.{false≢true}
-use mathlib.Core.Path.{sym, _∙_}
-use native.Mathlib.Omega.{arith}
+use mathlib.Core.Bool.{false}
+use mathlib.Core.Path.{_≡_, sym, _∙_}
+use mir.Syntax.{w32}
+use lib.ListN.{length}
 use borrow.Author.Needs.{needs}
+use Rattle.sums.specs.Choice.{pick}
+use Rattle.streams.specs.Calls.{failedBy}
+use Rattle.streams.proofs.Signed.{below-zero}
+use Rattle.streams.proofs.Taken.{no-bytes, it-failed, still-whole}
 use Rattle.streams.proofs.files.replace_by.Statement.{statement}
 use Rattle.streams.proofs.files.replace_by.Tie as tie
 
-create-beside-requires : tie.Need-create-beside-requires
-create-beside-requires c κs = search needs
+-- the file was made
+made : (c : tie.Else1) {A : Type 0} → A → failedBy (c .before .before .before .before .before .before .args .fd) ≡ false
+made c _ = let s = c .before .before .before .before .before .before in sym (below-zero w32 (s .args .fd) (s .fits .fd)) ∙ c .if1 .left
+
+renamed : (c : tie.After-and-then) → (let f = c .before .before .before .before in
+    c .and-then .result .count ≡ pick (c .and-then .result .failed) 0 (length (f .before .before .before .before .before .before .before .args .text .now)))
+renamed c = let f = c .before .before .before .before in still-whole (f .fill .result) _ _ _ (c .and-then .ensures) (f .fill .ensures)
 
 cannot-requires : tie.Need-cannot-requires
 cannot-requires c κs = search needs
@@ -15,11 +25,8 @@ cannot-requires c κs = search needs
 nothing-moved-requires : tie.Need-nothing-moved-requires
 nothing-moved-requires c κs = search needs
 
-same-length : tie.Need-same-length
-same-length c = search needs
-
 returns : tie.Need-returns
-returns c = (omega arith, λ e. absurd (false≢true (sym e ∙ c .nothing-moved .ensures .0)))
+returns c = (no-bytes (c .nothing-moved .ensures) _, it-failed (c .nothing-moved .ensures))
 
 fill-requires : tie.Need-fill-requires
 fill-requires c κs = search needs
@@ -30,55 +37,37 @@ close-requires c κs = search needs
 unlink-requires : tie.Need-unlink-requires
 unlink-requires c κs = search needs
 
-same-length-2 : tie.Need-same-length-2
-same-length-2 c = search needs
-
 returns-2 : tie.Need-returns-2
-returns-2 c = search needs
+returns-2 c = let f = c .before .before .before in (f .fill .ensures, made (f .before))
 
 rename-requires : tie.Need-rename-requires
 rename-requires c κs = search needs
 
-cannot-requires-2 : tie.Need-cannot-requires-2
-cannot-requires-2 c κs = search needs
+and-then-requires : tie.Need-and-then-requires
+and-then-requires c κs = search needs
 
 unlink-requires-2 : tie.Need-unlink-requires-2
 unlink-requires-2 c κs = search needs
 
-nothing-moved-requires-2 : tie.Need-nothing-moved-requires-2
-nothing-moved-requires-2 c κs = search needs
-
-same-length-3 : tie.Need-same-length-3
-same-length-3 c = search needs
-
 returns-3 : tie.Need-returns-3
-returns-3 c = (omega arith, λ e. absurd (false≢true (sym e ∙ c .nothing-moved2 .ensures .0)))
-
-same-length-4 : tie.Need-same-length-4
-same-length-4 c = search needs
+returns-3 c = let a = c .before .before in (renamed a, made (a .before .before .before .before .before))
 
 returns-4 : tie.Need-returns-4
-returns-4 c = search needs
+returns-4 c = let a = c .before in (renamed a, made (a .before .before .before .before .before))
 
 pub replace-by-spec : {M : Type 1} → statement M
 replace-by-spec =
     tie.close
     (tie.spec
-    create-beside-requires
     cannot-requires
     nothing-moved-requires
-    same-length
     returns
     fill-requires
     close-requires
     unlink-requires
-    same-length-2
     returns-2
     rename-requires
-    cannot-requires-2
+    and-then-requires
     unlink-requires-2
-    nothing-moved-requires-2
-    same-length-3
     returns-3
-    same-length-4
     returns-4)

@@ -1,0 +1,73 @@
+-- `dayfile::records::good_amounts` meets its contract.
+use mathlib.Core.Path.{sym, _∙_}
+use lib.Dec.{leb}
+use borrow.Author.Needs.{needs}
+use borrow.Author.Tests.{eqb-true, leb-true}
+use Rattle.sums.proofs.Choices.{and-split}
+use Rattle.dayfile.specs.Records.{bit, leastPledged}
+use Rattle.dayfile.specs.Taking.{markOf}
+use Rattle.dayfile.proofs.Judging.{kinds-suit, one-suits, no-other, no-kinds, unnamed-amount}
+use Rattle.dayfile.proofs.faults.good_amounts.Statement.{statement}
+use Rattle.dayfile.proofs.faults.good_amounts.Tie as tie
+
+names-kinds-requires : tie.Need-names-kinds-requires
+names-kinds-requires c κs = search needs
+
+good-amount-requires : tie.Need-good-amount-requires
+good-amount-requires c κs = search needs
+
+good-amount-requires-2 : tie.Need-good-amount-requires-2
+good-amount-requires-2 c κs = search needs
+
+good-amount-requires-3 : tie.Need-good-amount-requires-3
+good-amount-requires-3 c κs = search needs
+
+good-amount-requires-4 : tie.Need-good-amount-requires-4
+good-amount-requires-4 c κs = search needs
+
+returns : tie.Need-returns
+returns c =
+    let n = c .before .before .before .before .before .before in
+    let start = n .before .before .before in
+    let r = start .args .record in
+    let e = kinds-suit (r .code) (r .named) (sym (n .before .names-kinds .ensures) ∙ n .if1 .taken) in
+    let o = no-other (r .named) (leb-true (r .named) 15 (and-split (leb 1 (r .named)) (leb (r .named) 15) (e ∙ start .pre .1) .1)) in
+    cc (unnamed-amount (bit 4 (r .named)) (leastPledged (r .code)) (r .pledged) (o .0), unnamed-amount (bit 5 (r .named)) 0 (r .margin) (o .1))
+
+no-kinds-requires : tie.Need-no-kinds-requires
+no-kinds-requires c κs = search needs
+
+good-pledged-requires : tie.Need-good-pledged-requires
+good-pledged-requires c κs = search needs
+
+good-set-requires : tie.Need-good-set-requires
+good-set-requires c κs = search needs
+
+returns-2 : tie.Need-returns-2
+returns-2 c =
+    let n = c .before .before .before in
+    let start = n .before .before .before in
+    let r = start .args .record in
+    let e = one-suits (r .code) (r .named) (start .pre .0) (sym (n .before .names-kinds .ensures) ∙ n .if1 .left) in
+    let o = no-kinds (r .code) (r .named) (eqb-true (r .named) (markOf (r .code)) (e ∙ start .pre .1)) in
+    cc (
+      unnamed-amount (bit 0 (r .named)) 1 (r .kinds .cash) (o .cash),
+      unnamed-amount (bit 1 (r .named)) 1 (r .kinds .deposits) (o .deposits),
+      unnamed-amount (bit 2 (r .named)) 1 (r .kinds .guarantees) (o .guarantees),
+      unnamed-amount (bit 3 (r .named)) 1 (r .kinds .securities) (o .securities),
+    )
+
+pub good-amounts-spec : {M : Type 1} → statement M
+good-amounts-spec =
+    tie.close
+    (tie.spec
+    names-kinds-requires
+    good-amount-requires
+    good-amount-requires-2
+    good-amount-requires-3
+    good-amount-requires-4
+    returns
+    no-kinds-requires
+    good-pledged-requires
+    good-set-requires
+    returns-2)

@@ -1,0 +1,4 @@
+mod Signed
+mod NamesPut
+mod SameBytes
+pub mod Taken
