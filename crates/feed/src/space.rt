@@ -1,4 +1,5 @@
 // The bytes held of the input: what is left of the piece before, then what was read behind it.
+ghost use mathlib.Core.Bool.{true, false};
 ghost use mathlib.Core.Path.{_≡_};
 ghost use Prim.Native.Nat.{_+_, _-_, _≤_};
 ghost use lib.ListN.{length, take, drop};
@@ -20,7 +21,7 @@ pub(crate) fn refill(program: &[u8], space: &mut [u8], rest: usize, ended: bool)
     requires { ⌜ rest ≤ length (now space) ⌝ }
     ensures { λ m. ⌜ rest + m .count ≤ length (now (space .exit)) ⌝ }
     ensures { λ _. ⌜ take rest (now (space .exit)) ≡ take rest (now (space .entry)) ⌝ }
-    ensures { λ _. ⌜ Bytes (now (space .exit)) ⌝ }
+    ensures { λ m. ⌜ Bytes (now (space .exit)) × (ended ≡ true → m .failed ≡ false) ⌝ }
 {
     if ended {
         return Moved {

@@ -96,7 +96,7 @@ piece c =
       least = omega arith;
       most = omega (arith, f .ensures .0, f .kept .1 .0, g .0 .size);
       old = f .ensures .1 .0;
-      bytes = f .ensures .1 .1;
+      bytes = f .ensures .1 .1 .0;
       is = c .carry-on .ensures .0 ∙ ran-sound _ _ _ (sound← _ (g .1 .sound));
     }
 

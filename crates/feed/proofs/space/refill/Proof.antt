@@ -1,7 +1,8 @@
--- `feed::space::refill`: only the bytes behind the rest can change.
+-- `feed::space::refill`: only the bytes behind the rest can change, and where nothing is read nothing fails.
 use borrow.Author.Needs.{needs}
 use borrow.Rule.Slice.PartMut.{take-put}
-use mathlib.Core.Path.{refl}
+use mathlib.Core.Bool.{false≢true}
+use mathlib.Core.Path.{refl, sym, _∙_}
 use native.Mathlib.Omega.{arith}
 use Prim.Native.Nat.{_-_}
 use lib.ListN.{length}
@@ -9,7 +10,7 @@ use Rattle.feed.proofs.space.refill.Statement.{statement}
 use Rattle.feed.proofs.space.refill.Tie as tie
 
 returns : tie.Need-returns
-returns c = (omega arith, (refl, λ i. c .before .slice-known .given i .fits))
+returns c = (omega arith, (refl, (λ i. c .before .slice-known .given i .fits, λ e. refl)))
 
 sub-read-input : tie.Need-sub-read-input
 sub-read-input c = search needs
@@ -30,7 +31,7 @@ returns-2 : tie.Need-returns-2
 returns-2 c =
     let k = c .before .before .read-input in
     let a = c .before .before .before .before .before .before .before .args in
-    (omega (arith, same-length c, k .ensures, k .kept), (take-put (a .rest) (length (a .space .now) - a .rest) (a .space .now) (k .last .1 .0) (omega arith), λ i. c .slice-known2 .given i .fits))
+    (omega (arith, same-length c, k .ensures, k .kept), (take-put (a .rest) (length (a .space .now) - a .rest) (a .space .now) (k .last .1 .0) (omega arith), (λ i. c .slice-known2 .given i .fits, λ e. absurd (false≢true (sym (c .before .before .before .before .if1 .left) ∙ e)))))
 
 pub refill-spec : {M : Type 1} → statement M
 refill-spec =
