@@ -1,11 +1,11 @@
 -- Document 01, 'Amounts and sizes': a book's rows, its view, and a fresh book. With document 02, K2: its modes; K3: its kept needs; K7: what
--- government securities count for.
+-- government securities count for; K11: its rows' numbers.
 use mathlib.Core.Bool.{Bool, true, false, _&&_}
 use mathlib.Core.List.{List, _∷_}
 use Prim.Native.Nat.{ℕ, _+_, _-_, _/_}
-use lib.Dec.{ltb}
+use lib.Dec.{eqb, ltb}
 use lib.ListN.{length, getD, set, replicate}
-use Rattle.sums.specs.Sum.{any}
+use Rattle.sums.specs.Sum.{any, least}
 use Rattle.rows.specs.declared.Kinds.{Kinds}
 use Rattle.rows.specs.declared.Row.{Row}
 use Rattle.rows.specs.declared.Account.{Account}
@@ -64,9 +64,18 @@ needAt b i = getD (b .needs) i 0
 abbrev pub places : Book → ℕ
 places b = length (b .rows)
 
--- "A retired account keeps its row and number": the place of the row that an account's number names is the number itself
+-- Document 02, K11: "Numbers are kept with their rows": the number of the row at place i
+abbrev pub numberAt : Book → ℕ → ℕ
+numberAt b i = getD (b .numbers) i 0
+
+-- the first of so many places that has the number, or how many there are where none has it
+unfoldable pub placeAmong : List ℕ → ℕ → ℕ → ℕ
+placeAmong numbers count number = least count (λ i. eqb (getD numbers i 0) number)
+
+-- the place of the row held that a number names, or the number of rows held, where no row is, for one that no row held has: "A retired account
+-- keeps its row and number" until it is archived
 abbrev pub placeOf : Book → ℕ → ℕ
-placeOf b number = number
+placeOf b number = placeAmong (b .numbers) (b .count) number
 
 -- Document 02, K7: what government securities of this face value count for. "Until now we counted them in full."; now "less a tenth, the tenth
 -- rounded up to a paisa. One paisa therefore counts as nothing."
@@ -104,9 +113,10 @@ abbrev pub view : Book → View
 view b = viewBy New b
 
 -- "number 0 is the CM and is there from the start, live. In a fresh book it is the only account and all amounts are 0.";
--- "the next serial, 0 at first"; a mode is "off at first"; where all amounts are 0 so are the needs
+-- "the next serial, 0 at first"; a mode is "off at first"; where all amounts are 0 so are the needs;
+-- the next number is 1
 unfoldable pub freshBook : Book
-freshBook = record { count = 1; serial = 0; rows = openedRow 0 0 ∷ replicate 255 noRow; modes = replicate 256 false; needs = replicate 256 0 }
+freshBook = record { count = 1; serial = 0; rows = openedRow 0 0 ∷ replicate 255 noRow; modes = replicate 256 false; needs = replicate 256 0; next = 1; numbers = replicate 256 0 }
 
 -- A row with one of its words put anew.
 abbrev pub withLive : Row → Bool → Row
@@ -126,27 +136,27 @@ withMargin r x = record { sort = r .sort; live = r .live; tm = r .tm; received =
 
 -- the book with row i put anew
 abbrev pub withRow : Book → ℕ → Row → Book
-withRow b i r = record { count = b .count; serial = b .serial; rows = set (b .rows) i r; modes = b .modes; needs = b .needs }
+withRow b i r = record { count = b .count; serial = b .serial; rows = set (b .rows) i r; modes = b .modes; needs = b .needs; next = b .next; numbers = b .numbers }
 
 -- the book with another next serial
 abbrev pub withSerial : Book → ℕ → Book
-withSerial b n = record { count = b .count; serial = n; rows = b .rows; modes = b .modes; needs = b .needs }
+withSerial b n = record { count = b .count; serial = n; rows = b .rows; modes = b .modes; needs = b .needs; next = b .next; numbers = b .numbers }
 
 -- the book with other modes
 abbrev pub withModes : Book → List Bool → Book
-withModes b modes = record { count = b .count; serial = b .serial; rows = b .rows; modes = modes; needs = b .needs }
+withModes b modes = record { count = b .count; serial = b .serial; rows = b .rows; modes = modes; needs = b .needs; next = b .next; numbers = b .numbers }
 
 -- the book with other kept needs
 abbrev pub withNeeds : Book → List ℕ → Book
-withNeeds b needs = record { count = b .count; serial = b .serial; rows = b .rows; modes = b .modes; needs = needs }
+withNeeds b needs = record { count = b .count; serial = b .serial; rows = b .rows; modes = b .modes; needs = needs; next = b .next; numbers = b .numbers }
 
--- the book with one account more
+-- "The next opening takes the next number.": the book with one account more
 abbrev pub withNew : Book → Row → Book
-withNew b r = record { count = b .count + 1; serial = b .serial; rows = set (b .rows) (b .count) r; modes = b .modes; needs = b .needs }
+withNew b r = record { count = b .count + 1; serial = b .serial; rows = set (b .rows) (b .count) r; modes = b .modes; needs = b .needs; next = b .next + 1; numbers = set (b .numbers) (b .count) (b .next) }
 
--- the account's number was given, and it is live
+-- a row is held at the place, and it is live
 abbrev pub isLive : Book → ℕ → Bool
-isLive b number = ltb (placeOf b number) (b .count) && rowAt b (placeOf b number) .live
+isLive b place = ltb place (b .count) && rowAt b place .live
 
 -- account i is a live client of account t
 abbrev pub isLiveClientOf : Book → ℕ → ℕ → Bool

@@ -47,6 +47,8 @@ pub struct Book {
     pub rows: [Row; 256],
     pub modes: [bool; 256],
     pub needs: [u64; 256],
+    pub next: u32,
+    pub numbers: [u16; 256],
 }
 
 // The largest amount, in paise.

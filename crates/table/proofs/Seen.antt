@@ -16,12 +16,12 @@ use Rattle.table.specs.Words.{Marks, marksFrom, bookFrom}
 use Rattle.table.specs.Facts.{seenBook}
 use Rattle.table.proofs.Gathered.{rows-length, row-in}
 
-module _ (count serial : ℕ) (m : Marks) (w : List ℕ) (modes : List Bool) (needs : List ℕ) where
+module _ (count serial : ℕ) (m : Marks) (w : List ℕ) (modes : List Bool) (needs : List ℕ) (next : ℕ) (numbers : List ℕ) where
   abbrev seen : Book
   seen = seenBook count (m .sort) (m .tm) w
 
   abbrev whole : Book
-  whole = bookFrom count serial m w modes needs
+  whole = bookFrom count serial m w modes needs next numbers
 
   abbrev marks : Marks
   marks = marksFrom (m .sort) [] (m .tm)

@@ -18,7 +18,7 @@ use Rattle.table.proofs.Gathered.{row-in, row-eq, word-in}
 pub over-and-back : (b : Book) → length (b .rows) ≡ 256 → turnedBack (turned b) ≡ b
 unfolding rowsOf turned
 over-and-back b e =
-    ap (λ l. record { count = b .count; serial = b .serial; rows = l; modes = b .modes; needs = b .needs })
+    ap (λ l. record { count = b .count; serial = b .serial; rows = l; modes = b .modes; needs = b .needs; next = b .next; numbers = b .numbers })
     (list-is (rowIn (marksOf (turned b)) (turned b .amounts)) 256 noRow (b .rows) e (λ i l. sym (row i l)))
   where
     word : (k i : ℕ) → k < 10 → i < 256 → wordAt (turned b .amounts) k i ≡ amountOf (rowAt b i) k
@@ -43,6 +43,8 @@ back-and-over t h =
       tm = column (λ r. r .tm) (t .tm) 0 (h .tms) (λ i. refl) j;
       modes = t .modes;
       needs = t .needs;
+      next = t .next;
+      numbers = t .numbers;
       amounts = list-is _ 2560 0 (t .amounts) (h .words) (λ n l. sym (word n l)) j;
     }
   where

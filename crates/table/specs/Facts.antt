@@ -19,4 +19,4 @@ pub record Capped (w : List ℕ) (k n : ℕ) : Type 0 where
 
 -- the book as needs see it, by its sorts, TMs and words: they look neither at the serial, at who is live or in the mode, nor at what is kept
 abbrev pub seenBook : ℕ → List ℕ → List ℕ → List ℕ → Book
-seenBook count sort tm w = bookFrom count 0 (marksFrom sort [] tm) w [] []
+seenBook count sort tm w = bookFrom count 0 (marksFrom sort [] tm) w [] [] 0 []

@@ -58,13 +58,15 @@ turned b = record {
   tm = listTo (λ i. rowAt b i .tm) 256;
   modes = b .modes;
   needs = b .needs;
+  next = b .next;
+  numbers = b .numbers;
   amounts = listTo (λ n. amountOf (rowAt b (n % 256)) (n / 256)) 2560;
 }
 
 -- "the old order": the book that the words, the modes and the kept needs are
-abbrev pub bookFrom : ℕ → ℕ → Marks → List ℕ → List Bool → List ℕ → Book
-bookFrom count serial m w modes needs = record { count = count; serial = serial; rows = rowsOf m w; modes = modes; needs = needs }
+abbrev pub bookFrom : ℕ → ℕ → Marks → List ℕ → List Bool → List ℕ → ℕ → List ℕ → Book
+bookFrom count serial m w modes needs next numbers = record { count = count; serial = serial; rows = rowsOf m w; modes = modes; needs = needs; next = next; numbers = numbers }
 
 -- "and back": the table as a book of the old order.
 abbrev pub turnedBack : Table → Book
-turnedBack t = bookFrom (t .count) (t .serial) (marksOf t) (t .amounts) (t .modes) (t .needs)
+turnedBack t = bookFrom (t .count) (t .serial) (marksOf t) (t .amounts) (t .modes) (t .needs) (t .next) (t .numbers)

@@ -24,6 +24,8 @@ pub struct Table {
     pub modes: [bool; 256],
     pub needs: [u64; 256],
     pub amounts: [u64; 2560],
+    pub next: u32,
+    pub numbers: [u16; 256],
 }
 
 // For a proof to cite: each array has its length, by its type.
@@ -56,6 +58,7 @@ pub fn turn(b: Book) -> Table
     }
     let modes = b.modes;
     let needs = b.needs;
+    let numbers = b.numbers;
     Table {
         count: b.count,
         serial: b.serial,
@@ -65,6 +68,8 @@ pub fn turn(b: Book) -> Table
         modes,
         needs,
         amounts,
+        next: b.next,
+        numbers,
     }
 }
 
@@ -74,11 +79,14 @@ pub fn turn_back(t: Table) -> Book
     let table = rows_of(&t.sort, &t.live, &t.tm, &t.amounts);
     let modes = t.modes;
     let needs = t.needs;
+    let numbers = t.numbers;
     Book {
         count: t.count,
         serial: t.serial,
         rows: table,
         modes,
         needs,
+        next: t.next,
+        numbers,
     }
 }

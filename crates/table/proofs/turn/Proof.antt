@@ -59,12 +59,12 @@ loop-again c =
 
 returns : tie.Need-returns Inv-loop μ-loop
 returns c =
-    let b = c .before .before .before .before .before .before .args .t1 in
-    let l = c .before .before .before .loop in
+    let b = c .before .before .before .before .before .before .before .args .t1 in
+    let l = c .before .before .before .before .loop in
     let m = marksFrom (l .sort) (l .live) (l .tm) in
-    let all = ext-getD noRow (rowsOf m (l .amounts)) (b .rows) (rows-length m (l .amounts) ∙ sym (c .before .before .before .before .width .ensures)) (λ a q. l .inv .2 a (omega (arith, rows-length m (l .amounts)))) in
-    turned-from (record { count = b .count; serial = b .serial; sort = l .sort; live = l .live; tm = l .tm; modes = b .modes; needs = b .needs; amounts = l .amounts }) b (l .inv .1)
-    (ap (λ x. record { count = b .count; serial = b .serial; rows = x; modes = b .modes; needs = b .needs }) all)
+    let all = ext-getD noRow (rowsOf m (l .amounts)) (b .rows) (rows-length m (l .amounts) ∙ sym (c .before .before .before .before .before .width .ensures)) (λ a q. l .inv .2 a (omega (arith, rows-length m (l .amounts)))) in
+    turned-from (record { count = b .count; serial = b .serial; sort = l .sort; live = l .live; tm = l .tm; modes = b .modes; needs = b .needs; next = b .next; numbers = b .numbers; amounts = l .amounts }) b (l .inv .1)
+    (ap (λ x. record { count = b .count; serial = b .serial; rows = x; modes = b .modes; needs = b .needs; next = b .next; numbers = b .numbers }) all)
 
 pub turn-spec : {M : Type 1} → statement M
 turn-spec =

@@ -7,7 +7,7 @@ rows-of-requires : tie.Need-rows-of-requires
 rows-of-requires c κs = search needs
 
 returns : tie.Need-returns
-returns c = rw (c .before .before .rows-of .ensures)
+returns c = rw (c .before .before .before .rows-of .ensures)
 
 pub turn-back-spec : {M : Type 1} → statement M
 turn-back-spec = tie.close (tie.spec rows-of-requires returns)
