@@ -47,6 +47,10 @@ and-right a b e = and-split a b e .1
 pub and-join : {a b : Bool} → a ≡ true → b ≡ true → (a && b) ≡ true
 and-join {a} {b} p q = rw p q
 
+-- b fails where a holds
+pub and-fails : {a b : Bool} → a ≡ true → (a && b) ≡ false → b ≡ false
+and-fails e h = rw e at h
+
 pub or-split : (a b : Bool) → (a || b) ≡ true → (a ≡ true) ⊎ (b ≡ true)
 or-split true b e = inl refl
 or-split false b e = inr e

@@ -1,4 +1,5 @@
 pub mod Sums
+pub mod Least
 pub mod Choices
 pub mod Tables
 pub mod Lists

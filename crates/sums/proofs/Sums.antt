@@ -8,7 +8,7 @@ use native.Mathlib.Decide.{ℕ-discrete, decLt}
 use lib.Dec.{eqb}
 use borrow.Author.Tests.{ne-eqb}
 use Rattle.sums.specs.Sum.{sum, only, all, any}
-use Rattle.sums.proofs.Choices.{and-split, and-join, or-fails}
+use Rattle.sums.proofs.Choices.{test-clash, and-split, and-join, or-fails}
 
 -- one number more
 pub sum-step : (n : ℕ) (f : ℕ → ℕ) → sum (n + 1) f ≡ sum n f + f n
@@ -152,6 +152,14 @@ any-fails (suc n) p e i l = by (ℕ-discrete i n) (λ m. any-fails n p (or-fails
     by : Dec (i ≡ n) → (i < n → p i ≡ false) → p i ≡ false
     by (yes q) r = rw q (or-fails (any n p) (p n) e .1)
     by (no q) r = r (omega arith)
+
+-- it holds of one
+pub any-one : (n : ℕ) (p : ℕ → Bool) (i : ℕ) → i < n → p i ≡ true → any n p ≡ true
+any-one n p i l e = by (any n p) refl
+  where
+    by : (t : Bool) → any n p ≡ t → any n p ≡ true
+    by true q = q
+    by false q = test-clash e (any-fails n p q i l)
 
 pub any-from-none : (n : ℕ) (p : ℕ → Bool) → ((i : ℕ) → i < n → p i ≡ false) → any n p ≡ false
 unfolding any
