@@ -8,7 +8,7 @@ use lib.Dec.{eqb}
 use Rattle.sums.specs.Choice.{pick}
 use Rattle.sums.specs.Sum.{sum}
 use Rattle.rows.specs.View.{needCM}
-use Rattle.rows.specs.Rows.{noRow, rowAt, view, freshBook}
+use Rattle.rows.specs.Rows.{noRow, rowAt, numberAt, view, freshBook}
 use Rattle.rows.specs.KeptNeeds.{keptNeed}
 use Rattle.rows.proofs.KeptNeeds.{kept-none}
 use Rattle.rows.specs.Ranges.{noAmounts}
@@ -41,6 +41,14 @@ fresh-sound = record {
   tm-live = alone (λ i. rowAt freshBook i .sort ≡ 2 → rowAt freshBook i .live ≡ true → rowAt freshBook (rowAt freshBook i .tm) .live ≡ true) (λ e p. refl);
   retired = alone (λ i. rowAt freshBook i .live ≡ false → noAmounts (rowAt freshBook i) ≡ true) (λ e. refl);
   ranges = alone (λ i. InRange (rowAt freshBook i)) (omega arith);
+  numbered = record {
+    wide = refl;
+    top = refl;
+    rises = λ i j h l. absurd (omega arith);
+    below = alone (λ i. numberAt freshBook i < 1) (omega arith);
+    last = omega arith;
+    beyond = λ i h. getD-same {A = ℕ} 256 i 0;
+  };
   modes = λ i l e. test-clash e (getD-same 256 i false);
   kept = λ i l. getD-same {A = ℕ} 256 i 0 ∙ sym (none i (ℕ-discrete i 0));
 }

@@ -16,6 +16,8 @@ pub mod RowTests
 pub mod Settled
 pub mod SoundAfter
 pub mod SoundInPlace
+pub mod NumbersTest
+pub mod NumbersPut
 pub mod SoundTest
 pub mod StandingRefusals
 pub mod NeedsAnswers

@@ -17,7 +17,7 @@ use Rattle.rows.specs.declared.Book.{Book}
 use Rattle.rows.specs.Rows.{ceiling, rowAt, places}
 use Rattle.rows.specs.Ranges.{kindsCapped, kindsWithin, inRange, ceilings}
 use Rattle.rows.specs.Facts.{KindsWithin, InRange}
-use Rattle.book.specs.Sound.{isBlank, isTop, goodClient, goodSort, goodRetired, goodRow, rowSound, modeSound, formedB, keptBy, soundB}
+use Rattle.book.specs.Sound.{isBlank, isTop, goodClient, goodSort, goodRetired, goodRow, rowSound, modeSound, numbersSound, formedB, keptBy, soundB}
 use Rattle.book.specs.Facts.{Sound}
 use Rattle.rows.specs.Inner.{Ranged, Slot}
 
@@ -80,7 +80,7 @@ rows-ranged b table most h =
 pub sound-test-ranged : (b : Book) → soundB b ≡ true → Ranged b
 unfolding soundB formedB
 sound-test-ranged b h =
-    let j = and-four (leb 1 (b .count)) (leb (b .count) 256) (all 256 (rowSound b)) (eqb (places b) 256) (and-left _ (all 256 (modeSound b)) (and-split (formedB b) (keptBy New b) h .0)) in
+    let j = and-four (leb 1 (b .count)) (leb (b .count) 256) (all 256 (rowSound b)) (eqb (places b) 256) (and-left _ (all 256 (modeSound b)) (and-left _ (numbersSound (b .count) (b .next) (b .numbers)) (and-split (formedB b) (keptBy New b) h .0))) in
     rows-ranged b (eqb-true _ _ (j .3)) (leb-true _ _ (j .1)) (j .2)
 
 pub sound-ranged : (b : Book) → Sound b → Ranged b

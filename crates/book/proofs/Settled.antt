@@ -37,11 +37,12 @@ sound-rows b s = record {
   tm-live = s .tm-live;
   retired = s .retired;
   ranges = s .ranges;
+  numbered = s .numbered;
 }
 
--- what the list says of rows looks neither at the serial nor at modes and kept needs
+-- what the list says of rows and numbers looks neither at the serial nor at modes and kept needs
 pub rows-alone : (b : Book) (n : ℕ) (modes : List Bool) (needs : List ℕ) → SoundRows b
-    → SoundRows (record { count = b .count; serial = n; rows = b .rows; modes = modes; needs = needs })
+    → SoundRows (record { count = b .count; serial = n; rows = b .rows; modes = modes; needs = needs; next = b .next; numbers = b .numbers })
 rows-alone b n modes needs s = record {
   table = s .table;
   most = s .most;
@@ -52,6 +53,7 @@ rows-alone b n modes needs s = record {
   tm-live = s .tm-live;
   retired = s .retired;
   ranges = s .ranges;
+  numbered = s .numbered;
 }
 
 pub with-rest : (b : Book) → SoundRows b → ((i : ℕ) → i < 256 → modeAt b i ≡ true → MayBeOn b i) → NeedsKept (view b) (b .needs) → Sound b
@@ -65,6 +67,7 @@ with-rest b s modes kept = record {
   tm-live = s .tm-live;
   retired = s .retired;
   ranges = s .ranges;
+  numbered = s .numbered;
   modes = modes;
   kept = kept;
 }

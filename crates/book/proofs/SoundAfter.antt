@@ -17,6 +17,7 @@ use Rattle.book.specs.Facts.{SoundRows, Sound}
 use Rattle.book.proofs.Settled.{sound-rows, rows-alone, with-rest}
 use Rattle.rows.proofs.RowPut.{row-other, row-places, new-places, opened-new, opened-below, opened-above}
 use Rattle.book.proofs.Opens.{Opened, opened-shaped}
+use Rattle.book.proofs.NumbersPut.{numbered-on}
 use Rattle.book.proofs.OneRow.{at-all, same-sort, same-tm, row-shaped, row-opened}
 
 -- soundness doesn't look at the serial
@@ -46,6 +47,7 @@ module _ (b : Book) (s : Sound b) (i : ℕ) (m : i < b .count) (r : Row) (ec : r
     retired = λ j h. at-all (λ k x y. (y .live ≡ false → noAmounts y ≡ true) → x .live ≡ false → noAmounts x ≡ true) b i r l
         (λ q. retired) (λ k q. q) j (s .retired j h);
     ranges = λ j h. at-all (λ k x y. InRange y → InRange x) b i r l (λ q. ranges) (λ k q. q) j (s .ranges j h);
+    numbered = s .numbered;
   }
     where
       l : i < places b
@@ -122,7 +124,7 @@ module _ (b : Book) (s : Sound b) (i : ℕ) (m : i < b .count) (ne : i ≡ 0 →
       tms j h e p (no q) = ap (λ r. r .live) (row-other b i (rowAt b j .tm) gone q) ∙ s .tm-live j h e p
 
 -- 7, 8 and 9 do not apply: sort 1, 2 or 3, and for 2 a live TM
-module _ (b : Book) (s : Sound b) (c t : ℕ) (room : b .count < 256) (sort : (c ≡ 1) ⊎ ((c ≡ 2) ⊎ (c ≡ 3)))
+module _ (b : Book) (s : Sound b) (c t : ℕ) (room : b .count < 256) (more : b .next < 65536) (sort : (c ≡ 1) ⊎ ((c ≡ 2) ⊎ (c ≡ 3)))
     (tm : c ≡ 2 → (t < b .count) × (rowAt b t .sort ≡ 1) × (rowAt b t .live ≡ true)) (no-tm : (c ≡ 2 → ⊥) → t ≡ 0) where
   abbrev opened : Book
   opened = withNew b (openedRow c t)
@@ -156,4 +158,5 @@ module _ (b : Book) (s : Sound b) (c t : ℕ) (room : b .count < 256) (sort : (c
         (λ j l e p. still-live (rowAt b j .tm) (omega (arith, s .shaped .tms j l e .0)) (s .tm-live j l e p));
     retired = each (λ r. r .live ≡ false → noAmounts r ≡ true) (λ q. refl) (s .retired);
     ranges = each InRange (omega arith) (s .ranges);
+    numbered = numbered-on room more (s .shaped .some) (s .numbered);
   }

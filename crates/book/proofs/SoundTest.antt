@@ -20,10 +20,11 @@ use Rattle.rows.specs.Rows.{noRow, rowAt, modeAt, places, view}
 use Rattle.rows.specs.Ranges.{noAmounts, inRange}
 use Rattle.rows.specs.Facts.{Shaped, InRange, NeedsKept}
 use Rattle.rows.specs.KeptNeeds.{keptNeed, allKept}
-use Rattle.book.specs.Sound.{isBlank, isTop, goodClient, goodSort, goodRetired, goodRow, rowSound, modeSound, formedB, keptBy, soundB}
+use Rattle.book.specs.Sound.{isBlank, isTop, goodClient, goodSort, goodRetired, goodRow, rowSound, modeSound, numbersSound, formedB, keptBy, soundB}
 use Rattle.book.specs.Facts.{SoundRows, MayBeOn, Sound}
 use Rattle.rows.proofs.RowPut.{row-far}
 use Rattle.book.proofs.Settled.{with-rest}
+use Rattle.book.proofs.NumbersTest.{numbers→, numbers←}
 use Rattle.book.proofs.RowFacts.{range→, range←, blank→, blank←, mode→, mode←}
 
 -- "a client whose TM is a lower-numbered TM row. A live client's TM is live."
@@ -198,6 +199,10 @@ module _ (b : Book) (e : formedB b ≡ true) where
   unfolding formedB
   each-row = all-at 256 (rowSound b) (search (and-left, and-right))
 
+  numbers-rise : numbersSound (b .count) (b .next) (b .numbers) ≡ true
+  unfolding formedB
+  numbers-rise = search and-right
+
   pub formed→ : SoundRows b
   formed→ = record {
     table = table-long;
@@ -209,6 +214,7 @@ module _ (b : Book) (e : formedB b ≡ true) where
     tm-live = λ i l c. as-client b some-row most-rows table-long each-row i l c .tm-live;
     retired = λ i l. row-retired b i (each-row i (omega (arith, most-rows))) l;
     ranges = λ i l. row-ranges b i (each-row i (omega (arith, most-rows))) l;
+    numbered = numbers→ (b .count) (b .next) (b .numbers) most-rows numbers-rise some-row;
   }
 
   pub formed-modes : (i : ℕ) → i < 256 → modeAt b i ≡ true → MayBeOn b i
@@ -224,6 +230,6 @@ sound→ b e =
 pub sound← : (b : Book) → Sound b → soundB b ≡ true
 unfolding soundB formedB
 sound← b s =
-    and-join (and-join (and-join (and-join (and-join (le-leb _ _ (s .shaped .some)) (le-leb _ _ (s .most)))
-    (all-from 256 (rowSound b) (λ i l. row← b i s))) (eq-eqb _ _ (s .table))) (all-from 256 (modeSound b) (λ i l. mode← b i (s .modes i l))))
+    and-join (and-join (and-join (and-join (and-join (and-join (le-leb _ _ (s .shaped .some)) (le-leb _ _ (s .most)))
+    (all-from 256 (rowSound b) (λ i l. row← b i s))) (eq-eqb _ _ (s .table))) (all-from 256 (modeSound b) (λ i l. mode← b i (s .modes i l)))) (numbers← (b .count) (b .next) (b .numbers) (s .numbered)))
     (kept← (view b) (b .needs) (s .kept))

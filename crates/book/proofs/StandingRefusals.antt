@@ -8,26 +8,26 @@ use Rattle.sums.specs.Table.{_when_, first}
 use Rattle.sums.proofs.Tables.{first-here, first-later}
 use Rattle.rows.specs.declared.Book.{Book}
 use Rattle.book.specs.declared.Figures.{Figures}
-use Rattle.rows.specs.Rows.{modeAt, view, isLive}
+use Rattle.rows.specs.Rows.{modeAt, placeOf, view, isLive}
 use Rattle.book.specs.Sound.{soundB}
 use Rattle.book.specs.Asked.{standingRefusal, noFigures, figuresOf, standingOf}
 
 module _ (b : Book) (i : ℕ) where
   pub unsound-refused : soundB b ≡ false → standingRefusal b i ≡ 1
   unfolding standingRefusal
-  unsound-refused e = first-here 1 (not (soundB b)) ((7 when not (isLive b i)) ∷ []) (ap not e)
+  unsound-refused e = first-here 1 (not (soundB b)) ((7 when not (isLive b (placeOf b i))) ∷ []) (ap not e)
 
-  pub dead-refused : soundB b ≡ true → isLive b i ≡ false → standingRefusal b i ≡ 7
+  pub dead-refused : soundB b ≡ true → isLive b (placeOf b i) ≡ false → standingRefusal b i ≡ 7
   unfolding standingRefusal
   dead-refused e l =
-      first-later 1 (not (soundB b)) ((7 when not (isLive b i)) ∷ []) (ap not e) ∙ first-here 7 (not (isLive b i)) [] (ap not l)
+      first-later 1 (not (soundB b)) ((7 when not (isLive b (placeOf b i))) ∷ []) (ap not e) ∙ first-here 7 (not (isLive b (placeOf b i))) [] (ap not l)
 
-  pub live-answered : soundB b ≡ true → isLive b i ≡ true → standingRefusal b i ≡ 0
+  pub live-answered : soundB b ≡ true → isLive b (placeOf b i) ≡ true → standingRefusal b i ≡ 0
   unfolding standingRefusal first
   live-answered e l =
-      first-later 1 (not (soundB b)) ((7 when not (isLive b i)) ∷ []) (ap not e) ∙ first-later 7 (not (isLive b i)) [] (ap not l)
+      first-later 1 (not (soundB b)) ((7 when not (isLive b (placeOf b i))) ∷ []) (ap not e) ∙ first-later 7 (not (isLive b (placeOf b i))) [] (ap not l)
 
-  pub standing-by : {r : Figures} (n : ℕ) → standingRefusal b i ≡ n → r ≡ unlessRefused n (figuresOf (view b) (modeAt b i) i) noFigures → r ≡ standingOf b i
+  pub standing-by : {r : Figures} (n : ℕ) → standingRefusal b i ≡ n → r ≡ unlessRefused n (figuresOf (view b) (modeAt b (placeOf b i)) (placeOf b i)) noFigures → r ≡ standingOf b i
   unfolding standingOf
   standing-by n e h = rw e h
 
@@ -36,6 +36,6 @@ module _ (b : Book) (i : ℕ) where
   unfolding standingOf
   standing-number = by (standingRefusal b i)
     where
-      by : (n : ℕ) → unlessRefused n (figuresOf (view b) (modeAt b i) i) noFigures .refusal ≡ n
+      by : (n : ℕ) → unlessRefused n (figuresOf (view b) (modeAt b (placeOf b i)) (placeOf b i)) noFigures .refusal ≡ n
       by zero = refl
       by (suc n) = refl

@@ -12,9 +12,10 @@ use Rattle.rows.specs.View.{View, needCM, need, blocked, deemed, free}
 use Rattle.rows.specs.Rows.{placeOf, modeAt, view, isLive}
 use Rattle.book.specs.Sound.{soundB}
 
--- "1: the book isn't sound"; "7: the account is not live, or its number was never given"
+-- "1: the book isn't sound"; "7: the account is not live, or its number was never given"; document 02, K11: "a number in the archive gives 7", as one that
+-- no row held has
 abbrev pub standingRefusals : Book → ℕ → List Line
-standingRefusals b number = (1 when not (soundB b)) ∷ (7 when not (isLive b number)) ∷ []
+standingRefusals b number = (1 when not (soundB b)) ∷ (7 when not (isLive b (placeOf b number))) ∷ []
 
 -- the first that applies, or 0
 unfoldable pub standingRefusal : Book → ℕ → ℕ

@@ -1,7 +1,9 @@
--- Document 01, 'A sound book', with document 02, K2, K3 and K8: as the test that refusal 1 is about (as facts: Facts.antt).
+-- Document 01, 'A sound book', with document 02, K2, K3, K8 and K11: as the test that refusal 1 is about (as facts: Facts.antt).
 use mathlib.Core.Bool.{Bool, not, _&&_, _||_}
-use Prim.Native.Nat.{ℕ}
+use mathlib.Core.List.{List}
+use Prim.Native.Nat.{ℕ, _-_}
 use lib.Dec.{eqb, ltb, leb}
+use lib.ListN.{length, getD}
 use Rattle.sums.specs.Sum.{all}
 use Rattle.sums.specs.Choice.{pick}
 use Rattle.rows.specs.declared.Row.{Row}
@@ -50,9 +52,21 @@ goodMode i sort live m = not m || eqb i 0 || eqb sort 1 && live
 unfoldable pub modeSound : Book → ℕ → Bool
 modeSound b i = goodMode i (rowAt b i .sort) (rowAt b i .live) (modeAt b i)
 
--- "The number of accounts is 1 to 256"; every row and every mode. A value of the type has 256 rows: the test of it holds of each.
+-- document 02, K11: "rows in a sound book rise by number, all below the next to be given"; row 0 is the CM's, which has number 0, and a row beyond the
+-- number of rows has number 0. The number n of place i, behind the one before it, of a book with so many rows and this next number
+abbrev pub goodNumber : ℕ → ℕ → ℕ → ℕ → ℕ → Bool
+goodNumber count next i before n = pick (ltb i count) (pick (eqb i 0) (eqb n 0) (ltb before n) && ltb n next) (eqb n 0)
+
+-- "go up to 65,535": the next to be given is at most one more. A value of the type has 256 numbers: the test of it holds of each.
+unfoldable pub numbersSound : ℕ → ℕ → List ℕ → Bool
+numbersSound count next numbers =
+    leb next 65536 && eqb (length numbers) 256 && all 256 (λ i. goodNumber count next i (getD numbers (i - 1) 0) (getD numbers i 0))
+
+-- "The number of accounts is 1 to 256"; every row, every mode and every number. A value of the type has 256 rows: the test of it holds of each.
 unfoldable pub formedB : Book → Bool
-formedB b = leb 1 (b .count) && leb (b .count) 256 && all 256 (rowSound b) && eqb (places b) 256 && all 256 (modeSound b)
+formedB b =
+    leb 1 (b .count) && leb (b .count) 256 && all 256 (rowSound b) && eqb (places b) 256 && all 256 (modeSound b)
+    && numbersSound (b .count) (b .next) (b .numbers)
 
 -- document 02, K3: "A sound book now includes that each kept need equals the need worked out afresh", by a rule (K7)
 abbrev pub keptBy : Rule → Book → Bool

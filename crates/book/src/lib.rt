@@ -12,6 +12,7 @@ mod blocking;
 mod evening;
 pub mod sound;
 
+use lookup::place_among;
 pub use rows::CEILING;
 use rows::Rule;
 use sound::table_kept;
@@ -72,6 +73,8 @@ pub fn fresh() -> Table
         modes: [false; 256],
         needs: [0u64; 256],
         amounts: [0u64; 2560],
+        next: 1,
+        numbers: [0u16; 256],
     }
 }
 
@@ -79,6 +82,7 @@ pub fn is_sound(t: Table) -> bool
     ensures { λ r. ⌜ r ≡ soundB (turnedBack t) ⌝ }
 {
     let count = t.count;
+    let numbers = t.numbers;
     table_sound(
         &t.sort,
         &t.live,
@@ -86,7 +90,9 @@ pub fn is_sound(t: Table) -> bool
         &t.amounts,
         &t.modes,
         &t.needs,
+        numbers,
         count,
+        t.next,
     )
 }
 
@@ -94,6 +100,7 @@ pub fn standing(t: Table, account: u16) -> Figures
     ensures { λ r. ⌜ r ≡ standingOf (turnedBack t) account ⌝ }
 {
     let count = t.count;
+    let numbers = t.numbers;
     if !table_sound(
         &t.sort,
         &t.live,
@@ -101,14 +108,17 @@ pub fn standing(t: Table, account: u16) -> Figures
         &t.amounts,
         &t.modes,
         &t.needs,
+        numbers,
         count,
+        t.next,
     ) {
         return blocking::refused(1);
     }
-    if account >= count {
+    let place = place_among(&numbers, count, account);
+    if place >= count {
         return blocking::refused(7);
     }
-    let i = account as usize;
+    let i = place as usize;
     if !t.live[i] {
         return blocking::refused(7);
     }
@@ -123,6 +133,7 @@ pub fn needs(t: Table, room: &mut [u64]) -> u8
     ensures { λ _. ⌜ now (room .exit) ≡ needsRoom (turnedBack t) (now (room .entry)) ⌝ }
 {
     let count = t.count;
+    let numbers = t.numbers;
     if !table_sound(
         &t.sort,
         &t.live,
@@ -130,7 +141,9 @@ pub fn needs(t: Table, room: &mut [u64]) -> u8
         &t.amounts,
         &t.modes,
         &t.needs,
+        numbers,
         count,
+        t.next,
     ) {
         return 1;
     }
@@ -146,6 +159,7 @@ pub fn amount_sum(t: Table, amount: Amount) -> Summed
     ensures { λ r. ⌜ r ≡ eveningOf (turnedBack t) amount ⌝ }
 {
     let count = t.count;
+    let numbers = t.numbers;
     if !table_sound(
         &t.sort,
         &t.live,
@@ -153,7 +167,9 @@ pub fn amount_sum(t: Table, amount: Amount) -> Summed
         &t.amounts,
         &t.modes,
         &t.needs,
+        numbers,
         count,
+        t.next,
     ) {
         return Summed {
             refusal: 1,
@@ -176,6 +192,7 @@ pub fn take_over(t: Table) -> Taken
     let tm = t.tm;
     let amounts = t.amounts;
     table::sizes(sort, live, tm, amounts);
+    let numbers = t.numbers;
     let count = t.count;
     if !table_kept(
         &sort,
@@ -184,7 +201,9 @@ pub fn take_over(t: Table) -> Taken
         &amounts,
         &t.modes,
         &t.needs,
+        numbers,
         count,
+        t.next,
         Rule::Old,
     ) {
         return Taken {

@@ -1,15 +1,15 @@
-// The test of a sound book's rows, modes and kept needs, a sentence of 'A sound book' each, on the words in their places.
+// The test of a sound book's rows, modes, numbers and kept needs, a sentence of 'A sound book' each, on the words in their places.
 ghost use mathlib.Core.Path.{_≡_};
 ghost use mathlib.Core.Bool.{false, _&&_};
 ghost use mathlib.Core.List.{[]};
 ghost use Prim.Native.Nat.{_<_};
-ghost use lib.Dec.{eqb};
+ghost use lib.Dec.{eqb, ltb};
 ghost use lib.ListN.{getD};
 ghost use Rattle.sums.specs.Sum.{all};
 ghost use Rattle.sums.specs.Choice.{pick};
 ghost use Rattle.rows.specs.Ranges.{noAmounts, inRange};
 ghost use Rattle.table.specs.Words.{marksFrom, bookFrom};
-ghost use Rattle.book.specs.Sound.{isTop, goodSort, rowSound, formedB, keptBy, soundB};
+ghost use Rattle.book.specs.Sound.{isTop, goodSort, rowSound, goodNumber, numbersSound, formedB, keptBy, soundB};
 ghost use Rattle.book.specs.Inner.{marked, amountsAt, modesAt};
 use rows::CEILING;
 use rows::Rule;
@@ -96,7 +96,7 @@ fn good_row<'a>(
     i: usize,
 ) -> bool
     requires { ⌜ i < 256 ⌝ }
-    ensures { λ x. ⌜ x ≡ rowSound (bookFrom n 0 (marksFrom (now (sort .entry)) (now (live .entry)) (now (tm .entry))) (now (w .entry)) [] []) i ⌝ }
+    ensures { λ x. ⌜ x ≡ rowSound (bookFrom n 0 (marksFrom (now (sort .entry)) (now (live .entry)) (now (tm .entry))) (now (w .entry)) [] [] 0 []) i ⌝ }
 {
     let own = mark_at(sort, live, tm, i);
     let its = mark_at(sort, live, tm, slot(own.tm));
@@ -114,7 +114,7 @@ fn rows_sound<'a>(
     w: &'a [u64; 2560],
     count: u16,
 ) -> bool
-    ensures { λ x. ⌜ x ≡ all 256 (rowSound (bookFrom count 0 (marksFrom (now (sort .entry)) (now (live .entry)) (now (tm .entry))) (now (w .entry)) [] [])) ⌝ }
+    ensures { λ x. ⌜ x ≡ all 256 (rowSound (bookFrom count 0 (marksFrom (now (sort .entry)) (now (live .entry)) (now (tm .entry))) (now (w .entry)) [] [] 0 [])) ⌝ }
 {
     let n = count as usize;
     let mut ok = true;
@@ -139,6 +139,43 @@ fn modes_sound<'a>(sort: &'a [u8; 256], live: &'a [bool; 256], modes: &'a [bool;
     ok
 }
 
+// Row 0 has number 0, and any other one above that of the row before it (K11).
+fn number_rises(i: usize, before: u16, n: u16) -> bool
+    ensures { λ x. ⌜ x ≡ pick (eqb i 0) (eqb n 0) (ltb before n) ⌝ }
+{
+    if i == 0 { n == 0 } else { before < n }
+}
+
+fn good_number(count: usize, next: u32, i: usize, before: u16, n: u16) -> bool
+    ensures { λ x. ⌜ x ≡ goodNumber count next i before n ⌝ }
+{
+    if i < count {
+        number_rises(i, before, n) & ((n as u32) < next)
+    } else {
+        n == 0
+    }
+}
+
+// By value: an array that is lent does not show its length.
+fn numbers_sound(numbers: [u16; 256], count: u16, next: u32) -> bool
+    ensures { λ x. ⌜ x ≡ numbersSound count next numbers ⌝ }
+{
+    if 65536 < next {
+        return false;
+    }
+    let n = count as usize;
+    let mut before = numbers[0];
+    let mut ok = true;
+    let mut i: usize = 0;
+    while i < 256 {
+        let own = numbers[i];
+        ok = ok & good_number(n, next, i, before, own);
+        before = own;
+        i += 1;
+    }
+    ok
+}
+
 // The test of a table's arrays where they are, with kept needs by a rule. Ranges are tested before anything is added, so that no sum can pass a word.
 pub(crate) fn table_kept<'a>(
     sort: &'a [u8; 256],
@@ -147,10 +184,12 @@ pub(crate) fn table_kept<'a>(
     w: &'a [u64; 2560],
     modes: &'a [bool; 256],
     needs: &'a [u64; 256],
+    numbers: [u16; 256],
     count: u16,
+    next: u32,
     rule: Rule,
 ) -> bool
-    ensures { λ x. ⌜ x ≡ (formedB (bookFrom count 0 (marksFrom (now (sort .entry)) (now (live .entry)) (now (tm .entry))) (now (w .entry)) (now (modes .entry)) (now (needs .entry))) && keptBy rule (bookFrom count 0 (marksFrom (now (sort .entry)) (now (live .entry)) (now (tm .entry))) (now (w .entry)) (now (modes .entry)) (now (needs .entry)))) ⌝ }
+    ensures { λ x. ⌜ x ≡ (formedB (bookFrom count 0 (marksFrom (now (sort .entry)) (now (live .entry)) (now (tm .entry))) (now (w .entry)) (now (modes .entry)) (now (needs .entry)) next numbers) && keptBy rule (bookFrom count 0 (marksFrom (now (sort .entry)) (now (live .entry)) (now (tm .entry))) (now (w .entry)) (now (modes .entry)) (now (needs .entry)) next numbers)) ⌝ }
 {
     if count < 1 {
         return false;
@@ -164,6 +203,9 @@ pub(crate) fn table_kept<'a>(
     if !modes_sound(sort, live, modes) {
         return false;
     }
+    if !numbers_sound(numbers, count, next) {
+        return false;
+    }
     needs_kept(sort, tm, w, count, needs, rule)
 }
 
@@ -175,9 +217,22 @@ pub fn table_sound<'a>(
     w: &'a [u64; 2560],
     modes: &'a [bool; 256],
     needs: &'a [u64; 256],
+    numbers: [u16; 256],
     count: u16,
+    next: u32,
 ) -> bool
-    ensures { λ x. ⌜ x ≡ soundB (bookFrom count 0 (marksFrom (now (sort .entry)) (now (live .entry)) (now (tm .entry))) (now (w .entry)) (now (modes .entry)) (now (needs .entry))) ⌝ }
+    ensures { λ x. ⌜ x ≡ soundB (bookFrom count 0 (marksFrom (now (sort .entry)) (now (live .entry)) (now (tm .entry))) (now (w .entry)) (now (modes .entry)) (now (needs .entry)) next numbers) ⌝ }
 {
-    table_kept(sort, live, tm, w, modes, needs, count, Rule::New)
+    table_kept(
+        sort,
+        live,
+        tm,
+        w,
+        modes,
+        needs,
+        numbers,
+        count,
+        next,
+        Rule::New,
+    )
 }

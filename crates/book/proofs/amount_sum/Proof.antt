@@ -20,12 +20,12 @@ table-sound-requires c κs = search needs
 
 -- where the call begins
 abbrev start : tie.After-table-sound → tie.Start
-start c = c .before .before .before .before .before .before .before .before
+start c = c .before .before .before .before .before .before .before .before .before
 
 tested : (c : tie.After-table-sound) → c .table-sound .result ≡ soundB (turnedBack (start c .args .t1))
 tested c =
     let t = start c .args .t1 in
-    c .table-sound .ensures ∙ sound-serial (t .count) (t .serial) (marksOf t) (t .amounts) (t .modes) (t .needs)
+    c .table-sound .ensures ∙ sound-serial (t .count) (t .serial) (marksOf t) (t .amounts) (t .modes) (t .needs) (t .next) (t .numbers)
 
 returns : tie.Need-returns
 returns c =

@@ -36,7 +36,7 @@ returns : tie.Need-returns
 unfolding rowsOf freshBook
 returns c =
     turned-from _ freshBook (record { sorts = refl; lives = refl; tms = refl; words = refl })
-    (ap (λ l. record { count = 1; serial = 0; rows = l; modes = replicate 256 false; needs = replicate 256 0 }) (list-is (rowIn marks words) 256 noRow (freshBook .rows) refl (λ i l. row i)))
+    (ap (λ l. record { count = 1; serial = 0; rows = l; modes = replicate 256 false; needs = replicate 256 0; next = 1; numbers = replicate 256 0 }) (list-is (rowIn marks words) 256 noRow (freshBook .rows) refl (λ i l. row i)))
 
 pub fresh-spec : {M : Type 1} → statement M
 fresh-spec = tie.close (tie.spec array-write-live returns)

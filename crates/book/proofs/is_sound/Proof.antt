@@ -11,8 +11,8 @@ table-sound-requires c κs = search needs
 
 returns : tie.Need-returns
 returns c =
-    let t = c .before .before .before .before .before .before .before .before .args .t1 in
-    c .table-sound .ensures ∙ sound-serial (t .count) (t .serial) (marksOf t) (t .amounts) (t .modes) (t .needs)
+    let t = c .before .before .before .before .before .before .before .before .before .args .t1 in
+    c .table-sound .ensures ∙ sound-serial (t .count) (t .serial) (marksOf t) (t .amounts) (t .modes) (t .needs) (t .next) (t .numbers)
 
 pub is-sound-spec : {M : Type 1} → statement M
 is-sound-spec = tie.close (tie.spec table-sound-requires returns)

@@ -23,12 +23,12 @@ table-sound-requires c κs = search needs
 
 -- where the call begins
 abbrev start : tie.After-table-sound → tie.Start
-start c = c .before .before .before .before .before .before .before .before .before
+start c = c .before .before .before .before .before .before .before .before .before .before
 
 tested : (c : tie.After-table-sound) → c .table-sound .result ≡ soundB (turnedBack (start c .args .t1))
 tested c =
     let t = start c .args .t1 in
-    c .table-sound .ensures ∙ sound-serial (t .count) (t .serial) (marksOf t) (t .amounts) (t .modes) (t .needs)
+    c .table-sound .ensures ∙ sound-serial (t .count) (t .serial) (marksOf t) (t .amounts) (t .modes) (t .needs) (t .next) (t .numbers)
 
 returns : tie.Need-returns
 returns c =
@@ -54,8 +54,8 @@ put-needs-requires c κs =
     let fits = c .before .before .before .before .before .before in
     let t = start (fits .before .before) .args .t1 in
     let s = sound→ (turnedBack t) (holds (fits .before)) in
-    let v = seen-view (t .count) (t .serial) (marksOf t) (t .amounts) (t .modes) (t .needs) in (
-      (seen-ranged (t .count) (t .serial) (marksOf t) (t .amounts) (t .modes) (t .needs) (sound-ranged (turnedBack t) s), rw v (s .shaped)),
+    let v = seen-view (t .count) (t .serial) (marksOf t) (t .amounts) (t .modes) (t .needs) (t .next) (t .numbers) in (
+      (seen-ranged (t .count) (t .serial) (marksOf t) (t .amounts) (t .modes) (t .needs) (t .next) (t .numbers) (sound-ranged (turnedBack t) s), rw v (s .shaped)),
       (subst (λ w. NeedsKept w (t .needs)) (sym v) (s .kept), omega (arith, fits .if2 .left)),
     )
 
@@ -70,7 +70,7 @@ returns-3 c =
     let a = start (fits .before .before) .args in
     let t = a .t1 in
     needs-by (turnedBack t) (a .room .now) 0 (needs-given (turnedBack t) (a .room .now) (holds (fits .before)) (fits .if2 .left)) refl
-    (put .put-needs .ensures ∙ ap (λ v. listTo (need v) (t .count)) (seen-view (t .count) (t .serial) (marksOf t) (t .amounts) (t .modes) (t .needs)))
+    (put .put-needs .ensures ∙ ap (λ v. listTo (need v) (t .count)) (seen-view (t .count) (t .serial) (marksOf t) (t .amounts) (t .modes) (t .needs) (t .next) (t .numbers)))
 
 pub needs-spec : {M : Type 1} → statement M
 needs-spec =

@@ -31,10 +31,10 @@ use Rattle.book.proofs.take_over.Tie as tie
 
 -- THE PLACES, each named once.
 abbrev start : tie.After-table-kept → tie.Start
-start c = c .before .before .before .before .before .before .before .before .before .before .before .before .before
+start c = c .before .before .before .before .before .before .before .before .before .before .before .before .before .before
 
 abbrev sized : tie.After-table-kept → tie.After-sizes
-sized c = c .before .before .before .before .before .before .before .before
+sized c = c .before .before .before .before .before .before .before .before .before
 
 abbrev passed : tie.After-account-at → tie.Else1
 passed c = c .before .before .before .before
@@ -53,7 +53,7 @@ abbrev keptOld : Table → Bool
 keptOld t = formedB (turnedBack t) && keptBy Old (turnedBack t)
 
 tested : (c : tie.After-table-kept) → keptOld (handed c) ≡ c .table-kept .result
-tested c = let t = handed c in sym (c .table-kept .ensures ∙ kept-serial Old (t .count) (t .serial) (marksOf t) (t .amounts) (t .modes) (t .needs))
+tested c = let t = handed c in sym (c .table-kept .ensures ∙ kept-serial Old (t .count) (t .serial) (marksOf t) (t .amounts) (t .modes) (t .needs) (t .next) (t .numbers))
 
 returns : tie.Need-returns
 unfolding soundByTheOld
@@ -67,10 +67,10 @@ rows : (c : tie.Else1) → SoundRows (turnedBack (handed (c .before)))
 rows c = formed→ _ (and-left _ _ (holds c))
 
 ranged : (t : Table) → SoundRows (turnedBack t) → Ranged (seenBook (t .count) (t .sort) (t .tm) (t .amounts))
-ranged t s = seen-ranged (t .count) (t .serial) (marksOf t) (t .amounts) (t .modes) (t .needs) (record { table = s .table; most = s .most; ranges = s .ranges })
+ranged t s = seen-ranged (t .count) (t .serial) (marksOf t) (t .amounts) (t .modes) (t .needs) (t .next) (t .numbers) (record { table = s .table; most = s .most; ranges = s .ranges })
 
 is-seen : (t : Table) → view (seenBook (t .count) (t .sort) (t .tm) (t .amounts)) ≡ view (turnedBack t)
-is-seen t = seen-view (t .count) (t .serial) (marksOf t) (t .amounts) (t .modes) (t .needs)
+is-seen t = seen-view (t .count) (t .serial) (marksOf t) (t .amounts) (t .modes) (t .needs) (t .next) (t .numbers)
 
 account-at-requires : tie.Need-account-at-requires
 account-at-requires c κs =
@@ -88,7 +88,7 @@ covers c =
     let t = handed (e .before) in
     let v = viewBy Old (turnedBack t) in
     sym (ap (λ n. leb n (c .account-at .result .collateral)) (kept→ v (t .needs) (and-right (formedB (turnedBack t)) (keptBy Old (turnedBack t)) (holds e)) 0 (omega arith) ∙ kept-CM v)
-    ∙ ap (λ a. leb (needCM v) (a .collateral)) (c .account-at .ensures ∙ seen-account (t .count) (t .serial) (marksOf t) (t .amounts) (t .modes) (t .needs) Old 0))
+    ∙ ap (λ a. leb (needCM v) (a .collateral)) (c .account-at .ensures ∙ seen-account (t .count) (t .serial) (marksOf t) (t .amounts) (t .modes) (t .needs) (t .next) (t .numbers) Old 0))
 
 returns-2 : tie.Need-returns-2
 unfolding soundByTheOld

@@ -26,7 +26,7 @@ start c = c .before .before .before .before .before .before .before .before .bef
 tested : (c : tie.After-table-sound) → c .table-sound .result ≡ soundB (turnedBack (start c .args .t1))
 tested c =
     let t = start c .args .t1 in
-    c .table-sound .ensures ∙ sound-serial (t .count) (t .serial) (marksOf t) (t .amounts) (t .modes) (t .needs)
+    c .table-sound .ensures ∙ sound-serial (t .count) (t .serial) (marksOf t) (t .amounts) (t .modes) (t .needs) (t .next) (t .numbers)
 
 refused-requires : tie.Need-refused-requires
 refused-requires c κs = search needs

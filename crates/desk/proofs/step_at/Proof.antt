@@ -35,7 +35,7 @@ deemed-under-requires : tie.Need-deemed-under-requires
 deemed-under-requires c κs =
     let s = called (c .before .before .before .before) in
     let t = s .args .t in
-    let g = adds-up (t .count) (t .serial) (marksOf t) (t .amounts) (t .modes) (t .needs) (s .pre) in
+    let g = adds-up (t .count) (t .serial) (marksOf t) (t .amounts) (t .modes) (t .needs) (t .next) (t .numbers) (s .pre) in
     (g .0, g .1, refl)
 
 look-all-requires : tie.Need-look-all-requires
@@ -43,7 +43,7 @@ look-all-requires c κs =
     let u = c .before .before .before .before .before in
     let s = called (sized u) in
     let t = s .args .t in
-    (adds-up (t .count) (t .serial) (marksOf t) (t .amounts) (t .modes) (t .needs) (s .pre), looks-up (t .count) (t .serial) (marksOf t) (t .amounts) (t .modes) (t .needs) (s .pre) _ (u .deemed-under .ensures))
+    (adds-up (t .count) (t .serial) (marksOf t) (t .amounts) (t .modes) (t .needs) (t .next) (t .numbers) (s .pre), looks-up (t .count) (t .serial) (marksOf t) (t .amounts) (t .modes) (t .needs) (t .next) (t .numbers) (s .pre) _ (u .deemed-under .ensures))
 
 step-requires : tie.Need-step-requires
 step-requires c κs =
@@ -52,7 +52,7 @@ step-requires c κs =
     let z = sized u in
     let s = called z in
     let t = s .args .t in
-    sound-enters (t .count) (t .serial) (marksOf t) (t .amounts) (t .modes) (t .needs) (s .pre) (z .before .before .sizes .ensures) (z .before .size .ensures) (z .size2 .ensures) _ _ (u .deemed-under .ensures) (l .look-all .ensures)
+    sound-enters (t .count) (t .serial) (marksOf t) (t .amounts) (t .modes) (t .needs) (t .next) (t .numbers) (s .pre) (z .before .before .sizes .ensures) (z .before .size .ensures) (z .size2 .ensures) _ _ (u .deemed-under .ensures) (l .look-all .ensures)
 
 outcome-of-requires : tie.Need-outcome-of-requires
 outcome-of-requires c κs = search needs

@@ -123,7 +123,7 @@ deemed-under-requires : tie.Need-deemed-under-requires Inv-loop μ-loop
 deemed-under-requires c κs =
     let s = called (c .before .before .before .before) in
     let t = s .args .t in
-    let g = adds-up (t .count) (t .serial) (marksOf t) (t .amounts) (t .modes) (t .needs) (s .pre) in
+    let g = adds-up (t .count) (t .serial) (marksOf t) (t .amounts) (t .modes) (t .needs) (t .next) (t .numbers) (s .pre) in
     (g .0, g .1, refl)
 
 look-all-requires : tie.Need-look-all-requires Inv-loop μ-loop
@@ -132,7 +132,7 @@ look-all-requires c κs =
     let s = called (sized u) in
     let t = s .args .t in
     let h = s .pre in
-    (adds-up (t .count) (t .serial) (marksOf t) (t .amounts) (t .modes) (t .needs) h, looks-up (t .count) (t .serial) (marksOf t) (t .amounts) (t .modes) (t .needs) h _ (u .deemed-under .ensures))
+    (adds-up (t .count) (t .serial) (marksOf t) (t .amounts) (t .modes) (t .needs) (t .next) (t .numbers) h, looks-up (t .count) (t .serial) (marksOf t) (t .amounts) (t .modes) (t .needs) (t .next) (t .numbers) h _ (u .deemed-under .ensures))
 
 starting-requires : tie.Need-starting-requires Inv-loop μ-loop
 starting-requires c κs = search needs
@@ -147,7 +147,7 @@ loop-holds c =
     let t = s .args .t in
     rw (c .starting .ensures) (
       nothing-read (s .args .printing) (turnedBack t) _ (sound← _ (s .pre)) (sym (blanked z .blank .ensures)),
-      sound-enters (t .count) (t .serial) (marksOf t) (t .amounts) (t .modes) (t .needs) (s .pre) (z .before .before .sizes .ensures) (z .before .size .ensures) (z .size2 .ensures) _ _ (u .deemed-under .ensures) (l .look-all .ensures),
+      sound-enters (t .count) (t .serial) (marksOf t) (t .amounts) (t .modes) (t .needs) (t .next) (t .numbers) (s .pre) (z .before .before .sizes .ensures) (z .before .size .ensures) (z .size2 .ensures) _ _ (u .deemed-under .ensures) (l .look-all .ensures),
       length-replicate {A = ℕ} 3200 0,
       length-replicate {A = ℕ} 20480 0,
     )

@@ -37,7 +37,7 @@ deemed-under-requires : tie.Need-deemed-under-requires
 deemed-under-requires c κs =
     let s = called (c .before .before .before .before) in
     let t = s .args .t in
-    let g = adds-up (t .count) (t .serial) (marksOf t) (t .amounts) (t .modes) (t .needs) (s .pre .0) in
+    let g = adds-up (t .count) (t .serial) (marksOf t) (t .amounts) (t .modes) (t .needs) (t .next) (t .numbers) (s .pre .0) in
     (g .0, g .1, refl)
 
 look-all-requires : tie.Need-look-all-requires
@@ -45,7 +45,7 @@ look-all-requires c κs =
     let u = c .before .before .before .before .before in
     let s = called (sized u) in
     let t = s .args .t in
-    (adds-up (t .count) (t .serial) (marksOf t) (t .amounts) (t .modes) (t .needs) (s .pre .0), looks-up (t .count) (t .serial) (marksOf t) (t .amounts) (t .modes) (t .needs) (s .pre .0) _ (u .deemed-under .ensures))
+    (adds-up (t .count) (t .serial) (marksOf t) (t .amounts) (t .modes) (t .needs) (t .next) (t .numbers) (s .pre .0), looks-up (t .count) (t .serial) (marksOf t) (t .amounts) (t .modes) (t .needs) (t .next) (t .numbers) (s .pre .0) _ (u .deemed-under .ensures))
 
 go-requires : tie.Need-go-requires
 go-requires c κs =
@@ -54,7 +54,7 @@ go-requires c κs =
     let z = sized u in
     let s = called z in
     let t = s .args .t in
-    (sound-enters (t .count) (t .serial) (marksOf t) (t .amounts) (t .modes) (t .needs) (s .pre .0) (z .before .before .sizes .ensures) (z .before .size .ensures) (z .size2 .ensures) _ _ (u .deemed-under .ensures) (l .look-all .ensures), s .pre .1)
+    (sound-enters (t .count) (t .serial) (marksOf t) (t .amounts) (t .modes) (t .needs) (t .next) (t .numbers) (s .pre .0) (z .before .before .sizes .ensures) (z .before .size .ensures) (z .size2 .ensures) _ _ (u .deemed-under .ensures) (l .look-all .ensures), s .pre .1)
 
 modes-of-requires : tie.Need-modes-of-requires
 modes-of-requires c κs = search needs

@@ -38,7 +38,7 @@ no-amounts-requires-2 c κs = search needs
 at-slot : {x : Bool} (c : tie.After-mark-at2) →
     let a = c .before .before .before .args in
     let m = marksFrom (a .sort .now) (a .live .now) (a .tm .now) in
-    x ≡ goodRow (a .n) (a .i) (rowIn m (a .w .now) (a .i)) (rowIn m (a .w .now) (c .before .slot .result)) → x ≡ rowSound (bookFrom (a .n) 0 m (a .w .now) [] []) (a .i)
+    x ≡ goodRow (a .n) (a .i) (rowIn m (a .w .now) (a .i)) (rowIn m (a .w .now) (c .before .slot .result)) → x ≡ rowSound (bookFrom (a .n) 0 m (a .w .now) [] [] 0 []) (a .i)
 at-slot c =
     let a = c .before .before .before .args in
     let slot : Slot (getD (a .tm .now) (a .i) 0) (c .before .slot .result) = rw (c .before .before .mark-at .ensures) at (c .before .slot .ensures) in

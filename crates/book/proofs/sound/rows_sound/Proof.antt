@@ -13,13 +13,13 @@ use Rattle.book.proofs.sound.rows_sound.Statement.{statement}
 use Rattle.book.proofs.sound.rows_sound.Tie as tie
 
 abbrev Inv-loop : tie.InvT-loop
-Inv-loop sort live tm w count n ok₀ i₀ ok i = (n ≡ count) × (i ≤ 256) × (ok ≡ all i (rowSound (bookFrom count 0 (marksFrom sort live tm) w [] [])))
+Inv-loop sort live tm w count n ok₀ i₀ ok i = (n ≡ count) × (i ≤ 256) × (ok ≡ all i (rowSound (bookFrom count 0 (marksFrom sort live tm) w [] [] 0 [])))
 
 abbrev μ-loop : tie.MeasureT-loop
 μ-loop sort live tm w count n ok₀ i₀ ok i = 256 - i
 
 abbrev bookOf : tie.Start Inv-loop μ-loop → Book
-bookOf c = bookFrom (c .args .count) 0 (marksFrom (c .args .sort .now) (c .args .live .now) (c .args .tm .now)) (c .args .w .now) [] []
+bookOf c = bookFrom (c .args .count) 0 (marksFrom (c .args .sort .now) (c .args .live .now) (c .args .tm .now)) (c .args .w .now) [] [] 0 []
 
 loop-holds : tie.Need-loop-holds Inv-loop μ-loop
 loop-holds c = (refl, omega arith, sym (all-none (rowSound (bookOf c))))

@@ -1,4 +1,4 @@
--- `book::sound::table_kept` meets its contract: number, rows, modes, kept needs, in this order. Rows that have passed keep the sums behind needs within a word.
+-- `book::sound::table_kept` meets its contract: number, rows, modes, numbers, kept needs, in this order. Rows that have passed keep the sums behind needs within a word.
 use mathlib.Core.Bool.{true, and-false}
 use mathlib.Core.Path.{_≡_, sym, ap, subst, _∙_}
 use Prim.Native.Nat.{_≤_, _<_}
@@ -31,7 +31,7 @@ abbrev marksIn : tie.Start → Marks
 marksIn c = marksFrom (c .args .sort .now) (c .args .live .now) (c .args .tm .now)
 
 abbrev bookOf : tie.Start → Book
-bookOf c = bookFrom (c .args .count) 0 (marksIn c) (c .args .w .now) (c .args .modes .now) (c .args .needs .now)
+bookOf c = bookFrom (c .args .count) 0 (marksIn c) (c .args .w .now) (c .args .modes .now) (c .args .needs .now) (c .args .next) (c .args .numbers)
 
 returns : tie.Need-returns
 unfolding formedB
@@ -48,7 +48,7 @@ rows-sound-requires c κs = search needs
 rows-tested : (c : tie.After-rows-sound) → all 256 (rowSound (bookOf (c .before .before .before))) ≡ c .rows-sound .result
 rows-tested c =
     let start = c .before .before .before in
-    sym (c .rows-sound .ensures ∙ rows-modes (start .args .count) (marksIn start) (start .args .w .now) (start .args .modes .now) (start .args .needs .now))
+    sym (c .rows-sound .ensures ∙ rows-modes (start .args .count) (marksIn start) (start .args .w .now) (start .args .modes .now) (start .args .needs .now) (start .args .next) (start .args .numbers))
 
 returns-3 : tie.Need-returns-3
 unfolding formedB
@@ -64,11 +64,18 @@ rows-hold c = rows-tested (c .before) ∙ not-false _ (c .if3 .left)
 modes-tested : (c : tie.After-modes-sound) → all 256 (modeSound (bookOf (c .before .before .before .before .before))) ≡ c .modes-sound .result
 modes-tested c =
     let start = c .before .before .before .before .before in
-    sym (c .modes-sound .ensures ∙ modes-in-place (start .args .count) (marksIn start) (start .args .w .now) (start .args .modes .now) (start .args .needs .now))
+    sym (c .modes-sound .ensures ∙ modes-in-place (start .args .count) (marksIn start) (start .args .w .now) (start .args .modes .now) (start .args .needs .now) (start .args .next) (start .args .numbers))
 
 returns-4 : tie.Need-returns-4
 unfolding formedB
 returns-4 c = simp (modes-tested (c .before) ∙ not-true _ (c .if4 .taken), and-false)
+
+numbers-sound-requires : tie.Need-numbers-sound-requires
+numbers-sound-requires c κs = search needs
+
+returns-5 : tie.Need-returns-5
+unfolding formedB
+returns-5 c = simp (sym (c .before .numbers-sound .ensures) ∙ not-true _ (c .if5 .taken), and-false)
 
 ranged : (c : tie.Else4) →
     let a = c .before .before .before .before .before .before .args in
@@ -77,7 +84,7 @@ ranged c =
     let past = c .before .before in
     let start = past .before .before .before .before in
     let a = start .args in
-    seen-ranged (a .count) 0 (marksIn start) (a .w .now) (a .modes .now) (a .needs .now)
+    seen-ranged (a .count) 0 (marksIn start) (a .w .now) (a .modes .now) (a .needs .now) (a .next) (a .numbers)
     (rows-ranged (bookOf start) (rows-length (marksIn start) (a .w .now)) (past .before .before .if2 .left) (rows-hold past))
 
 -- the view of the words is the book's
@@ -88,10 +95,11 @@ is-seen : (c : tie.Else4) → seen c ≡ viewBy (c .before .before .before .befo
 is-seen c =
     let start = c .before .before .before .before .before .before in
     let a = start .args in
-    seen-view-by (a .count) 0 (marksIn start) (a .w .now) (a .modes .now) (a .needs .now) (a .rule)
+    seen-view-by (a .count) 0 (marksIn start) (a .w .now) (a .modes .now) (a .needs .now) (a .next) (a .numbers) (a .rule)
 
 needs-kept-requires : tie.Need-needs-kept-requires
-needs-kept-requires c κs =
+needs-kept-requires d κs =
+    let c = d .before .before in
     let rows = c .before .before in
     let start = rows .before .before .before .before in
     let b = bookOf start in
@@ -101,10 +109,11 @@ needs-kept-requires c κs =
     let row = all-at 256 (rowSound b) (rows-hold rows) in
     (ranged c, subst Shaped (sym (is-seen c)) (shaped-by New (start .args .rule) b (shaped-rows b some most table row)), subst NoneBeyond (sym (is-seen c)) (λ i l. ap (λ r. eqb (r .sort) 1) (blank-beyond b some most table row i l)))
 
-returns-5 : tie.Need-returns-5
+returns-6 : tie.Need-returns-6
 unfolding formedB
-returns-5 c =
-    let modes = c .before in
+returns-6 c =
+    let numbers = c .before in
+    let modes = numbers .before .before in
     let rows = modes .before .before in
     let start = rows .before .before .before .before in
     let a = start .args in
@@ -116,6 +125,7 @@ returns-5 c =
       rows-hold rows,
       eq-eqb _ 256 (rows-length m (a .w .now)),
       modes-tested (modes .before) ∙ not-false _ (modes .if4 .left),
+      sym (numbers .before .numbers-sound .ensures) ∙ not-false _ (numbers .if5 .left),
     )
 
 pub table-kept-spec : {M : Type 1} → statement M
@@ -128,5 +138,7 @@ table-kept-spec =
     returns-3
     modes-sound-requires
     returns-4
+    numbers-sound-requires
+    returns-5
     needs-kept-requires
-    returns-5)
+    returns-6)
