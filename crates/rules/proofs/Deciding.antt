@@ -5,14 +5,15 @@ use mathlib.Core.Logic.{_⊎_, inl, inr}
 use mathlib.Core.Path.{_≡_, refl, sym, ap, _∙_}
 use Prim.Native.Nat.{ℕ, zero, suc, _≤_, _<_}
 use native.Mathlib.Omega.{arith}
+use lib.Dec.{leb}
 use borrow.Author.Tests.{leb-false}
 use Rattle.sums.specs.Choice.{pick, unlessRefused}
 use Rattle.sums.specs.Table.{Line, first}
-use Rattle.sums.proofs.Choices.{pick-no}
+use Rattle.sums.proofs.Choices.{pick-no, or-fails}
 use Rattle.sums.proofs.Tables.{From, first-from, first-later}
 use Rattle.rows.specs.declared.Row.{Row}
 use Rattle.rows.specs.declared.Book.{Book}
-use Rattle.rows.specs.Rows.{placeOf, openedRow}
+use Rattle.rows.specs.Rows.{openedRow}
 use Rattle.book.specs.Facts.{Sound}
 use Rattle.book.proofs.SoundTest.{sound←}
 use Rattle.dayfile.specs.declared.Record.{Record}
@@ -33,13 +34,13 @@ no-refusal : (b : Book) (r : Record) → isRefusal (changeOf b r) ≡ 0 → refu
 unfolding changeOf
 no-refusal b r = by (refusalOf b r)
   where
-    by : (n : ℕ) → isRefusal (unlessRefused n (effectOf (namedRow b r) (placeOf b (r .account)) r) Refuse) ≡ 0 → n ≡ 0
+    by : (n : ℕ) → isRefusal (unlessRefused n (effectOf (namedRow b r) (r .account) r) Refuse) ≡ 0 → n ≡ 0
     by zero h = refl
     by (suc n) h = absurd (omega arith)
 
 -- the table past 1
 abbrev rest : Book → Record → List Line
-rest b r = refusalsBy (namedRow b r) (b .count) (b .serial) (besideOf b r) r
+rest b r = refusalsBy (namedRow b r) (b .count) (b .next) (b .serial) (besideOf b r) r
 
 module _ (b : Book) (r : Record) (x : Row) where
   pub put-passes : changeOf b r ≡ Put x → Passes b r
@@ -49,26 +50,31 @@ module _ (b : Book) (r : Record) (x : Row) where
   open-passes e = passes-all b r (no-refusal b r (ap isRefusal e))
 
   -- what is made where no refusal applies
-  pub passes-as : Passes b r → refusalOf b r ≡ 0 → changeOf b r ≡ effectOf (namedRow b r) (placeOf b (r .account)) r
+  pub passes-as : Passes b r → refusalOf b r ≡ 0 → changeOf b r ≡ effectOf (namedRow b r) (r .account) r
   unfolding changeOf
-  passes-as p e = ap (λ n. unlessRefused n (effectOf (namedRow b r) (placeOf b (r .account)) r) Refuse) e
+  passes-as p e = ap (λ n. unlessRefused n (effectOf (namedRow b r) (r .account) r) Refuse) e
 
-  -- an account is opened where there is a number left
-  pub open-below : changeOf b r ≡ Open x → b .count < 256
-  open-below e = by (isOpening r) refl
+  -- an account is opened where a row is left, and a number
+  pub open-left : changeOf b r ≡ Open x → (b .count < 256) × (b .next < 65536)
+  open-left e = by (isOpening r) refl
     where
       p : Passes b r
       p = open-passes e
 
-      by : (t : Bool) → isOpening r ≡ t → b .count < 256
-      by true q = leb-false _ _ (rw q at (p .number))
+      by : (t : Bool) → isOpening r ≡ t → (b .count < 256) × (b .next < 65536)
+      by true q =
+          let h = or-fails (leb 256 (b .count)) (leb 65536 (b .next)) (rw q at (p .number)) in
+          (leb-false _ _ (h .0), leb-false _ _ (h .1))
       by false q = absurd (apart (sym e ∙ passes-as p (no-refusal b r (ap isRefusal e)) ∙ other q))
         where
           apart : Open x ≡ Put (amended (namedRow b r) r) → ⊥
           apart h = let z : _≡_ {A = ℕ} 0 1 = cc in omega arith
 
-          other : isOpening r ≡ false → effectOf (namedRow b r) (placeOf b (r .account)) r ≡ Put (amended (namedRow b r) r)
+          other : isOpening r ≡ false → effectOf (namedRow b r) (r .account) r ≡ Put (amended (namedRow b r) r)
           other h = pick-no (isOpening r) _ _ h
+
+  pub open-below : changeOf b r ≡ Open x → b .count < 256
+  open-below e = open-left e .0
 
 -- the row that is put, or opened
 module _ (b : Book) (r : Record) (x : Row) where
@@ -143,7 +149,7 @@ pub refuse-some : (b : Book) (r : Record) (n : ℕ) → changeOf b r ≡ Refuse 
 unfolding changeOf pick
 refuse-some b r n = by (refusalOf b r)
   where
-    by : (m : ℕ) → unlessRefused m (effectOf (namedRow b r) (placeOf b (r .account)) r) Refuse ≡ Refuse n → n ≡ 0 → ⊥
+    by : (m : ℕ) → unlessRefused m (effectOf (namedRow b r) (r .account) r) Refuse ≡ Refuse n → n ≡ 0 → ⊥
     by zero h z = passes-not (isOpening r) h
       where
         passes-not : (t : Bool) → pick t (Open (openedRow (r .code) (r .account))) (Put (amended (namedRow b r) r)) ≡ Refuse n → ⊥
@@ -155,7 +161,7 @@ pub refuse-number : (b : Book) (r : Record) (n : ℕ) → changeOf b r ≡ Refus
 unfolding changeOf pick
 refuse-number b r n = by (refusalOf b r)
   where
-    by : (m : ℕ) → unlessRefused m (effectOf (namedRow b r) (placeOf b (r .account)) r) Refuse ≡ Refuse n → m ≡ n
+    by : (m : ℕ) → unlessRefused m (effectOf (namedRow b r) (r .account) r) Refuse ≡ Refuse n → m ≡ n
     by zero h = absurd (passes-not (isOpening r) h)
       where
         passes-not : (t : Bool) → pick t (Open (openedRow (r .code) (r .account))) (Put (amended (namedRow b r) r)) ≡ Refuse n → ⊥

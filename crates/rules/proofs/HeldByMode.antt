@@ -26,7 +26,7 @@ module _ (b : Book) (r : Record) where
       ∷ (faults r
       ++ ((7 when not (isLive b (r .account)))
       ∷ (8 when wrongSort (namedRow b r) r)
-      ∷ (9 when noNumberLeft (b .count) r)
+      ∷ (9 when noNumberLeft (b .count) (b .next) r)
       ∷ (10 when pastCeiling (namedRow b r) r)
       ∷ (11 when tooMuch (namedRow b r) r)
       ∷ []))

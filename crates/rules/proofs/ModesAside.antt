@@ -8,7 +8,7 @@ use lib.ListN.{getD}
 use Rattle.sums.specs.Choice.{unlessRefused}
 use Rattle.sums.specs.Table.{first}
 use Rattle.rows.specs.declared.Book.{Book}
-use Rattle.rows.specs.Rows.{modeAt, placeOf, withModes, hasLiveClient}
+use Rattle.rows.specs.Rows.{modeAt, withModes, hasLiveClient}
 use Rattle.book.specs.Facts.{Sound}
 use Rattle.book.proofs.SoundTest.{sound←}
 use Rattle.dayfile.specs.declared.Record.{Record}
@@ -35,4 +35,4 @@ module _ (b : Book) (modes : List Bool) (s : Sound b) (t : Sound (withModes b mo
 
   pub same-change : refusalOf (withModes b modes) r ≡ refusalOf b r → changeOf (withModes b modes) r ≡ changeOf b r
   unfolding changeOf
-  same-change e = ap (λ n. unlessRefused n (effectOf (namedRow b r) (placeOf b (r .account)) r) Refuse) e
+  same-change e = ap (λ n. unlessRefused n (effectOf (namedRow b r) (r .account) r) Refuse) e

@@ -28,7 +28,7 @@ pub record Passes (b : Book) (r : Record) : Type 0 where
   pub account : r .account < b .count
   pub live : namedRow b r .live ≡ true
   pub sort : wrongSort (namedRow b r) r ≡ false
-  pub number : noNumberLeft (b .count) r ≡ false
+  pub number : noNumberLeft (b .count) (b .next) r ≡ false
   pub capped : pastCeiling (namedRow b r) r ≡ false
   pub enough : tooMuch (namedRow b r) r ≡ false
   pub notHeld : heldByMode (modeAt b (r .account)) r ≡ false
@@ -40,11 +40,11 @@ pub passes-all : (b : Book) (r : Record) → refusalOf b r ≡ 0 → Passes b r
 unfolding refusalOf faultOf
 passes-all b r e =
     let f₁ = first-fails 1 (not (soundB b)) _ (omega arith) e in
-    let f₃ = first-fails 3 (not (eqb (r .serial) (b .serial))) (faults r ++ from7 (namedRow b r) (b .count) (besideOf b r) r) (omega arith) (f₁ .1) in
+    let f₃ = first-fails 3 (not (eqb (r .serial) (b .serial))) (faults r ++ from7 (namedRow b r) (b .count) (b .next) (besideOf b r) r) (omega arith) (f₁ .1) in
     let none : first (faults r) ≡ 0 = first-clear (faults r) _ (f₃ .1) in
-    let f₇ = first-fails 7 (not (isLive b (r .account))) _ (omega arith) (sym (first-none (faults r) (from7 (namedRow b r) (b .count) (besideOf b r) r) (three-numbered r) none) ∙ f₃ .1) in
+    let f₇ = first-fails 7 (not (isLive b (r .account))) _ (omega arith) (sym (first-none (faults r) (from7 (namedRow b r) (b .count) (b .next) (besideOf b r) r) (three-numbered r) none) ∙ f₃ .1) in
     let f₈ = first-fails 8 (wrongSort (namedRow b r) r) _ (omega arith) (f₇ .1) in
-    let f₉ = first-fails 9 (noNumberLeft (b .count) r) _ (omega arith) (f₈ .1) in
+    let f₉ = first-fails 9 (noNumberLeft (b .count) (b .next) r) _ (omega arith) (f₈ .1) in
     let f₁₀ = first-fails 10 (pastCeiling (namedRow b r) r) _ (omega arith) (f₉ .1) in
     let f₁₁ = first-fails 11 (tooMuch (namedRow b r) r) _ (omega arith) (f₁₀ .1) in
     let f₁₇ = first-fails 17 (heldByMode (modeAt b (r .account)) r) _ (omega arith) (f₁₁ .1) in

@@ -12,7 +12,7 @@ use Rattle.sums.proofs.Choices.{or-fails, pick-yes, pick-no}
 use Rattle.rows.specs.declared.Row.{Row}
 use Rattle.rows.specs.declared.Book.{Book}
 use Rattle.rows.specs.Facts.{KindsWithin}
-use Rattle.rows.specs.Rows.{placeOf, ceiling, openedRow, withRow, withNew, plusKinds, lessKinds, hasLiveClient}
+use Rattle.rows.specs.Rows.{ceiling, openedRow, withRow, withNew, plusKinds, lessKinds, hasLiveClient}
 use Rattle.rows.specs.Ranges.{kindsCapped, kindsWithin, noAmounts}
 use Rattle.book.specs.Facts.{SoundRows, Sound}
 use Rattle.book.proofs.RowFacts.{within→, capped→}
@@ -22,7 +22,7 @@ use Rattle.book.proofs.Settled.{sound-rows, settled-sound}
 use Rattle.dayfile.specs.declared.Record.{Record}
 use Rattle.rules.specs.declared.Change.{Change}
 use Rattle.rules.specs.declared.Change.the-variants.{Refuse, Put, Open}
-use Rattle.rules.specs.Refusals.{isOpening, namedRow, rowLeft, leftBelow, needPasses, newMargin, refusalOf}
+use Rattle.rules.specs.Refusals.{isOpening, noneLeft, namedRow, rowLeft, leftBelow, needPasses, newMargin, refusalOf}
 use Rattle.rules.specs.Effects.{amended, effectOf, changeOf, nextSerial, movedOn, changedBy, bookAfter}
 use Rattle.rules.proofs.Faults.{amounts-in}
 use Rattle.rules.proofs.Codes.{Code, openTM, openClient, openCP, receive, handBack, allocate, release, pledge, unpledge, margin, retire, setPledged, setMargin, known-code-cases}
@@ -113,26 +113,26 @@ module _ (b : Book) (r : Record) (p : Passes b r) where
       (no-live-client b (r .account) (or-fails (not (noAmounts row)) (hasLiveClient b (r .account)) h .1)))
 
   -- an opening: the code's sort, a number left, and a TM or the CM named
-  opens : (r .code ≡ 1) ⊎ ((r .code ≡ 2) ⊎ (r .code ≡ 3)) → leb 256 (b .count) ≡ false → (r .code ≡ 2 → row .sort ≡ 1)
+  opens : (r .code ≡ 1) ⊎ ((r .code ≡ 2) ⊎ (r .code ≡ 3)) → noneLeft (b .count) (b .next) ≡ false → (r .code ≡ 2 → row .sort ≡ 1)
       → ((r .code ≡ 2 → ⊥) → row .sort ≡ 0) → SoundRows (withNew b (openedRow (r .code) (r .account)))
   opens c n tm cm =
-      open-sound b (p .sound) (r .code) (r .account) (leb-false _ _ n) c (λ e. (p .account, tm e, p .live)) (λ ne. cm-named (cm ne))
+      open-sound b (p .sound) (r .code) (r .account) (leb-false _ _ (or-fails (leb 256 (b .count)) (leb 65536 (b .next)) n .0)) (leb-false _ _ (or-fails (leb 256 (b .count)) (leb 65536 (b .next)) n .1)) c (λ e. (p .account, tm e, p .live)) (λ ne. cm-named (cm ne))
 
   opens-TM : r .code ≡ 1 → SoundRows (withNew b (openedRow (r .code) (r .account)))
   opens-TM e =
-      let n : leb 256 (b .count) ≡ false = rw e at (p .number) in
+      let n : noneLeft (b .count) (b .next) ≡ false = rw e at (p .number) in
       let h : (not (eqb (row .sort) 0) || false || false) ≡ false = rw e at (p .sort) in
       opens (inl e) n (λ q. absurd (omega arith)) (λ q. eqb-true _ _ (not-false _ (or-fails _ _ (or-fails _ _ h .0) .0)))
 
   opens-CP : r .code ≡ 3 → SoundRows (withNew b (openedRow (r .code) (r .account)))
   opens-CP e =
-      let n : leb 256 (b .count) ≡ false = rw e at (p .number) in
+      let n : noneLeft (b .count) (b .next) ≡ false = rw e at (p .number) in
       let h : (not (eqb (row .sort) 0) || false || false) ≡ false = rw e at (p .sort) in
       opens (inr (inr e)) n (λ q. absurd (omega arith)) (λ q. eqb-true _ _ (not-false _ (or-fails _ _ (or-fails _ _ h .0) .0)))
 
   opens-client : r .code ≡ 2 → SoundRows (withNew b (openedRow (r .code) (r .account)))
   opens-client e =
-      let n : leb 256 (b .count) ≡ false = rw e at (p .number) in
+      let n : noneLeft (b .count) (b .next) ≡ false = rw e at (p .number) in
       let h : (not (eqb (row .sort) 1) || false) ≡ false = rw e at (p .sort) in
       opens (inr (inl e)) n (λ q. eqb-true _ _ (not-false _ (or-fails _ _ h .0))) (λ q. absurd (q e))
 
@@ -175,7 +175,7 @@ pub change-rows : (b : Book) (r : Record) → Sound b → SoundRows (changedBy b
 unfolding changeOf
 change-rows b r s = moved-rows b r (changeOf b r) (sound-rows b s) (by (refusalOf b r) refl)
   where
-    by : (n : ℕ) → refusalOf b r ≡ n → SoundRows (rowsAfter b r (unlessRefused n (effectOf (namedRow b r) (placeOf b (r .account)) r) Refuse))
+    by : (n : ℕ) → refusalOf b r ≡ n → SoundRows (rowsAfter b r (unlessRefused n (effectOf (namedRow b r) (r .account) r) Refuse))
     by zero e = passing-sound b r (passes-all b r e)
     by (suc n) e = sound-rows b s
 

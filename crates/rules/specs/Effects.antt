@@ -5,7 +5,7 @@ use lib.Dec.{leb, eqb}
 use Rattle.sums.specs.Choice.{pick, unlessRefused}
 use Rattle.rows.specs.declared.Row.{Row}
 use Rattle.rows.specs.declared.Book.{Book}
-use Rattle.rows.specs.Rows.{openedRow, withLive, withReceived, withAllocated, withPledged, withMargin, placeOf, withSerial, withRow, withNew, plusKinds, lessKinds}
+use Rattle.rows.specs.Rows.{openedRow, withLive, withReceived, withAllocated, withPledged, withMargin, withSerial, withRow, withNew, plusKinds, lessKinds}
 use Rattle.rows.specs.KeptNeeds.{settled}
 use Rattle.dayfile.specs.declared.Record.{Record}
 use Rattle.rules.specs.declared.Change.{Change}
@@ -34,7 +34,7 @@ effectOf row place r = pick (isOpening r) (Open (openedRow (r .code) place)) (Pu
 
 -- what a record does: its refusal, or its effect
 unfoldable pub changeOf : Book → Record → Change
-changeOf b r = unlessRefused (refusalOf b r) (effectOf (namedRow b r) (placeOf b (r .account)) r) Refuse
+changeOf b r = unlessRefused (refusalOf b r) (effectOf (namedRow b r) (r .account) r) Refuse
 
 -- "the serial after 65,535 is 0"
 abbrev pub nextSerial : ℕ → ℕ

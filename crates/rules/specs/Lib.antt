@@ -1,3 +1,4 @@
 pub mod Refusals
 pub mod Effects
+pub mod Numbered
 pub mod Inner

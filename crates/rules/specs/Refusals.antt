@@ -1,4 +1,5 @@
--- Document 01, 'Refusal numbers, in order of checking': the table, for a record at a book; with document 02, K5: its 17; K6: its 13; K7: its 12.
+-- Document 01, 'Refusal numbers, in order of checking': the table, for a record at a book; with document 02, K5: its 17; K6: its 13; K7: its 12; K11: its 9.
+-- Here a record's account is told by the place of its row: which row a number names is said once, in Numbered.
 use mathlib.Core.Bool.{Bool, not, _&&_, _||_}
 use mathlib.Core.List.{List, [], _∷_, _++_}
 use Prim.Native.Nat.{ℕ, _+_, _-_}
@@ -8,7 +9,7 @@ use Rattle.sums.specs.Table.{Line, _when_, first}
 use Rattle.rows.specs.declared.Row.{Row}
 use Rattle.rows.specs.declared.Book.{Book}
 use Rattle.rows.specs.View.{View, needCM, blocked}
-use Rattle.rows.specs.Rows.{ceiling, rowAt, modeAt, placeOf, collateral, view, withRow, withAllocated, withPledged, withMargin, plusKinds, lessKinds, hasLiveClient, isLive}
+use Rattle.rows.specs.Rows.{ceiling, rowAt, modeAt, collateral, view, withRow, withAllocated, withPledged, withMargin, plusKinds, lessKinds, hasLiveClient, isLive}
 use Rattle.rows.specs.Ranges.{kindsCapped, kindsWithin, noAmounts}
 use Rattle.book.specs.Sound.{soundB}
 use Rattle.dayfile.specs.declared.Record.{Record}
@@ -21,7 +22,7 @@ isOpening r = leb 1 (r .code) && leb (r .code) 3
 
 -- the row of the account named
 abbrev pub namedRow : Book → Record → Row
-namedRow b r = rowAt b (placeOf b (r .account))
+namedRow b r = rowAt b (r .account)
 
 -- "8: opening: the account named is of the wrong sort; retiring: account 0". Opening a TM or a CP names the CM, opening a
 -- client its TM; an account that is not live was refused with 7 before. Behind refusal 1 only account 0 has the CM's sort.
@@ -31,9 +32,12 @@ wrongSort row r =
     || eqb (r .code) 2 && not (eqb (row .sort) 1)
     || eqb (r .code) 11 && eqb (r .account) 0
 
--- "9: opening with 256 numbers given"
-abbrev pub noNumberLeft : ℕ → Record → Bool
-noNumberLeft count r = isOpening r && leb 256 count
+-- document 02, K11: "9 now means 256 rows held or every number given", for an opening
+abbrev pub noneLeft : ℕ → ℕ → Bool
+noneLeft count next = leb 256 count || leb 65536 next
+
+abbrev pub noNumberLeft : ℕ → ℕ → Record → Bool
+noNumberLeft count next r = isOpening r && noneLeft count next
 
 -- "10: receive or pledge would carry an amount past the ceiling"
 abbrev pub pastCeiling : Row → Record → Bool
@@ -72,7 +76,7 @@ needPasses v = ltb (v .collateral 0) (needCM v)
 
 -- the book with the new margin of the account named
 abbrev pub newMargin : Book → Record → Book
-newMargin b r = withRow b (placeOf b (r .account)) (withMargin (namedRow b r) (r .margin))
+newMargin b r = withRow b (r .account) (withMargin (namedRow b r) (r .margin))
 
 -- "13: after a rising margin the CM's need would pass its collateral" (document 02, K6: "Document 01's line for 13 reads "a rising margin" from here on.")
 abbrev pub losesCover : Row → Bool → Record → Bool
@@ -86,14 +90,14 @@ notRetirable row liveClient r = eqb (r .code) 11 && (not (noAmounts row) || live
 -- whether the account has a live client
 abbrev pub besideOf : Book → Record → Beside
 besideOf b r = record {
-  mode = modeAt b (placeOf b (r .account));
-  below = leftBelow (namedRow b r) (blocked (view b) (placeOf b (r .account))) r;
+  mode = modeAt b (r .account);
+  below = leftBelow (namedRow b r) (blocked (view b) (r .account)) r;
   passes = needPasses (view (newMargin b r));
-  client = hasLiveClient b (placeOf b (r .account));
+  client = hasLiveClient b (r .account);
 }
 
 -- The table for a record, past 1: first the lines that ask of the book only its next serial and whether the account named is live ("7: the account is not live, or its number was
--- never given"); 4, 5, 6 are the record's faults.
+-- never given": a number that no row held has tells the place behind the last row); 4, 5, 6 are the record's faults.
 abbrev pub before8 : Bool → ℕ → Record → List Line
 before8 alive serial r =
     (3 when not (eqb (r .serial) serial))
@@ -101,11 +105,11 @@ before8 alive serial r =
     ++ ((7 when not alive)
     ∷ []))
 
--- then those by the row of that account, the number of accounts, and what stands beside the row
-abbrev pub from8 : Row → ℕ → Beside → Record → List Line
-from8 row count beside r =
+-- then those by the row of that account, the number of rows, the next number, and what stands beside the row
+abbrev pub from8 : Row → ℕ → ℕ → Beside → Record → List Line
+from8 row count next beside r =
     (8 when wrongSort row r)
-    ∷ (9 when noNumberLeft count r)
+    ∷ (9 when noNumberLeft count next r)
     ∷ (10 when pastCeiling row r)
     ∷ (11 when tooMuch row r)
     ∷ (17 when heldByMode (beside .mode) r)
@@ -119,7 +123,7 @@ abbrev pub refusals : Book → Record → List Line
 refusals b r =
     (1 when not (soundB b))
     ∷ (before8 (isLive b (r .account)) (b .serial) r
-    ++ from8 (namedRow b r) (b .count) (besideOf b r) r)
+    ++ from8 (namedRow b r) (b .count) (b .next) (besideOf b r) r)
 
 -- the first that applies, or 0
 unfoldable pub refusalOf : Book → Record → ℕ
