@@ -46,36 +46,36 @@ module _ (count : ℕ) (m : Marks) (w under : List ℕ) (on : Bool) (r : Record)
 
   module _ {k : ℕ} {u : List ℕ} where
     pub receive-answered : r .code ≡ 4 → Receives m w (r .account) (r .kinds) k u → Answered count m w under on r k m u
-    receive-answered e h = as-amended (by-receive row r e) (receive-own row count (besideIn count m w under on r) r e) h
+    receive-answered e h = as-amended (by-receive row r e) (receive-own row count 0 (besideIn count m w under on r) r e) h
 
     pub hands-back : r .code ≡ 5 → HandsBack m w (r .account) (r .kinds) k u → Answered count m w under on r k m u
-    hands-back e h = as-amended (by-hand-back row r e) (left-own row count (besideIn count m w under on r) r (inl e)) h
+    hands-back e h = as-amended (by-hand-back row r e) (left-own row count 0 (besideIn count m w under on r) r (inl e)) h
 
     pub allocate-answered : r .code ≡ 6 → Allocates m w (r .account) (r .kinds) k u → Answered count m w under on r k m u
-    allocate-answered e h = as-amended (by-allocate row r e) (left-own row count (besideIn count m w under on r) r (inr e)) h
+    allocate-answered e h = as-amended (by-allocate row r e) (left-own row count 0 (besideIn count m w under on r) r (inr e)) h
 
     pub release-answered : r .code ≡ 7 → Releases m w under on (r .account) (r .kinds) k u → Answered count m w under on r k m u
     release-answered e h = as-amended (by-release row r e)
-        (release-own row count (besideIn count m w under on r) r e ∙ ap (λ x. first (releaseLines row on (leavesBelow row x (getD under (r .account) 0)) (r .kinds))) (pick-yes _ _ _ (eq-eqb _ _ e))) h
+        (release-own row count 0 (besideIn count m w under on r) r e ∙ ap (λ x. first (releaseLines row on (leavesBelow row x (getD under (r .account) 0)) (r .kinds))) (pick-yes _ _ _ (eq-eqb _ _ e))) h
 
     pub pledge-answered : r .code ≡ 8 → Pledges m w (r .account) (r .pledged) k u → Answered count m w under on r k m u
-    pledge-answered e h = as-amended (by-pledge row r e) (pledge-own row count (besideIn count m w under on r) r e) h
+    pledge-answered e h = as-amended (by-pledge row r e) (pledge-own row count 0 (besideIn count m w under on r) r e) h
 
     pub unpledge-answered : r .code ≡ 9 → Unpledges m w under on (r .account) (r .pledged) k u → Answered count m w under on r k m u
     unpledge-answered e h = as-amended (by-unpledge row r e)
-        (unpledge-own row count (besideIn count m w under on r) r e ∙ ap (λ x. first (unpledgeLines row on (leavesBelow row x (getD under (r .account) 0)) (r .pledged))) (pick-no _ _ _ (rw e))) h
+        (unpledge-own row count 0 (besideIn count m w under on r) r e ∙ ap (λ x. first (unpledgeLines row on (leavesBelow row x (getD under (r .account) 0)) (r .pledged))) (pick-no _ _ _ (rw e))) h
 
     pub sets-margin : r .code ≡ 10 → r .margin ≤ ceiling → SetsMargin m w under (r .account) (r .margin) k u → Answered count m w under on r k m u
     sets-margin e l h =
         let q : blockedOf (r .margin) ceiling ≡ r .margin = omega arith in
         as-amended (by-margin row r e)
-        (margin-own row count (besideIn count m w under on r) r e ∙ ap (λ y. first (marginLines row (r .margin) (needPassesIn m w under (r .account) y))) q) h
+        (margin-own row count 0 (besideIn count m w under on r) r e ∙ ap (λ y. first (marginLines row (r .margin) (needPassesIn m w under (r .account) y))) q) h
 
     pub sets-pledged : r .code ≡ 12 → SetsPledged m w (r .account) (r .pledged) k u → Answered count m w under on r k m u
-    sets-pledged e h = as-amended (by-set-pledged row r e) (none-own row count (besideIn count m w under on r) r (inl e)) h
+    sets-pledged e h = as-amended (by-set-pledged row r e) (none-own row count 0 (besideIn count m w under on r) r (inl e)) h
 
     pub revises-margin : r .code ≡ 13 → RevisesMargin m w (r .account) (r .margin) k u → Answered count m w under on r k m u
-    revises-margin e h = as-amended (by-set-margin row r e) (none-own row count (besideIn count m w under on r) r (inr e)) h
+    revises-margin e h = as-amended (by-set-margin row r e) (none-own row count 0 (besideIn count m w under on r) r (inr e)) h
 
   pub retire-answered : {k : ℕ} {n : Marks} → r .code ≡ 11 → Retires m w count (r .account) k n → Answered count m w under on r k n w
-  retire-answered e h = as-amended (by-retire row r e) (retire-own row count (besideIn count m w under on r) r e) h
+  retire-answered e h = as-amended (by-retire row r e) (retire-own row count 0 (besideIn count m w under on r) r e) h

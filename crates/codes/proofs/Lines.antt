@@ -14,7 +14,7 @@ use Rattle.dayfile.specs.declared.Record.{Record}
 use Rattle.dayfile.specs.Records.{faults, faultOf}
 use Rattle.dayfile.proofs.Good.{past-faults}
 use Rattle.rules.specs.declared.Beside.{Beside}
-use Rattle.rules.specs.Refusals.{from8}
+use Rattle.rules.specs.Refusals.{isOpening, from8}
 use Rattle.codes.specs.Own.{earlyNumber, openLines, receiveLines, leftLines, releaseLines, pledgeLines, unpledgeLines, marginLines, retireLines}
 
 -- with the serial that is due and no fault, only 7 is left before 8
@@ -36,47 +36,51 @@ or-false : (t : Bool) → (t || false) ≡ t
 or-false true = refl
 or-false false = refl
 
-module _ (row : Row) (count : ℕ) (beside : Beside) (r : Record) where
+module _ (row : Row) (count next : ℕ) (beside : Beside) (r : Record) where
   -- THE LAW: each line's test begins with its codes, so the code decides which lines are left
-  own : (k : ℕ) → r .code ≡ k → first (from8 row count beside r) ≡ first (from8 row count beside (coded r k))
-  own k e = ap (λ n. first (from8 row count beside (coded r n))) e
+  own : (k : ℕ) → r .code ≡ k → first (from8 row count next beside r) ≡ first (from8 row count next beside (coded r k))
+  own k e = ap (λ n. first (from8 row count next beside (coded r n))) e
 
-  pub receive-own : r .code ≡ 4 → first (from8 row count beside r) ≡ first (receiveLines row (r .kinds))
+  pub receive-own : r .code ≡ 4 → first (from8 row count next beside r) ≡ first (receiveLines row (r .kinds))
   unfolding first pick
   receive-own e = own 4 e ∙ simp or-false
 
-  pub left-own : (r .code ≡ 5) ⊎ (r .code ≡ 6) → first (from8 row count beside r) ≡ first (leftLines row (r .kinds))
+  pub left-own : (r .code ≡ 5) ⊎ (r .code ≡ 6) → first (from8 row count next beside r) ≡ first (leftLines row (r .kinds))
   unfolding first pick
   left-own (inl e) = own 5 e ∙ simp or-false
   left-own (inr e) = own 6 e ∙ simp or-false
 
-  pub release-own : r .code ≡ 7 → first (from8 row count beside r) ≡ first (releaseLines row (beside .mode) (beside .below) (r .kinds))
+  pub release-own : r .code ≡ 7 → first (from8 row count next beside r) ≡ first (releaseLines row (beside .mode) (beside .below) (r .kinds))
   unfolding first pick
   release-own e = own 7 e ∙ simp or-false
 
-  pub pledge-own : r .code ≡ 8 → first (from8 row count beside r) ≡ first (pledgeLines row (r .pledged))
+  pub pledge-own : r .code ≡ 8 → first (from8 row count next beside r) ≡ first (pledgeLines row (r .pledged))
   unfolding first pick
   pledge-own e = own 8 e
 
-  pub unpledge-own : r .code ≡ 9 → first (from8 row count beside r) ≡ first (unpledgeLines row (beside .mode) (beside .below) (r .pledged))
+  pub unpledge-own : r .code ≡ 9 → first (from8 row count next beside r) ≡ first (unpledgeLines row (beside .mode) (beside .below) (r .pledged))
   unfolding first pick
   unpledge-own e = own 9 e
 
-  pub margin-own : r .code ≡ 10 → first (from8 row count beside r) ≡ first (marginLines row (r .margin) (beside .passes))
+  pub margin-own : r .code ≡ 10 → first (from8 row count next beside r) ≡ first (marginLines row (r .margin) (beside .passes))
   unfolding first pick
   margin-own e = own 10 e
 
-  pub none-own : (r .code ≡ 12) ⊎ (r .code ≡ 13) → first (from8 row count beside r) ≡ first []
+  pub none-own : (r .code ≡ 12) ⊎ (r .code ≡ 13) → first (from8 row count next beside r) ≡ first []
   unfolding first pick
   none-own (inl e) = own 12 e
   none-own (inr e) = own 13 e
 
-  pub retire-own : r .code ≡ 11 → first (from8 row count beside r) ≡ first (retireLines row (r .account) (beside .client))
+  pub retire-own : r .code ≡ 11 → first (from8 row count next beside r) ≡ first (retireLines row (r .account) (beside .client))
   unfolding first pick
   retire-own e = own 11 e
 
-  pub open-own : (r .code ≡ 1) ⊎ ((r .code ≡ 2) ⊎ (r .code ≡ 3)) → first (from8 row count beside r) ≡ first (openLines row (r .code) count)
+  pub open-own : (r .code ≡ 1) ⊎ ((r .code ≡ 2) ⊎ (r .code ≡ 3)) → first (from8 row count next beside r) ≡ first (openLines row (r .code) count next)
   unfolding first pick
   open-own (inl e) = own 1 e ∙ rw e (simp or-false)
   open-own (inr (inl e)) = own 2 e ∙ rw e (simp or-false)
   open-own (inr (inr e)) = own 3 e ∙ rw e (simp or-false)
+
+  -- a record that is no opening doesn't look at the next number
+  pub next-aside : isOpening r ≡ false → (n : ℕ) → first (from8 row count n beside r) ≡ first (from8 row count next beside r)
+  next-aside e n = rw e refl

@@ -19,7 +19,7 @@ use Rattle.rows.specs.DeemedUnder.{atMargin, deemedUnderTM, deemedUnderCM, deem
 use Rattle.dayfile.specs.declared.Record.{Record}
 use Rattle.dayfile.specs.Records.{knownCode}
 use Rattle.rules.specs.declared.Beside.{Beside}
-use Rattle.rules.specs.Refusals.{rowLeft, before8, from8}
+use Rattle.rules.specs.Refusals.{noneLeft, rowLeft, before8, from8}
 use Rattle.rules.specs.Effects.{amended}
 use Rattle.rules.specs.Inner.{AmountsIn, topMargin, besideBy}
 use Rattle.table.specs.Words.{Marks, rowIn, wordAt}
@@ -36,8 +36,8 @@ abbrev pub aliveIn : List Bool → ℕ → ℕ → Bool
 aliveIn live count a = ltb a count && getD live a false
 
 -- Of the lines from 8 on, those that each code can meet, by the words that it names: laws of codes.Lines say that they are the table's. First openings (1, 2, 3).
-abbrev pub openLines : Row → ℕ → ℕ → List Line
-openLines row code count = (8 when not (eqb (row .sort) (pick (eqb code 2) 1 0))) ∷ (9 when leb 256 count) ∷ []
+abbrev pub openLines : Row → ℕ → ℕ → ℕ → List Line
+openLines row code count next = (8 when not (eqb (row .sort) (pick (eqb code 2) 1 0))) ∷ (9 when noneLeft count next) ∷ []
 
 -- receive (4)
 abbrev pub receiveLines : Row → Kinds → List Line
@@ -130,8 +130,8 @@ pub record Answers (m : Marks) (w : List ℕ) (i : ℕ) (x : Row) (own : List Li
   pub stays : (k ≡ 0 → ⊥) → (n ≡ m) × (u ≡ w)
 
 -- each code's function
-abbrev pub Opens : Marks → List ℕ → ℕ → ℕ → ℕ → ℕ → Marks → List ℕ → Type 0
-Opens m w count code a = Answers m w count (openedRow code a) (openLines (rowIn m w a) code count)
+abbrev pub Opens : Marks → List ℕ → ℕ → ℕ → ℕ → ℕ → ℕ → Marks → List ℕ → Type 0
+Opens m w count next code a = Answers m w count (openedRow code a) (openLines (rowIn m w a) code count next)
 
 abbrev pub Receives : Marks → List ℕ → ℕ → Kinds → ℕ → List ℕ → Type 0
 Receives m w i k x = Answers m w i (withReceived (rowIn m w i) (plusKinds (rowIn m w i .received) k)) (receiveLines (rowIn m w i) k) x m
@@ -169,10 +169,11 @@ RevisesMargin m w i y x = Answers m w i (withMargin (rowIn m w i) y) [] x m
 abbrev pub Retires : Marks → List ℕ → ℕ → ℕ → ℕ → Marks → Type 0
 Retires m w count i x n = Answers m w i (withLive (rowIn m w i) false) (retireLines (rowIn m w i) i (hasLiveClientIn m count i)) x n w
 
--- the table's answer to a record that is no opening and passed the lines before 8, whichever its code, where the account's mode is on or off
+-- the table's answer to a record that is no opening, which no next number changes, and passed the lines before 8, whichever its code, where the account's mode
+-- is on or off
 abbrev pub Answered : ℕ → Marks → List ℕ → List ℕ → Bool → Record → ℕ → Marks → List ℕ → Type 0
 Answered count m w under on r =
-    Answers m w (r .account) (amended (rowIn m w (r .account)) r) (from8 (rowIn m w (r .account)) count (besideIn count m w under on r) r)
+    Answers m w (r .account) (amended (rowIn m w (r .account)) r) (from8 (rowIn m w (r .account)) count 0 (besideIn count m w under on r) r)
 
 -- such a record
 pub record Amending (count : ℕ) (m : Marks) (w under : List ℕ) (r : Record) : Type 0 where

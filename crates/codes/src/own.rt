@@ -8,6 +8,7 @@ ghost use Rattle.sums.specs.Choice.{pick};
 ghost use lib.Dec.{eqb};
 ghost use lib.ListN.{getD};
 ghost use Rattle.sums.specs.Table.{first};
+ghost use Rattle.rules.specs.Refusals.{noneLeft};
 ghost use Rattle.table.specs.Words.{marksFrom, rowIn};
 ghost use Rattle.table.specs.Facts.{Sized};
 ghost use Rattle.codes.specs.Own.{leavesBelow, takingLines, hasLiveClientIn, deemedUnderIn, needPassesIn, Held, Opens, Receives, HandsBack, Allocates, Releases, Pledges, Unpledges, SetsMargin, SetsPledged, RevisesMargin, Retires};
@@ -41,6 +42,13 @@ fn wanted(code: u8) -> u8
     if code == 2 { 1 } else { 0 }
 }
 
+// No row is left, or no number (K11).
+fn none_left(count: u16, next: u32) -> bool
+    ensures { λ x. ⌜ x ≡ noneLeft count next ⌝ }
+{
+    (256 <= count) | (65536 <= next)
+}
+
 // 1, 2, 3
 pub fn open(
     sort: &mut [u8; 256],
@@ -48,17 +56,18 @@ pub fn open(
     tm: &mut [u16; 256],
     w: &mut [u64; 2560],
     count: u16,
+    next: u32,
     code: u8,
     a: u16,
 ) -> u8
     requires { ⌜ Sized (marksFrom (now sort) (now live) (now tm)) (now w) × (a < 256) ⌝ }
-    ensures { λ x. ⌜ Opens (marksFrom (now (sort .entry)) (now (live .entry)) (now (tm .entry))) (now (w .entry)) count code a x (marksFrom (now (sort .exit)) (now (live .exit)) (now (tm .exit))) (now (w .exit)) ⌝ }
+    ensures { λ x. ⌜ Opens (marksFrom (now (sort .entry)) (now (live .entry)) (now (tm .entry))) (now (w .entry)) count next code a x (marksFrom (now (sort .exit)) (now (live .exit)) (now (tm .exit))) (now (w .exit)) ⌝ }
 {
     let its = sort[a as usize];
     if its != wanted(code) {
         return 8;
     }
-    if 256 <= count {
+    if none_left(count, next) {
         return 9;
     }
     put_row(sort, live, tm, w, count as usize, opened_row(code, a));
