@@ -4,7 +4,7 @@ use mathlib.Core.List.{List, [], _∷_}
 use mathlib.Core.Path.{_≡_}
 use Prim.Native.Nat.{ℕ, _+_, _-_, _≤_, _<_}
 use lib.Dec.{eqb, leb, ltb}
-use lib.ListN.{getD}
+use lib.ListN.{getD, set}
 use Rattle.sums.specs.Choice.{pick}
 use Rattle.sums.specs.Sum.{any}
 use Rattle.sums.specs.Table.{Line, _when_, first}
@@ -132,6 +132,10 @@ pub record Answers (m : Marks) (w : List ℕ) (i : ℕ) (x : Row) (own : List Li
 -- each code's function
 abbrev pub Opens : Marks → List ℕ → ℕ → ℕ → ℕ → ℕ → ℕ → Marks → List ℕ → Type 0
 Opens m w count next code a = Answers m w count (openedRow code a) (openLines (rowIn m w a) code count next)
+
+-- K11, "Numbers are kept with their rows": those after an opening that came to k
+abbrev pub numbersWith : ℕ → ℕ → ℕ → List ℕ → List ℕ
+numbersWith k count next numbers = pick (eqb k 0) (set numbers count next) numbers
 
 abbrev pub Receives : Marks → List ℕ → ℕ → Kinds → ℕ → List ℕ → Type 0
 Receives m w i k x = Answers m w i (withReceived (rowIn m w i) (plusKinds (rowIn m w i .received) k)) (receiveLines (rowIn m w i) k) x m

@@ -11,7 +11,7 @@ ghost use Rattle.sums.specs.Table.{first};
 ghost use Rattle.rules.specs.Refusals.{noneLeft};
 ghost use Rattle.table.specs.Words.{marksFrom, rowIn};
 ghost use Rattle.table.specs.Facts.{Sized};
-ghost use Rattle.codes.specs.Own.{leavesBelow, takingLines, hasLiveClientIn, deemedUnderIn, needPassesIn, Held, Opens, Receives, HandsBack, Allocates, Releases, Pledges, Unpledges, SetsMargin, SetsPledged, RevisesMargin, Retires};
+ghost use Rattle.codes.specs.Own.{leavesBelow, takingLines, hasLiveClientIn, deemedUnderIn, needPassesIn, Held, Opens, numbersWith, Receives, HandsBack, Allocates, Releases, Pledges, Unpledges, SetsMargin, SetsPledged, RevisesMargin, Retires};
 use crate::settling::deemed_under_after_at;
 use crate::settling::deemed_under_at;
 use crate::settling::need_passes_with;
@@ -55,13 +55,14 @@ pub fn open(
     live: &mut [bool; 256],
     tm: &mut [u16; 256],
     w: &mut [u64; 2560],
+    numbers: &mut [u16; 256],
     count: u16,
     next: u32,
     code: u8,
     a: u16,
 ) -> u8
     requires { ⌜ Sized (marksFrom (now sort) (now live) (now tm)) (now w) × (a < 256) ⌝ }
-    ensures { λ x. ⌜ Opens (marksFrom (now (sort .entry)) (now (live .entry)) (now (tm .entry))) (now (w .entry)) count next code a x (marksFrom (now (sort .exit)) (now (live .exit)) (now (tm .exit))) (now (w .exit)) ⌝ }
+    ensures { λ x. ⌜ Opens (marksFrom (now (sort .entry)) (now (live .entry)) (now (tm .entry))) (now (w .entry)) count next code a x (marksFrom (now (sort .exit)) (now (live .exit)) (now (tm .exit))) (now (w .exit)) × (now (numbers .exit) ≡ numbersWith x count next (now (numbers .entry))) ⌝ }
 {
     let its = sort[a as usize];
     if its != wanted(code) {
@@ -71,6 +72,7 @@ pub fn open(
         return 9;
     }
     put_row(sort, live, tm, w, count as usize, opened_row(code, a));
+    numbers[count as usize] = next as u16;
     0
 }
 
