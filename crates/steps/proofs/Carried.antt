@@ -7,7 +7,7 @@ use Prim.Native.Nat.{ℕ, zero, suc, _+_, _≤_, _<_}
 use native.Mathlib.Omega.{arith}
 use native.Mathlib.Decide.{ℕ-discrete, decLt}
 use lib.Dec.{eqb, ltb, leb}
-use lib.ListN.{getD}
+use lib.ListN.{getD, set}
 use borrow.Author.Tests.{ltb-true, le-ltb, leb-true, le-leb, lt-leb, not-false, eq-eqb, ne-eqb}
 use Rattle.sums.specs.Choice.{pick, unlessRefused}
 use Rattle.sums.specs.Sum.{any}
@@ -41,8 +41,8 @@ use Rattle.table.specs.Words.{Marks, wordAt, rowIn, bookFrom}
 use Rattle.table.proofs.Gathered.{row-in}
 use Rattle.table.specs.Inner.{Anew}
 use Rattle.steps.specs.Steps.{Ready, Decided, stayed, wentOn, goneWith}
-use Rattle.codes.specs.Own.{earlyNumber, aliveIn, clientIn, hasLiveClientIn, deemedUnderIn, besideIn, Held, Answered, Opens, Amending}
-use Rattle.codes.proofs.Lines.{open-own}
+use Rattle.codes.specs.Own.{earlyNumber, aliveIn, clientIn, hasLiveClientIn, deemedUnderIn, besideIn, Held, Answered, Opens, numbersWith, Amending}
+use Rattle.codes.proofs.Lines.{open-own, next-aside}
 
 -- ---- which codes open
 which-opening : (n : ℕ) → (leb 1 n && leb n 3) ≡ true → (n ≡ 1) ⊎ ((n ≡ 2) ⊎ (n ≡ 3))
@@ -60,11 +60,11 @@ not-opening n e f = by (decLt 3 n)
     by (yes l) = omega arith
     by (no l) = test-clash (and-join (and-split (leb 1 n) (leb n 13) e .0) (le-leb n 3 (omega arith))) f
 
-serial-picked : (count serial : ℕ) (m : Marks) (w : List ℕ) (modes : List Bool) (needs : List ℕ) (t : Bool)
-    → bookFrom count (pick t serial (nextSerial serial)) m w modes needs ≡ pick t (bookFrom count serial m w modes needs) (bookFrom count (nextSerial serial) m w modes needs)
+serial-picked : (count serial : ℕ) (m : Marks) (w : List ℕ) (modes : List Bool) (needs : List ℕ) (next : ℕ) (numbers : List ℕ) (t : Bool)
+    → bookFrom count (pick t serial (nextSerial serial)) m w modes needs next numbers ≡ pick t (bookFrom count serial m w modes needs next numbers) (bookFrom count (nextSerial serial) m w modes needs next numbers)
 unfolding pick
-serial-picked count serial m w modes needs true = refl
-serial-picked count serial m w modes needs false = refl
+serial-picked count serial m w modes needs next numbers true = refl
+serial-picked count serial m w modes needs next numbers false = refl
 
 pub opening-not : (r : Record) → 3 < r .code → isOpening r ≡ false
 opening-not r l = rw (lt-leb (r .code) 3 l) (and-none (leb 1 (r .code)))
@@ -73,9 +73,9 @@ opening-not r l = rw (lt-leb (r .code) 3 l) (and-none (leb 1 (r .code)))
     and-none true = refl
     and-none false = refl
 
-module _ (count serial : ℕ) (m : Marks) (w : List ℕ) (modes : List Bool) (needs : List ℕ) (h : Ready count serial m w modes needs) (r : Record) where
+module _ (count serial : ℕ) (m : Marks) (w : List ℕ) (modes : List Bool) (needs : List ℕ) (next : ℕ) (numbers : List ℕ) (h : Ready count serial m w modes needs next numbers) (r : Record) where
   abbrev b : Book
-  b = bookFrom count serial m w modes needs
+  b = bookFrom count serial m w modes needs next numbers
 
   -- what is deemed under each account, by the kept needs
   abbrev under : List ℕ
@@ -102,7 +102,7 @@ module _ (count serial : ℕ) (m : Marks) (w : List ℕ) (modes : List Bool) (ne
       by (yes l) = ap (λ x. ltb (r .account) count && x .live) (sym (row-in m w (r .account) (omega (arith, h .sound .most))))
       by (no l) = rw (le-ltb (r .account) count (omega arith))
 
-  table-is : (beside : Beside) → IsBeside b r beside → refusalOf b r ≡ first (before8 alive serial r ++ from8 (namedRow b r) count beside r)
+  table-is : (beside : Beside) → IsBeside b r beside → refusalOf b r ≡ first (before8 alive serial r ++ from8 (namedRow b r) count next beside r)
   unfolding refusalBy
   table-is beside sw = rw alive-is (sym (refusal-beside b (h .sound) r beside sw))
 
@@ -111,7 +111,7 @@ module _ (count serial : ℕ) (m : Marks) (w : List ℕ) (modes : List Bool) (ne
     unfolding earlyNumber
     early-is ne =
         table-is (besideOf b r) (beside-is b r)
-        ∙ first-some (before8 alive serial r) (from8 (namedRow b r) count (besideOf b r) r) (λ z. ne (ek ∙ z)) ∙ sym ek
+        ∙ first-some (before8 alive serial r) (from8 (namedRow b r) count next (besideOf b r) r) (λ z. ne (ek ∙ z)) ∙ sym ek
 
     module _ (z : k ≡ 0) where
       good-record : Good r
@@ -128,11 +128,11 @@ module _ (count serial : ℕ) (m : Marks) (w : List ℕ) (modes : List Bool) (ne
       low : r .account < 256
       low = omega (arith, given, h .sound .most)
 
-      past : (beside : Beside) → IsBeside b r beside → refusalOf b r ≡ first (from8 (namedRow b r) count beside r)
+      past : (beside : Beside) → IsBeside b r beside → refusalOf b r ≡ first (from8 (namedRow b r) count next beside r)
       unfolding earlyNumber
       past beside sw =
           table-is beside sw
-          ∙ first-none (before8 alive serial r) (from8 (namedRow b r) count beside r) (omega arith, (omega arith, (omega arith, (omega arith, (omega arith, tt))))) (sym ek ∙ z)
+          ∙ first-none (before8 alive serial r) (from8 (namedRow b r) count next beside r) (omega arith, (omega arith, (omega arith, (omega arith, (omega arith, tt))))) (sym ek ∙ z)
 
       row-is : namedRow b r ≡ rowIn m w (r .account)
       row-is = row-in m w (r .account) low
@@ -186,10 +186,10 @@ module _ (count serial : ℕ) (m : Marks) (w : List ℕ) (modes : List Bool) (ne
           rw (← er, ← ei, ← et) (beside-by-deemed b (h .sound) under deemed-under r p slot-is (hasLiveClientIn m count (r .account)) (λ e. live-client-is))
 
       -- the table past 7, by the words
-      pub decided : refusalOf b r ≡ first (from8 (rowIn m w (r .account)) count (besideIn count m w under on r) r)
+      pub decided : refusalOf b r ≡ first (from8 (rowIn m w (r .account)) count next (besideIn count m w under on r) r)
       decided =
           past (besideIn count m w under on r) (beside-by _ _ _ row-is (row-in m w p tm-low) (row-in m w 0 (omega arith)))
-          ∙ ap (λ x. first (from8 x count (besideIn count m w under on r) r)) row-is
+          ∙ ap (λ x. first (from8 x count next (besideIn count m w under on r) r)) row-is
 
       pub code-opens : r .code ≤ 3 → isOpening r ≡ true
       code-opens l = and-join (and-split (leb 1 (r .code)) (leb (r .code) 13) (good-record .known) .0) (le-leb (r .code) 3 l)
@@ -212,8 +212,8 @@ module _ (count serial : ℕ) (m : Marks) (w : List ℕ) (modes : List Bool) (ne
   after : (c : Change) → changeOf b r ≡ c → SoundRows (changedBy b (r .account) c)
   after c e = rw e at (change-rows b r (h .sound))
 
-  pub refused-at : (k : ℕ) (o : Bool) → refusalOf b r ≡ k → (k ≡ 0 → ⊥) → Decided count serial m w modes needs r (goneWith k o count serial) m w
-  refused-at k o er ne = rw (pick-no (eqb k 0) (wentOn o count serial) (stayed k count serial) (ne-eqb k 0 ne)) (record {
+  pub refused-at : (k : ℕ) (o : Bool) → refusalOf b r ≡ k → (k ≡ 0 → ⊥) → Decided count serial m w modes needs next numbers r (goneWith k o count serial next) m w numbers
+  refused-at k o er ne = rw (pick-no (eqb k 0) (wentOn o count serial next) (stayed k count serial next) (ne-eqb k 0 ne)) (record {
     refusal = rw e;
     given = rw e;
     carried = rw e;
@@ -225,56 +225,58 @@ module _ (count serial : ℕ) (m : Marks) (w : List ℕ) (modes : List Bool) (ne
       e : changeOf b r ≡ Refuse k
       e = change-is k er ∙ sym (refused-by k _ Refuse ne)
 
-      same : bookFrom count (pick (leb k 3) serial (nextSerial serial)) m w modes needs ≡ changedBy b (r .account) (Refuse k)
-      same = serial-picked count serial m w modes needs (leb k 3)
+      same : bookFrom count (pick (leb k 3) serial (nextSerial serial)) m w modes needs next numbers ≡ changedBy b (r .account) (Refuse k)
+      same = serial-picked count serial m w modes needs next numbers (leb k 3)
 
-  put-at : (x : Row) (n : Marks) (u : List ℕ) → changeOf b r ≡ Put x → Anew m w (r .account) x n u → Decided count serial m w modes needs r (wentOn false count serial) n u
+  put-at : (x : Row) (n : Marks) (u : List ℕ) → changeOf b r ≡ Put x → Anew m w (r .account) x n u → Decided count serial m w modes needs next numbers r (wentOn false count serial next) n u numbers
   unfolding pick
   put-at x n u e a =
-      let same = ap {B = Book} (λ q. record { count = count; serial = nextSerial serial; rows = q; modes = modes; needs = needs }) (a .rows) in
+      let same = ap {B = Book} (λ q. record { count = count; serial = nextSerial serial; rows = q; modes = modes; needs = needs; next = next; numbers = numbers }) (a .rows) in
       record { refusal = rw e; given = rw e; carried = rw e; book = rw e same; size = a .size; rows = rw same (after (Put x) e) }
 
-  open-at : (x : Row) (n : Marks) (u : List ℕ) → changeOf b r ≡ Open x → Anew m w count x n u → Decided count serial m w modes needs r (wentOn true count serial) n u
+  open-at : (x : Row) (n : Marks) (u : List ℕ) → changeOf b r ≡ Open x → Anew m w count x n u → Decided count serial m w modes needs next numbers r (wentOn true count serial next) n u (set numbers count next)
   unfolding pick
   open-at x n u e a =
-      let same = ap {B = Book} (λ q. record { count = count + 1; serial = nextSerial serial; rows = q; modes = modes; needs = needs }) (a .rows) in
+      let same = ap {B = Book} (λ q. record { count = count + 1; serial = nextSerial serial; rows = q; modes = modes; needs = needs; next = next + 1; numbers = set numbers count next }) (a .rows) in
       record { refusal = rw e; given = rw e; carried = rw e; book = rw e same; size = a .size; rows = rw same (after (Open x) e) }
 
   -- ---- what the functions answer
   module _ (k : ℕ) (ek : k ≡ earlyNumber alive serial r) (z : k ≡ 0) where
     pub amends-at : isOpening r ≡ false → (q : ℕ) (n : Marks) (u : List ℕ) → Answered count m w under on r q n u
-        → Decided count serial m w modes needs r (goneWith q (isOpening r) count serial) n u
+        → Decided count serial m w modes needs next numbers r (goneWith q (isOpening r) count serial next) n u numbers
     amends-at o q n u a = by (ℕ-discrete q 0)
       where
         number : refusalOf b r ≡ q
-        number = decided k ek z ∙ sym (a .number)
+        number = decided k ek z ∙ next-aside (rowIn m w (r .account)) count 0 (besideIn count m w under on r) r o next ∙ sym (a .number)
 
-        by : Dec (q ≡ 0) → Decided count serial m w modes needs r (goneWith q (isOpening r) count serial) n u
+        by : Dec (q ≡ 0) → Decided count serial m w modes needs next numbers r (goneWith q (isOpening r) count serial next) n u numbers
         by (yes e) =
             let put : changeOf b r ≡ Put (amended (rowIn m w (r .account)) r) =
             change-is 0 (number ∙ e) ∙ pick-no (isOpening r) _ _ o ∙ ap (λ x. Put (amended x r)) (row-is k ek z) in
-            rw (pick-yes (eqb q 0) (wentOn (isOpening r) count serial) (stayed q count serial) (eq-eqb q 0 e), o)
+            rw (pick-yes (eqb q 0) (wentOn (isOpening r) count serial next) (stayed q count serial next) (eq-eqb q 0 e), o)
             (put-at _ n u put (a .puts e))
         by (no e) = let s = a .stays e in rw (s .0, s .1) (refused-at q (isOpening r) number e)
 
-    pub opens-at : isOpening r ≡ true → (q : ℕ) (n : Marks) (u : List ℕ) → Opens m w count (r .code) (r .account) q n u
-        → Decided count serial m w modes needs r (goneWith q (isOpening r) count serial) n u
-    opens-at o q n u a = by (ℕ-discrete q 0)
+    pub opens-at : isOpening r ≡ true → (q : ℕ) (n : Marks) (u numbers′ : List ℕ) → Opens m w count next (r .code) (r .account) q n u
+        → numbers′ ≡ numbersWith q count next numbers → Decided count serial m w modes needs next numbers r (goneWith q (isOpening r) count serial next) n u numbers′
+    opens-at o q n u numbers′ a put = rw put (by (ℕ-discrete q 0))
       where
         number : refusalOf b r ≡ q
-        number = decided k ek z ∙ open-own (rowIn m w (r .account)) count (besideIn count m w under on r) r (which-opening (r .code) o) ∙ sym (a .number)
+        number = decided k ek z ∙ open-own (rowIn m w (r .account)) count next (besideIn count m w under on r) r (which-opening (r .code) o) ∙ sym (a .number)
 
-        by : Dec (q ≡ 0) → Decided count serial m w modes needs r (goneWith q (isOpening r) count serial) n u
+        by : Dec (q ≡ 0) → Decided count serial m w modes needs next numbers r (goneWith q (isOpening r) count serial next) n u (numbersWith q count next numbers)
         by (yes e) =
             let made : changeOf b r ≡ Open (openedRow (r .code) (r .account)) = change-is 0 (number ∙ e) ∙ pick-yes (isOpening r) _ _ o in
-            rw (pick-yes (eqb q 0) (wentOn (isOpening r) count serial) (stayed q count serial) (eq-eqb q 0 e), o)
+            rw (pick-yes (eqb q 0) (wentOn (isOpening r) count serial next) (stayed q count serial next) (eq-eqb q 0 e), o, pick-yes (eqb q 0) (set numbers count next) numbers (eq-eqb q 0 e))
             (open-at _ n u made (a .puts e))
-        by (no e) = let s = a .stays e in rw (s .0, s .1) (refused-at q (isOpening r) number e)
+        by (no e) =
+            let s = a .stays e in
+            rw (s .0, s .1, pick-no (eqb q 0) (set numbers count next) numbers (ne-eqb q 0 e)) (refused-at q (isOpening r) number e)
 
--- an opening that is carried out has room
-pub opening-has-room : (count serial : ℕ) (m : Marks) (w : List ℕ) (modes : List Bool) (needs : List ℕ) (r : Record) (k : ℕ) (n : Marks) (u : List ℕ) → Decided count serial m w modes needs r (goneWith k (isOpening r) count serial) n u
-    → k ≡ 0 → isOpening r ≡ true → count < 256
+-- an opening that is carried out has a row left, and a number
+pub opening-has-room : {count serial next : ℕ} {m n : Marks} {w u needs numbers numbers′ : List ℕ} {modes : List Bool} {r : Record} (k : ℕ)
+    → Decided count serial m w modes needs next numbers r (goneWith k (isOpening r) count serial next) n u numbers′ → k ≡ 0 → isOpening r ≡ true → (count < 256) × (next < 65536)
 unfolding pick
-opening-has-room count serial m w modes needs r k n u h e o =
-    let g : Decided count serial m w modes needs r (wentOn true count serial) n u = rw (e, o) at h in
-    omega (arith, g .rows .most)
+opening-has-room {count} {serial} {next} {m} {n} {w} {u} {needs} {numbers} {numbers′} {modes} {r} k d e o =
+    let g : Decided count serial m w modes needs next numbers r (wentOn true count serial next) n u numbers′ = rw (e, o) at d in
+    (omega (arith, g .rows .most), omega (arith, g .rows .numbered .last))

@@ -20,21 +20,21 @@ use Rattle.book.proofs.Settled.{sound-rows, none-beyond}
 use Rattle.steps.specs.declared.At.{At}
 use Rattle.steps.specs.Steps.{Going}
 
-module _ (count serial : ℕ) (m : Marks) (w : List ℕ) (modes : List Bool) (needs : List ℕ) (h : Sound (bookFrom count serial m w modes needs)) where
+module _ (count serial : ℕ) (m : Marks) (w : List ℕ) (modes : List Bool) (needs : List ℕ) (next : ℕ) (numbers : List ℕ) (h : Sound (bookFrom count serial m w modes needs next numbers)) where
   abbrev seen : View
   seen = view (seenBook count (m .sort) (m .tm) w)
 
-  is-seen : seen ≡ view (bookFrom count serial m w modes needs)
-  is-seen = seen-view count serial m w modes needs
+  is-seen : seen ≡ view (bookFrom count serial m w modes needs next numbers)
+  is-seen = seen-view count serial m w modes needs next numbers
 
   pub adds-up : Ranged (seenBook count (m .sort) (m .tm) w) × Shaped seen
-  adds-up = (seen-ranged count serial m w modes needs (sound-ranged _ h), rw is-seen (h .shaped))
+  adds-up = (seen-ranged count serial m w modes needs next numbers (sound-ranged _ h), rw is-seen (h .shaped))
 
   pub looks-up : (excess : List ℕ) → DeemedUnder (inTenths seen) excess → NoneBeyond seen × DeemedUnder (inTenths seen) excess
-  looks-up excess u = (subst NoneBeyond (sym is-seen) (none-beyond (bookFrom count serial m w modes needs) (sound-rows _ h)), u)
+  looks-up excess u = (subst NoneBeyond (sym is-seen) (none-beyond (bookFrom count serial m w modes needs next numbers) (sound-rows _ h)), u)
 
   pub sound-enters : Sized m w → length modes ≡ 256 → length needs ≡ 256 → (excess : List ℕ) (after : List Bool) → DeemedUnder (inTenths seen) excess → after ≡ looked seen modes
-      → Going (record { count = count; serial = serial; waiting = true }) m w modes after needs excess
+      → Going (record { count = count; serial = serial; next = next; waiting = true }) m w modes after needs numbers excess
   unfolding pick
   sound-enters s l n excess after e k = record {
     size = s;

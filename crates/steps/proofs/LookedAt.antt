@@ -89,22 +89,22 @@ still row r o k l = by (known-code-cases (r .code) k)
     by (setPledged e) = none 12 (omega arith) (λ z. omega arith) e
     by (setMargin e) = none 13 (omega arith) (λ z. omega arith) e
 
-module _ (at : At) (m : Marks) (w : List ℕ) (was modes : List Bool) (needs excess : List ℕ) (g : Going at m w was modes needs excess) (r : Record) where
+module _ (at : At) (m : Marks) (w : List ℕ) (was modes : List Bool) (needs numbers excess : List ℕ) (g : Going at m w was modes needs numbers excess) (r : Record) where
   abbrev before : List Bool
   before = modesIn (at .waiting) was modes
 
   -- the book
   abbrev b : Book
-  b = bookAt at m w was modes needs
+  b = bookAt at m w was modes needs numbers
 
   pub many-modes : length modes ≡ 256
   many-modes = ap length (g .looks) ∙ looked-size (view b) before
 
-  pub going-ready : Ready (at .count) (at .serial) m w before needs × (length was ≡ 256) × (length modes ≡ 256)
+  pub going-ready : Ready (at .count) (at .serial) m w before needs (at .next) numbers × (length was ≡ 256) × (length modes ≡ 256)
   going-ready = (record { size = g .size; sound = g .sound }, g .many, many-modes)
 
   pub places-now : Placed m w
-  places-now = sound-placed (at .count) (at .serial) m w before needs (g .size) (sound-rows b (g .sound))
+  places-now = sound-placed (at .count) (at .serial) m w before needs (at .next) numbers (g .size) (sound-rows b (g .sound))
 
   -- what is deemed under each account, by the kept needs
   under : List ℕ
@@ -126,21 +126,21 @@ module _ (at : At) (m : Marks) (w : List ℕ) (was modes : List Bool) (needs exc
   fresh-now = afresh-is (view b) needs (g .wide) ((g .sound) .kept)
 
   -- what was decided
-  module _ (x : Gone) (n : Marks) (u : List ℕ) (d : Decided (at .count) (at .serial) m w before needs r x n u) where
+  module _ (x : Gone) (n : Marks) (u numbers′ : List ℕ) (d : Decided (at .count) (at .serial) m w before needs (at .next) numbers r x n u numbers′) where
     abbrev after : Book
-    after = bookFrom (x .count) (x .serial) n u before needs
+    after = bookFrom (x .count) (x .serial) n u before needs (x .next) numbers′
 
     pub places-after : Placed n u
-    places-after = sound-placed (x .count) (x .serial) n u before needs (d .size) (d .rows)
+    places-after = sound-placed (x .count) (x .serial) n u before needs (x .next) numbers′ (d .size) (d .rows)
 
     module _ (c : Change) (e : changeOf b r ≡ c) where
       is-after : after ≡ changedBy b (r .account) c
       is-after = d .book ∙ ap (changedBy b (r .account)) e
 
       -- with the modes, the kept needs and the list of what is in excess after it
-      module _ (modes′ : List Bool) (needs′ excess′ : List ℕ) (is-book : bookAt (atAfter at x) n u was modes′ needs′ ≡ bookAfter b (r .account) c) (wide : length needs′ ≡ 256)
+      module _ (modes′ : List Bool) (needs′ excess′ : List ℕ) (is-book : bookAt (atAfter at x) n u was modes′ needs′ numbers′ ≡ bookAfter b (r .account) c) (wide : length needs′ ≡ 256)
           (in-excess : DeemedUnder (inTenths (view after)) excess′) (looks : modes′ ≡ looked (view after) (modesIn (atAfter at x .waiting) was modes′)) where
-        steps-to : Stepped at m w was modes needs r x n u modes′ needs′ excess′
+        steps-to : Stepped at m w was modes needs numbers r x n u modes′ needs′ numbers′ excess′
         steps-to = record {
           refusal = d .refusal;
           given = d .given;
@@ -160,7 +160,7 @@ module _ (at : At) (m : Marks) (w : List ℕ) (was modes : List Bool) (needs exc
       went : carriedShown c ≡ 1
           → bookAfter b (r .account) c ≡ withNeeds (withModes (changedBy b (r .account) c) (looked (view (changedBy b (r .account) c)) before)) (needsAfresh (view (changedBy b (r .account) c)))
           → (modes′ : List Bool) (needs′ excess′ : List ℕ) → modes′ ≡ looked (view after) before → needs′ ≡ needsAfresh (view after) → DeemedUnder (inTenths (view after)) excess′
-          → Stepped at m w was modes needs r x n u modes′ needs′ excess′
+          → Stepped at m w was modes needs numbers r x n u modes′ needs′ numbers′ excess′
       unfolding pick
       went one after-is modes′ needs′ excess′ look fresh in-excess =
           let done : x .carried ≡ 1 = d .carried ∙ ap carriedShown e ∙ one in
@@ -174,7 +174,7 @@ module _ (at : At) (m : Marks) (w : List ℕ) (was modes : List Bool) (needs exc
           (look ∙ sym (look-twice (view after) before) ∙ ap (looked (view after)) (sym look ∙ sym its))
 
     -- refused: all stays
-    refused : (k : ℕ) → changeOf b r ≡ Refuse k → Stepped at m w was modes needs r x n u modes needs excess
+    refused : (k : ℕ) → changeOf b r ≡ Refuse k → Stepped at m w was modes needs numbers r x n u modes needs numbers′ excess
     unfolding pick
     refused k e =
         steps-to (Refuse k) e modes needs excess
@@ -198,10 +198,10 @@ module _ (at : At) (m : Marks) (w : List ℕ) (was modes : List Bool) (needs exc
         same-view = ap view (is-after (Refuse k) e) ∙ unmoved (leb k 3)
 
     -- a code that moves no figure
-    pub still-step : (leb (r .code) 5 || eqb (r .code) 11) ≡ true → Stepped at m w was modes needs r x n u modes needs excess
+    pub still-step : (leb (r .code) 5 || eqb (r .code) 11) ≡ true → Stepped at m w was modes needs numbers r x n u modes needs numbers′ excess
     still-step l = by (changeOf b r) refl
       where
-        by : (c : Change) → changeOf b r ≡ c → Stepped at m w was modes needs r x n u modes needs excess
+        by : (c : Change) → changeOf b r ≡ c → Stepped at m w was modes needs numbers r x n u modes needs numbers′ excess
         by (Refuse k) e = refused k e
         by (Put y) e =
             let p = put-passes b r y e .account in
@@ -216,10 +216,10 @@ module _ (at : At) (m : Marks) (w : List ℕ) (was modes : List Bool) (needs exc
             (subst (λ q. DeemedUnder (inTenths q) excess) (sym opens) (open-deemed b r y (g .sound) e true excess (g .in-excess)))
 
     -- refused, whatever its code
-    pub refused-step : (x .refusal ≡ 0 → ⊥) → Stepped at m w was modes needs r x n u modes needs excess
+    pub refused-step : (x .refusal ≡ 0 → ⊥) → Stepped at m w was modes needs numbers r x n u modes needs numbers′ excess
     refused-step ne = by (changeOf b r) refl
       where
-        by : (c : Change) → changeOf b r ≡ c → Stepped at m w was modes needs r x n u modes needs excess
+        by : (c : Change) → changeOf b r ≡ c → Stepped at m w was modes needs numbers r x n u modes needs numbers′ excess
         by (Refuse k) e = refused k e
         by (Put y) e = absurd (ne (d .refusal ∙ ap refusalShown e))
         by (Open y) e = absurd (ne (d .refusal ∙ ap refusalShown e))
@@ -227,10 +227,10 @@ module _ (at : At) (m : Marks) (w : List ℕ) (was modes : List Bool) (needs exc
     -- a code that may move figures, carried out: three places are brought up to date and looked at
     module _ (past : Past) (o : PastOf m w needs (r .account) past) where
       pub moved-step : x .refusal ≡ 0 → (leb (r .code) 5 || eqb (r .code) 11) ≡ false
-          → Stepped at m w was modes needs r x n u (lookedSince n u excess before modes past) (neededSince n u needs past) (excessSince n u excess past)
+          → Stepped at m w was modes needs numbers r x n u (lookedSince n u excess before modes past) (neededSince n u needs past) numbers′ (excessSince n u excess past)
       moved-step z l = by (changeOf b r) refl
         where
-          by : (c : Change) → changeOf b r ≡ c → Stepped at m w was modes needs r x n u (lookedSince n u excess before modes past) (neededSince n u needs past) (excessSince n u excess past)
+          by : (c : Change) → changeOf b r ≡ c → Stepped at m w was modes needs numbers r x n u (lookedSince n u excess before modes past) (neededSince n u needs past) numbers′ (excessSince n u excess past)
           by (Refuse k) e = absurd (refuse-some b r k e (sym (d .refusal ∙ ap refusalShown e) ∙ z))
           by (Open y) e =
               let c = and-split (leb 1 (r .code)) (leb (r .code) 3) (only-openings b r y e) .1 in

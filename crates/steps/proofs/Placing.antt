@@ -62,9 +62,9 @@ tm-low b s j = by (decLt j (b .count)) (ℕ-discrete (rowAt b j .sort) 2)
     by (yes l) (no c) = omega (arith, s .no-tm j l c)
     by (no l) d = omega (arith, ap (λ r. r .tm) (s .blank j (omega arith)))
 
-pub sound-placed : (count serial : ℕ) (m : Marks) (w : List ℕ) (modes : List Bool) (needs : List ℕ) → Sized m w → SoundRows (bookFrom count serial m w modes needs) → Placed m w
-sound-placed count serial m w modes needs z s =
-    let b = bookFrom count serial m w modes needs in
+pub sound-placed : (count serial : ℕ) (m : Marks) (w : List ℕ) (modes : List Bool) (needs : List ℕ) (next : ℕ) (numbers : List ℕ) → Sized m w → SoundRows (bookFrom count serial m w modes needs next numbers) → Placed m w
+sound-placed count serial m w modes needs next numbers z s =
+    let b = bookFrom count serial m w modes needs next numbers in
     record {
       size = z;
       ranges = λ j l. rw (row-in m w j l) at (rows-ranges b s j);

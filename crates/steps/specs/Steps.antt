@@ -21,10 +21,10 @@ use Rattle.table.specs.Facts.{Sized}
 use Rattle.steps.specs.declared.At.{At}
 use Rattle.steps.specs.declared.Gone.{Gone}
 
--- the words, the modes and the kept needs are a sound book's
-pub record Ready (count serial : ℕ) (m : Marks) (w : List ℕ) (modes : List Bool) (needs : List ℕ) : Type 0 where
+-- the words, the modes, the kept needs and the numbers are a sound book's
+pub record Ready (count serial : ℕ) (m : Marks) (w : List ℕ) (modes : List Bool) (needs : List ℕ) (next : ℕ) (numbers : List ℕ) : Type 0 where
   pub size : Sized m w
-  pub sound : Sound (bookFrom count serial m w modes needs)
+  pub sound : Sound (bookFrom count serial m w modes needs next numbers)
 
 -- what a change shows of its record: the refusal or 0, the number given or 0, and 1 for one carried out
 abbrev pub refusalShown : Change → ℕ
@@ -33,67 +33,69 @@ refusalShown (Put row) = 0
 refusalShown (Open row) = 0
 
 abbrev pub givenShown : ℕ → Change → ℕ
-givenShown count (Refuse n) = 0
-givenShown count (Put row) = 0
-givenShown count (Open row) = count
+givenShown next (Refuse n) = 0
+givenShown next (Put row) = 0
+givenShown next (Open row) = next
 
 abbrev pub carriedShown : Change → ℕ
 carriedShown (Refuse n) = 0
 carriedShown (Put row) = 1
 carriedShown (Open row) = 1
 
--- a record was decided at the words w, came to x and left the words u, before needs and modes follow
-pub record Decided (count serial : ℕ) (m : Marks) (w : List ℕ) (modes : List Bool) (needs : List ℕ) (r : Record) (x : Gone) (n : Marks) (u : List ℕ) : Type 0 where
-  pub refusal : x .refusal ≡ refusalShown (changeOf (bookFrom count serial m w modes needs) r)
-  pub given : x .given ≡ givenShown count (changeOf (bookFrom count serial m w modes needs) r)
-  pub carried : x .carried ≡ carriedShown (changeOf (bookFrom count serial m w modes needs) r)
-  pub book : bookFrom (x .count) (x .serial) n u modes needs ≡ changedBy (bookFrom count serial m w modes needs) (r .account) (changeOf (bookFrom count serial m w modes needs) r)
+-- a record, its account told by the place of its row, was decided at the words w, came to x and left the words u, before needs and modes follow
+pub record Decided (count serial : ℕ) (m : Marks) (w : List ℕ) (modes : List Bool) (needs : List ℕ) (next : ℕ) (numbers : List ℕ) (r : Record) (x : Gone) (n : Marks) (u numbers′ : List ℕ) : Type 0 where
+  pub refusal : x .refusal ≡ refusalShown (changeOf (bookFrom count serial m w modes needs next numbers) r)
+  pub given : x .given ≡ givenShown next (changeOf (bookFrom count serial m w modes needs next numbers) r)
+  pub carried : x .carried ≡ carriedShown (changeOf (bookFrom count serial m w modes needs next numbers) r)
+  pub book : bookFrom (x .count) (x .serial) n u modes needs (x .next) numbers′
+      ≡ changedBy (bookFrom count serial m w modes needs next numbers) (r .account) (changeOf (bookFrom count serial m w modes needs next numbers) r)
   pub size : Sized n u
-  pub rows : SoundRows (bookFrom (x .count) (x .serial) n u modes needs)
+  pub rows : SoundRows (bookFrom (x .count) (x .serial) n u modes needs (x .next) numbers′)
 
 -- refused with the number k
-abbrev pub stayed : ℕ → ℕ → ℕ → Gone
-stayed k count serial = record { refusal = k; given = 0; carried = 0; count = count; serial = pick (leb k 3) serial (nextSerial serial) }
+abbrev pub stayed : ℕ → ℕ → ℕ → ℕ → Gone
+stayed k count serial next = record { refusal = k; given = 0; carried = 0; count = count; serial = pick (leb k 3) serial (nextSerial serial); next = next }
 
 -- carried out: an opening gives the next number
-abbrev pub wentOn : Bool → ℕ → ℕ → Gone
-wentOn opening count serial = record {
+abbrev pub wentOn : Bool → ℕ → ℕ → ℕ → Gone
+wentOn opening count serial next = record {
   refusal = 0;
-  given = pick opening count 0;
+  given = pick opening next 0;
   carried = 1;
   count = pick opening (count + 1) count;
   serial = nextSerial serial;
+  next = pick opening (next + 1) next;
 }
 
 -- by the refusal or 0
-abbrev pub goneWith : ℕ → Bool → ℕ → ℕ → Gone
-goneWith k opening count serial = pick (eqb k 0) (wentOn opening count serial) (stayed k count serial)
+abbrev pub goneWith : ℕ → Bool → ℕ → ℕ → ℕ → Gone
+goneWith k opening count serial next = pick (eqb k 0) (wentOn opening count serial next) (stayed k count serial next)
 
 -- K2. While no record was carried out the book has the modes that it was handed over with, and from then on those that a look left
 abbrev pub modesIn : Bool → List Bool → List Bool → List Bool
 modesIn waiting was modes = pick waiting was modes
 
 -- the book that the arrays are
-abbrev pub bookAt : At → Marks → List ℕ → List Bool → List Bool → List ℕ → Book
-bookAt at m w was modes needs = bookFrom (at .count) (at .serial) m w (modesIn (at .waiting) was modes) needs
+abbrev pub bookAt : At → Marks → List ℕ → List Bool → List Bool → List ℕ → List ℕ → Book
+bookAt at m w was modes needs numbers = bookFrom (at .count) (at .serial) m w (modesIn (at .waiting) was modes) needs (at .next) numbers
 
 -- where it stands after a record that came to x
 abbrev pub atAfter : At → Gone → At
-atAfter at x = record { count = x .count; serial = x .serial; waiting = at .waiting && eqb (x .carried) 0 }
+atAfter at x = record { count = x .count; serial = x .serial; next = x .next; waiting = at .waiting && eqb (x .carried) 0 }
 
 -- the arrays are a sound book's. Beside it stand what is in excess under each account, in tenths, and the modes that a look leaves
-pub record Going (at : At) (m : Marks) (w : List ℕ) (was modes : List Bool) (needs excess : List ℕ) : Type 0 where
+pub record Going (at : At) (m : Marks) (w : List ℕ) (was modes : List Bool) (needs numbers excess : List ℕ) : Type 0 where
   pub size : Sized m w
   pub many : length was ≡ 256
   pub wide : length needs ≡ 256
-  pub sound : Sound (bookAt at m w was modes needs)
-  pub in-excess : DeemedUnder (inTenths (view (bookAt at m w was modes needs))) excess
-  pub looks : modes ≡ looked (view (bookAt at m w was modes needs)) (modesIn (at .waiting) was modes)
+  pub sound : Sound (bookAt at m w was modes needs numbers)
+  pub in-excess : DeemedUnder (inTenths (view (bookAt at m w was modes needs numbers))) excess
+  pub looks : modes ≡ looked (view (bookAt at m w was modes needs numbers)) (modesIn (at .waiting) was modes)
 
--- a record at such arrays came to x, and left the arrays after it
-pub record Stepped (at : At) (m : Marks) (w : List ℕ) (was modes : List Bool) (needs : List ℕ) (r : Record) (x : Gone) (n : Marks) (u : List ℕ) (after : List Bool) (needs′ excess : List ℕ) : Type 0 where
-  pub refusal : x .refusal ≡ refusalShown (changeOf (bookAt at m w was modes needs) r)
-  pub given : x .given ≡ givenShown (at .count) (changeOf (bookAt at m w was modes needs) r)
-  pub carried : x .carried ≡ carriedShown (changeOf (bookAt at m w was modes needs) r)
-  pub book : bookAt (atAfter at x) n u was after needs′ ≡ bookAfter (bookAt at m w was modes needs) (r .account) (changeOf (bookAt at m w was modes needs) r)
-  pub ready : Going (atAfter at x) n u was after needs′ excess
+-- a record at such arrays, its account told by the place of its row, came to x, and left the arrays after it
+pub record Stepped (at : At) (m : Marks) (w : List ℕ) (was modes : List Bool) (needs numbers : List ℕ) (r : Record) (x : Gone) (n : Marks) (u : List ℕ) (after : List Bool) (needs′ numbers′ excess : List ℕ) : Type 0 where
+  pub refusal : x .refusal ≡ refusalShown (changeOf (bookAt at m w was modes needs numbers) r)
+  pub given : x .given ≡ givenShown (at .next) (changeOf (bookAt at m w was modes needs numbers) r)
+  pub carried : x .carried ≡ carriedShown (changeOf (bookAt at m w was modes needs numbers) r)
+  pub book : bookAt (atAfter at x) n u was after needs′ numbers′ ≡ bookAfter (bookAt at m w was modes needs numbers) (r .account) (changeOf (bookAt at m w was modes needs numbers) r)
+  pub ready : Going (atAfter at x) n u was after needs′ numbers′ excess

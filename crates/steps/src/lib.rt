@@ -17,20 +17,22 @@ use looking::settle_needs;
 
 mod looking;
 
-// Where a book stands: how many accounts it has, the next serial, and whether no record was carried out since it was handed over.
+// Where a book stands: how many rows it has, the next serial, the next number, and whether no record was carried out since it was handed over.
 pub struct At {
     pub count: u16,
     pub serial: u16,
+    pub next: u32,
     pub waiting: bool,
 }
 
-// What a record came to: the refusal or 0, the number given or 0, 1 for one carried out, and the count and the serial after it.
+// What a record came to: the refusal or 0, the number given or 0, 1 for one carried out, and the count, the serial and the next number after it.
 pub struct Gone {
     pub refusal: u8,
     pub given: u16,
     pub carried: u64,
     pub count: u16,
     pub serial: u16,
+    pub next: u32,
 }
 
 // The refusal or 0, and the words changed. The mode that counts is the account's in the book before the record (K5).
@@ -41,27 +43,38 @@ fn decide(
     w: &mut [u64; 2560],
     modes: &[bool; 256],
     needs: &[u64; 256],
+    numbers: &mut [u16; 256],
     was: &[bool; 256],
     at: At,
     r: Record,
 ) -> u8
-    requires { ⌜ Ready (at .count) (at .serial) (marksFrom (now sort) (now live) (now tm)) (now w) (modesIn (at .waiting) (now was) (now modes)) (now needs) × (length (now was) ≡ 256) × (length (now modes) ≡ 256) ⌝ }
-    ensures { λ x. ⌜ Decided (at .count) (at .serial) (marksFrom (now (sort .entry)) (now (live .entry)) (now (tm .entry))) (now (w .entry)) (modesIn (at .waiting) (now (was .entry)) (now (modes .entry))) (now (needs .entry)) r (goneWith x (isOpening r) (at .count) (at .serial)) (marksFrom (now (sort .exit)) (now (live .exit)) (now (tm .exit))) (now (w .exit)) ⌝ }
+    requires { ⌜ Ready (at .count) (at .serial) (marksFrom (now sort) (now live) (now tm)) (now w) (modesIn (at .waiting) (now was) (now modes)) (now needs) (at .next) (now numbers) × (length (now was) ≡ 256) × (length (now modes) ≡ 256) ⌝ }
+    ensures { λ x. ⌜ Decided (at .count) (at .serial) (marksFrom (now (sort .entry)) (now (live .entry)) (now (tm .entry))) (now (w .entry)) (modesIn (at .waiting) (now (was .entry)) (now (modes .entry))) (now (needs .entry)) (at .next) (now (numbers .entry)) r (goneWith x (isOpening r) (at .count) (at .serial) (at .next)) (marksFrom (now (sort .exit)) (now (live .exit)) (now (tm .exit))) (now (w .exit)) (now (numbers .exit)) ⌝ }
 {
     let n = early(live, at.count, at.serial, r);
     if n != 0 {
         return n;
     }
     if r.code <= 3 {
-        return open(sort, live, tm, w, at.count, r.code, r.account);
+        return open(
+            sort,
+            live,
+            tm,
+            w,
+            numbers,
+            at.count,
+            at.next,
+            r.code,
+            r.account,
+        );
     }
     let on = mode_of(was, modes, at.waiting, r.account as usize);
     amend(sort, live, tm, w, needs, on, at.count, r)
 }
 
-fn gone_with(n: u8, opening: bool, count: u16, serial: u16) -> Gone
-    requires { ⌜ (n ≡ 0 → opening ≡ true → count < 256) ⌝ }
-    ensures { λ x. ⌜ x ≡ goneWith n opening count serial ⌝ }
+fn gone_with(n: u8, opening: bool, count: u16, serial: u16, next: u32) -> Gone
+    requires { ⌜ (n ≡ 0 → opening ≡ true → (count < 256) × (next < 65536)) ⌝ }
+    ensures { λ x. ⌜ x ≡ goneWith n opening count serial next ⌝ }
 {
     let after = std::num::wrapping_add_u16(serial, 1);
     if n != 0 {
@@ -71,15 +84,17 @@ fn gone_with(n: u8, opening: bool, count: u16, serial: u16) -> Gone
             carried: 0,
             count,
             serial: if 3 < n { after } else { serial },
+            next,
         };
     }
     if opening {
         return Gone {
             refusal: 0,
-            given: count,
+            given: next as u16,
             carried: 1,
             count: count + 1,
             serial: after,
+            next: next + 1,
         };
     }
     Gone {
@@ -88,6 +103,7 @@ fn gone_with(n: u8, opening: bool, count: u16, serial: u16) -> Gone
         carried: 1,
         count,
         serial: after,
+        next,
     }
 }
 
@@ -99,18 +115,25 @@ fn carry(
     w: &mut [u64; 2560],
     modes: &[bool; 256],
     needs: &[u64; 256],
+    numbers: &mut [u16; 256],
     was: &[bool; 256],
     at: At,
     r: Record,
 ) -> Gone
-    requires { ⌜ Ready (at .count) (at .serial) (marksFrom (now sort) (now live) (now tm)) (now w) (modesIn (at .waiting) (now was) (now modes)) (now needs) × (length (now was) ≡ 256) × (length (now modes) ≡ 256) ⌝ }
-    ensures { λ x. ⌜ Decided (at .count) (at .serial) (marksFrom (now (sort .entry)) (now (live .entry)) (now (tm .entry))) (now (w .entry)) (modesIn (at .waiting) (now (was .entry)) (now (modes .entry))) (now (needs .entry)) r x (marksFrom (now (sort .exit)) (now (live .exit)) (now (tm .exit))) (now (w .exit)) ⌝ }
+    requires { ⌜ Ready (at .count) (at .serial) (marksFrom (now sort) (now live) (now tm)) (now w) (modesIn (at .waiting) (now was) (now modes)) (now needs) (at .next) (now numbers) × (length (now was) ≡ 256) × (length (now modes) ≡ 256) ⌝ }
+    ensures { λ x. ⌜ Decided (at .count) (at .serial) (marksFrom (now (sort .entry)) (now (live .entry)) (now (tm .entry))) (now (w .entry)) (modesIn (at .waiting) (now (was .entry)) (now (modes .entry))) (now (needs .entry)) (at .next) (now (numbers .entry)) r x (marksFrom (now (sort .exit)) (now (live .exit)) (now (tm .exit))) (now (w .exit)) (now (numbers .exit)) ⌝ }
 {
-    let n = decide(sort, live, tm, w, modes, needs, was, at, r);
-    gone_with(n, (1 <= r.code) & (r.code <= 3), at.count, at.serial)
+    let n = decide(sort, live, tm, w, modes, needs, numbers, was, at, r);
+    gone_with(
+        n,
+        (1 <= r.code) & (r.code <= 3),
+        at.count,
+        at.serial,
+        at.next,
+    )
 }
 
-// One record at the arrays of a sound book. `modes` are those that a look leaves: where a record is carried out they are the book's. K3's needs and
+// One record, its account told by the place of its row, at the arrays of a sound book. `modes` are those that a look leaves: where a record is carried out they are the book's. K3's needs and
 // K2's look move at most three places; openings, 4, 5 and 11 move no figure that they go by.
 pub fn step(
     sort: &mut [u8; 256],
@@ -119,17 +142,18 @@ pub fn step(
     w: &mut [u64; 2560],
     modes: &mut [bool; 256],
     needs: &mut [u64; 256],
+    numbers: &mut [u16; 256],
     excess: &mut [u64; 256],
     was: &[bool; 256],
     at: At,
     r: Record,
 ) -> Gone
-    requires { ⌜ Going at (marksFrom (now sort) (now live) (now tm)) (now w) (now was) (now modes) (now needs) (now excess) ⌝ }
-    ensures { λ x. ⌜ Stepped at (marksFrom (now (sort .entry)) (now (live .entry)) (now (tm .entry))) (now (w .entry)) (now (was .entry)) (now (modes .entry)) (now (needs .entry)) r x (marksFrom (now (sort .exit)) (now (live .exit)) (now (tm .exit))) (now (w .exit)) (now (modes .exit)) (now (needs .exit)) (now (excess .exit)) ⌝ }
+    requires { ⌜ Going at (marksFrom (now sort) (now live) (now tm)) (now w) (now was) (now modes) (now needs) (now numbers) (now excess) ⌝ }
+    ensures { λ x. ⌜ Stepped at (marksFrom (now (sort .entry)) (now (live .entry)) (now (tm .entry))) (now (w .entry)) (now (was .entry)) (now (modes .entry)) (now (needs .entry)) (now (numbers .entry)) r x (marksFrom (now (sort .exit)) (now (live .exit)) (now (tm .exit))) (now (w .exit)) (now (modes .exit)) (now (needs .exit)) (now (numbers .exit)) (now (excess .exit)) ⌝ }
 {
     let still = (r.code <= 5) | (r.code == 11);
     let past = past_if(still, sort, live, tm, w, needs, r.account);
-    let gone = carry(sort, live, tm, w, modes, needs, was, at, r);
+    let gone = carry(sort, live, tm, w, modes, needs, numbers, was, at, r);
     if !still & (gone.refusal == 0) {
         settle_needs(sort, live, tm, w, needs, past);
         look_after(sort, live, tm, w, modes, excess, was, at.waiting, past);
@@ -144,6 +168,7 @@ pub fn on(at: At, gone: Gone) -> At
     At {
         count: gone.count,
         serial: gone.serial,
+        next: gone.next,
         waiting: at.waiting & (gone.carried == 0),
     }
 }

@@ -32,27 +32,27 @@ returns c =
     let e = c .before in
     let s = start e in
     let a = s .args in
-    refused-at (a .at .count) (a .at .serial) (marks s) (a .w .now) (modes s) (a .needs .now) (s .pre .0) (a .r) _ _
-    (early-is (a .at .count) (a .at .serial) (marks s) (a .w .now) (modes s) (a .needs .now) (s .pre .0) (a .r) _ (e .early .ensures) (c .if1 .taken)) (c .if1 .taken)
+    refused-at (a .at .count) (a .at .serial) (marks s) (a .w .now) (modes s) (a .needs .now) (a .at .next) (a .numbers .now) (s .pre .0) (a .r) _ _
+    (early-is (a .at .count) (a .at .serial) (marks s) (a .w .now) (modes s) (a .needs .now) (a .at .next) (a .numbers .now) (s .pre .0) (a .r) _ (e .early .ensures) (c .if1 .taken)) (c .if1 .taken)
 
 open-requires : tie.Need-open-requires
 open-requires c κs =
-    let p = c .before .before .before .before .before .before in
+    let p = c .before .before .before .before .before .before .before in
     let e = passed p in
     let s = start e in
     let a = s .args in
-    let g = ready-holds (a .at .count) (a .at .serial) (marks s) (a .w .now) (modes s) (a .needs .now) (s .pre .0) (a .r) _ (e .early .ensures) (p .if1 .left) in
+    let g = ready-holds (a .at .count) (a .at .serial) (marks s) (a .w .now) (modes s) (a .needs .now) (a .at .next) (a .numbers .now) (s .pre .0) (a .r) _ (e .early .ensures) (p .if1 .left) in
     (g .size, g .inside)
 
 returns-2 : tie.Need-returns-2
 returns-2 c =
-    let o = c .before .before .before .before .before in
+    let o = c .before .before .before .before .before .before in
     let p = o .before .before in
     let e = passed p in
     let s = start e in
     let a = s .args in
-    opens-at (a .at .count) (a .at .serial) (marks s) (a .w .now) (modes s) (a .needs .now) (s .pre .0) (a .r) _ (e .early .ensures) (p .if1 .left)
-    (code-opens (a .at .count) (a .at .serial) (marks s) (a .w .now) (modes s) (a .needs .now) (s .pre .0) (a .r) _ (e .early .ensures) (p .if1 .left) (o .if2 .taken)) _ _ _ (c .«open» .ensures)
+    opens-at (a .at .count) (a .at .serial) (marks s) (a .w .now) (modes s) (a .needs .now) (a .at .next) (a .numbers .now) (s .pre .0) (a .r) _ (e .early .ensures) (p .if1 .left)
+    (code-opens (a .at .count) (a .at .serial) (marks s) (a .w .now) (modes s) (a .needs .now) (a .at .next) (a .numbers .now) (s .pre .0) (a .r) _ (e .early .ensures) (p .if1 .left) (o .if2 .taken)) _ _ _ _ (c .«open» .ensures .0) (c .«open» .ensures .1)
 
 cast-mode-of : tie.Need-cast-mode-of
 cast-mode-of c = search needs
@@ -63,7 +63,7 @@ mode-of-requires c κs =
     let e = passed p in
     let s = start e in
     let a = s .args in
-    (ready-holds (a .at .count) (a .at .serial) (marks s) (a .w .now) (modes s) (a .needs .now) (s .pre .0) (a .r) _ (e .early .ensures) (p .if1 .left) .inside, s .pre .1, s .pre .2)
+    (ready-holds (a .at .count) (a .at .serial) (marks s) (a .w .now) (modes s) (a .needs .now) (a .at .next) (a .numbers .now) (s .pre .0) (a .r) _ (e .early .ensures) (p .if1 .left) .inside, s .pre .1, s .pre .2)
 
 amend-requires : tie.Need-amend-requires
 amend-requires c κs =
@@ -72,7 +72,7 @@ amend-requires c κs =
     let e = passed p in
     let s = start e in
     let a = s .args in
-    ready-amends (a .at .count) (a .at .serial) (marks s) (a .w .now) (modes s) (a .needs .now) (s .pre .0) (a .r) _ (e .early .ensures) (p .if1 .left) (opening-not (a .r) (o .if2 .left))
+    ready-amends (a .at .count) (a .at .serial) (marks s) (a .w .now) (modes s) (a .needs .now) (a .at .next) (a .numbers .now) (s .pre .0) (a .r) _ (e .early .ensures) (p .if1 .left) (opening-not (a .r) (o .if2 .left))
 
 returns-3 : tie.Need-returns-3
 returns-3 c =
@@ -82,7 +82,7 @@ returns-3 c =
     let e = passed p in
     let s = start e in
     let a = s .args in
-    amends-at (a .at .count) (a .at .serial) (marks s) (a .w .now) (modes s) (a .needs .now) (s .pre .0) (a .r) _ (e .early .ensures) (p .if1 .left) (opening-not (a .r) (o .if2 .left)) _ _ _
+    amends-at (a .at .count) (a .at .serial) (marks s) (a .w .now) (modes s) (a .needs .now) (a .at .next) (a .numbers .now) (s .pre .0) (a .r) _ (e .early .ensures) (p .if1 .left) (opening-not (a .r) (o .if2 .left)) _ _ _
     (rw (m .mode-of .ensures) at (c .amend .ensures))
 
 pub decide-spec : {M : Type 1} → statement M

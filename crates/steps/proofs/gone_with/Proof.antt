@@ -21,8 +21,14 @@ returns-2 c =
     let args = c .before .before .before .args in
     rw (ne-eqb (args .n) 0 (c .before .if1 .taken), le-leb (args .n) 3 (c .if2 .left))
 
-add-t18 : tie.Need-add-t18
-add-t18 c = let l = (c .before .before .before .pre) (c .before .if1 .left) (c .if3 .taken) in omega arith
+cast-t19 : tie.Need-cast-t19
+cast-t19 c = let l = (c .before .before .before .pre) (c .before .if1 .left) (c .if3 .taken) in omega arith
+
+add-t21 : tie.Need-add-t21
+add-t21 c = let l = (c .before .before .before .pre) (c .before .if1 .left) (c .if3 .taken) in omega arith
+
+add-t24 : tie.Need-add-t24
+add-t24 c = let l = (c .before .before .before .pre) (c .before .if1 .left) (c .if3 .taken) in omega arith
 
 returns-3 : tie.Need-returns-3
 unfolding pick
@@ -34,4 +40,4 @@ returns-4 c = rw (eq-eqb (c .before .before .before .args .n) 0 (c .before .if1 
 
 pub gone-with-spec : {M : Type 1} → statement M
 gone-with-spec =
-    tie.close (tie.spec wrapping-add-u16-requires returns returns-2 add-t18 returns-3 returns-4)
+    tie.close (tie.spec wrapping-add-u16-requires returns returns-2 cast-t19 add-t21 add-t24 returns-3 returns-4)

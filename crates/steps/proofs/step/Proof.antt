@@ -18,7 +18,7 @@ abbrev called : tie.After-past-if → tie.Start
 called p = p .before .before .before .before .before .before .before .before
 
 abbrev past : tie.After-carry → tie.After-past-if
-past d = d .before .before .before .before .before .before .before
+past d = d .before .before .before .before .before .before .before .before
 
 abbrev decided : tie.Then1 → tie.After-carry
 decided t = t .before .before
@@ -47,7 +47,7 @@ module _ (t : tie.Then1) where
   modest =
       let p = past (decided t) in
       let s = called p in
-      modest-past (places-now (s .args .at) _ _ _ _ _ _ (s .pre) (s .args .r)) (under-small (s .args .at) _ _ _ _ _ _ (s .pre) (s .args .r)) (p .past-if .ensures moving)
+      modest-past (places-now (s .args .at) _ _ _ _ _ _ _ (s .pre) (s .args .r)) (under-small (s .args .at) _ _ _ _ _ _ _ (s .pre) (s .args .r)) (p .past-if .ensures moving)
 
 -- it moves none, or it is refused
 either : (still z : Bool) → (not still && z) ≡ false → (still ≡ true) ⊎ (z ≡ false)
@@ -55,25 +55,25 @@ either true z e = inl refl
 either false z e = inr e
 
 past-if-requires : tie.Need-past-if-requires
-past-if-requires c κs = let s = c .before .before .before .before .before .before .before in places-now (s .args .at) _ _ _ _ _ _ (s .pre) (s .args .r)
+past-if-requires c κs = let s = c .before .before .before .before .before .before .before in places-now (s .args .at) _ _ _ _ _ _ _ (s .pre) (s .args .r)
 
 carry-requires : tie.Need-carry-requires
-carry-requires c κs = let s = called (c .before .before .before .before .before .before) in going-ready (s .args .at) _ _ _ _ _ _ (s .pre) (s .args .r)
+carry-requires c κs = let s = called (c .before .before .before .before .before .before .before) in going-ready (s .args .at) _ _ _ _ _ _ _ (s .pre) (s .args .r)
 
 settle-needs-requires : tie.Need-settle-needs-requires
 settle-needs-requires c κs =
     let t = c .before .before .before .before .before in
     let s = called (past (decided t)) in
-    (places-after (s .args .at) _ _ _ _ _ _ (s .pre) (s .args .r) _ _ _ (decided t .carry .ensures), modest t)
+    (places-after (s .args .at) _ _ _ _ _ _ _ (s .pre) (s .args .r) _ _ _ _ (decided t .carry .ensures), modest t)
 
 look-after-requires : tie.Need-look-after-requires
 look-after-requires c κs =
     let t = carried (c .before .before .before .before .before .before) in
     let s = called (past (decided t)) in (
-      places-after (s .args .at) _ _ _ _ _ _ (s .pre) (s .args .r) _ _ _ (decided t .carry .ensures),
+      places-after (s .args .at) _ _ _ _ _ _ _ (s .pre) (s .args .r) _ _ _ _ (decided t .carry .ensures),
       record { size = s .pre .in-excess .size; most = excess-most _ (s .pre .sound) _ (s .pre .in-excess) },
       s .pre .many,
-      many-modes (s .args .at) _ _ _ _ _ _ (s .pre) (s .args .r),
+      many-modes (s .args .at) _ _ _ _ _ _ _ (s .pre) (s .args .r),
       modest t,
     )
 
@@ -85,15 +85,15 @@ returns c =
     let s = called p in
     let a = s .args in
     let l = c .look-after .ensures in
-    rw (l .0, l .1, k .settle-needs .ensures) (moved-step (a .at) _ _ _ _ _ _ (s .pre) (a .r) _ _ _ (decided t .carry .ensures) _ (p .past-if .ensures (moving t)) (passed t) (moving t))
+    rw (l .0, l .1, k .settle-needs .ensures) (moved-step (a .at) _ _ _ _ _ _ _ (s .pre) (a .r) _ _ _ _ (decided t .carry .ensures) _ (p .past-if .ensures (moving t)) (passed t) (moving t))
 
 returns-2 : tie.Need-returns-2
 returns-2 c =
     let d = c .before .before in
     let s = called (past d) in
     ⊎-elim
-    (λ h. still-step (s .args .at) _ _ _ _ _ _ (s .pre) (s .args .r) _ _ _ (d .carry .ensures) h)
-    (λ h. refused-step (s .args .at) _ _ _ _ _ _ (s .pre) (s .args .r) _ _ _ (d .carry .ensures) (eqb-false _ _ h))
+    (λ h. still-step (s .args .at) _ _ _ _ _ _ _ (s .pre) (s .args .r) _ _ _ _ (d .carry .ensures) h)
+    (λ h. refused-step (s .args .at) _ _ _ _ _ _ _ (s .pre) (s .args .r) _ _ _ _ (d .carry .ensures) (eqb-false _ _ h))
     (either _ _ (c .if1 .left))
 
 pub step-spec : {M : Type 1} → statement M

@@ -67,7 +67,7 @@ returns-3 c =
     let a = start .args in
     let e = c .put-row .ensures in (
       opened-answers (first-line-fails 8 _ _ 0 (ap not (eq-eqb _ _ (passed .if1 .left ∙ passed .before .wanted .ensures))) (first-line-fails 9 _ _ 0 (sym (left .before .none-left .ensures) ∙ left .if2 .left) no-line-gives-0))
-    (rw (e .0, e .1 .0, e .1 .1 .0, e .1 .1 .1, c .before .opened-row .ensures) (row-put (marksFrom (a .sort .now) (a .live .now) (a .tm .now)) (a .w .now) (a .count) (start .pre .0) (left-over left .0) _)),
+          (rw (e .0, e .1 .0, e .1 .1 .0, e .1 .1 .1, c .before .opened-row .ensures) (row-put (marksFrom (a .sort .now) (a .live .now) (a .tm .now)) (a .w .now) (a .count) (start .pre .0) (left-over left .0) _)),
       refl,
     )
 
