@@ -1,6 +1,5 @@
 -- `lookup::place_among` meets its contract.
 use mathlib.Core.Path.{sym}
-use native.Mathlib.Omega.{arith}
 use Rattle.lookup.proofs.Places.{place-is}
 use borrow.Author.Needs.{needs}
 use Rattle.lookup.proofs.place_among.Statement.{statement}

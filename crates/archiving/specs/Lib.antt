@@ -1,0 +1,2 @@
+pub mod Archiving
+pub mod Inner

@@ -1,0 +1,4 @@
+pub mod Places
+pub mod Closing
+pub mod Sliding
+pub mod Passing

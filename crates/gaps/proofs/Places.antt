@@ -1,0 +1,50 @@
+-- Where kept rows stand after the gaps are closed.
+use mathlib.Core.Bool.{Bool, true, false}
+use mathlib.Core.Path.{_≡_, refl}
+use Prim.Native.Nat.{ℕ, zero, suc, _+_, _≤_, _<_}
+use native.Mathlib.Omega.{arith}
+use native.Mathlib.Decide.{ℕ-discrete, decLt}
+use Rattle.sums.specs.Sum.{sum, only}
+use Rattle.sums.proofs.Sums.{only-most, sum-most}
+use Rattle.gaps.specs.Gaps.{placeAfter}
+
+module _ (keep : ℕ → Bool) where
+  pub place-none : placeAfter keep 0 ≡ 0
+  unfolding placeAfter sum
+  place-none = refl
+
+  -- one row more
+  pub place-step : (i : ℕ) → placeAfter keep (suc i) ≡ placeAfter keep i + only (keep i) 1
+  unfolding placeAfter sum
+  place-step i = refl
+
+  pub place-on : (i : ℕ) → keep i ≡ true → placeAfter keep (suc i) ≡ placeAfter keep i + 1
+  place-on i e = rw e at (place-step i)
+
+  pub place-off : (i : ℕ) → keep i ≡ false → placeAfter keep (suc i) ≡ placeAfter keep i
+  place-off i e = let s = rw e at (place-step i) in omega arith
+
+  pub place-le : (i j : ℕ) → i ≤ j → placeAfter keep i ≤ placeAfter keep j
+  place-le i zero l = let e : i ≡ 0 = omega arith in rw e (omega arith)
+  place-le i (suc j) l = by (ℕ-discrete i (suc j)) (λ m. place-le i j m)
+    where
+      by : Dec (i ≡ suc j) → (i ≤ j → placeAfter keep i ≤ placeAfter keep j) → placeAfter keep i ≤ placeAfter keep (suc j)
+      by (yes e) r = rw e (omega arith)
+      by (no e) r = omega (arith, r (omega arith), place-step j)
+
+  -- kept rows stay in their order
+  pub place-lt : (i j : ℕ) → keep i ≡ true → i < j → placeAfter keep i < placeAfter keep j
+  place-lt i j e l = omega (arith, place-on i e, place-le (suc i) j (omega arith))
+
+  -- and none moves up
+  pub place-most : (i : ℕ) → placeAfter keep i ≤ i
+  unfolding placeAfter
+  place-most i = omega (arith, sum-most i 1 (λ j. only (keep j) 1) (λ j l. only-most (keep j) 1))
+
+  -- two kept rows have two places
+  pub place-apart : (a b : ℕ) → keep a ≡ true → keep b ≡ true → (a ≡ b → ⊥) → placeAfter keep a ≡ placeAfter keep b → ⊥
+  place-apart a b ka kb ne q = by (decLt a b)
+    where
+      by : Dec (a < b) → ⊥
+      by (yes m) = omega (arith, place-lt a b ka m)
+      by (no m) = omega (arith, place-lt b a kb (omega arith))
