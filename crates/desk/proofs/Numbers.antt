@@ -14,8 +14,9 @@ use Rattle.dayfile.specs.declared.Found.{Found}
 use Rattle.dayfile.specs.declared.Found.the-variants.{End as NoBytes, Cut as TooFew, Whole}
 use Rattle.dayfile.specs.Reading.{foundAt}
 use Rattle.rules.specs.declared.Change.the-variants.{Put, Open}
-use Rattle.rules.specs.Refusals.{isOpening, namedRow, refusalOf}
+use Rattle.rules.specs.Refusals.{isOpening, namedRow}
 use Rattle.rules.specs.Effects.{amended}
+use Rattle.rules.specs.Numbered.{placed, verdictOf}
 use Rattle.desk.specs.declared.Outcome.the-variants.{Refused}
 use Rattle.desk.specs.declared.Carried.{Carried}
 use Rattle.desk.specs.declared.CarriedNext.{CarriedNext}
@@ -25,15 +26,19 @@ use Rattle.desk.specs.Over.{overDone, overNext}
 use Rattle.desk.proofs.Effect.{refused-as, passed-as, answer-number}
 
 module _ (b : Book) (r : Record) where
+  -- the record with its account told by the place of its row
+  abbrev r′ : Record
+  r′ = placed b r
+
   -- the number given is that of an opening carried out
   pub given-number : givenIn (stepOf b r .answer .outcome) ≡ givenOf b r
   unfolding pick
-  given-number = by (refusalOf b r) refl
+  given-number = by (verdictOf b r) refl
     where
-      by : (n : ℕ) → refusalOf b r ≡ n → givenIn (stepOf b r .answer .outcome) ≡ unlessRefused n (only (isOpening r) (b .count)) (λ m. 0)
+      by : (n : ℕ) → verdictOf b r ≡ n → givenIn (stepOf b r .answer .outcome) ≡ unlessRefused n (only (isOpening r) (b .next)) (λ m. 0)
       by zero e = ap (λ d. givenIn (d .answer .outcome)) (passed-as b r e) ∙ passing (isOpening r)
         where
-          passing : (t : Bool) → givenIn (answerOf (b .count) r (pick t (Open (openedRow (r .code) (r .account))) (Put (amended (namedRow b r) r))) .outcome) ≡ only t (b .count)
+          passing : (t : Bool) → givenIn (answerOf (b .next) r (pick t (Open (openedRow (r .code) (r′ .account))) (Put (amended (namedRow b r′) r′))) .outcome) ≡ only t (b .next)
           passing true = refl
           passing false = refl
       by (suc n) e = ap (λ d. givenIn (d .answer .outcome)) (refused-as b r n e) ∙ named (eqb (suc n) 1)
@@ -43,7 +48,7 @@ module _ (b : Book) (r : Record) where
           named false = refl
 
   pub done-named : (d : Carried) → d ≡ overDone (stepOf b r)
-      → (d ≡ overDone (stepOf b r)) × ((refusalIn (d .answer .outcome) ≡ refusalOf b r) × (givenIn (d .answer .outcome) ≡ givenOf b r))
+      → (d ≡ overDone (stepOf b r)) × ((refusalIn (d .answer .outcome) ≡ verdictOf b r) × (givenIn (d .answer .outcome) ≡ givenOf b r))
   done-named d e = (e, (ap (λ x. refusalIn (x .answer .outcome)) e ∙ answer-number b r, ap (λ x. givenIn (x .answer .outcome)) e ∙ given-number))
 
 module _ (b : Book) (s : List ℕ) (at : ℕ) where

@@ -38,8 +38,8 @@ nobody o = record { serial = 0; code = 0; account = 0; outcome = o }
 abbrev pub ofRecord : Record → Outcome → Answer
 ofRecord r o = record { serial = r .serial; code = r .code; account = r .account; outcome = o }
 
--- the answer to a record that makes this change to a book with count numbers given
+-- the answer to a record that makes this change to a book with this next number
 abbrev pub answerOf : ℕ → Record → Change → Answer
-answerOf count r (Refuse n) = pick (eqb n 1) (nobody (Refused n)) (ofRecord r (Refused n))
-answerOf count r (Put row) = ofRecord r CarriedOut
-answerOf count r (Open row) = ofRecord r (Opened count)
+answerOf next r (Refuse n) = pick (eqb n 1) (nobody (Refused n)) (ofRecord r (Refused n))
+answerOf next r (Put row) = ofRecord r CarriedOut
+answerOf next r (Open row) = ofRecord r (Opened next)

@@ -14,17 +14,18 @@ use Rattle.desk.specs.declared.Outcome.the-variants.{Refused, End}
 use Rattle.desk.specs.declared.Done.{Done}
 use Rattle.desk.specs.declared.Next.{Next}
 use Rattle.rules.specs.declared.Change.{Change}
-use Rattle.rules.specs.Refusals.{isOpening, refusalOf}
-use Rattle.rules.specs.Effects.{changeOf, bookAfter}
+use Rattle.rules.specs.Refusals.{isOpening}
+use Rattle.rules.specs.Effects.{bookAfter}
+use Rattle.rules.specs.Numbered.{verdictOf, actOf}
 use Rattle.desk.specs.Answers.{nobody, answerOf}
 
 -- the answer and the book after a change that the record makes
 abbrev pub doneBy : Book → Record → Change → Done
-doneBy b r c = record { answer = answerOf (b .count) r c; book = bookAfter b (placeOf b (r .account)) c }
+doneBy b r c = record { answer = answerOf (b .next) r c; book = bookAfter b (placeOf b (r .account)) c }
 
 -- "A record handed over as values is checked as one that was read"
 unfoldable pub stepOf : Book → Record → Done
-stepOf b r = doneBy b r (changeOf b r)
+stepOf b r = doneBy b r (actOf b r)
 
 -- what stands at the place is carried out. "2: bytes are left, but too few for the record's first six bytes or for its
 -- amounts". "No bytes left means the end, which is no refusal, and the book stays the same."
@@ -41,13 +42,13 @@ nextOf b s at = pick (soundB b) (onFound b at (foundAt s at)) (record { answer =
 -- Document 01's numbers of an answer (`refusalIn`, `givenIn`). For a record the refusal is the table's, and the number given is that of an opening carried out: "The next opening
 -- takes the next number."
 abbrev pub givenOf : Book → Record → ℕ
-givenOf b r = unlessRefused (refusalOf b r) (only (isOpening r) (b .count)) (λ n. 0)
+givenOf b r = unlessRefused (verdictOf b r) (only (isOpening r) (b .next)) (λ n. 0)
 
 -- for what stands at a place of a piece
 abbrev pub refusalFound : Book → Found → ℕ
 refusalFound b NoBytes = numberFound NoBytes
 refusalFound b TooFew = numberFound TooFew
-refusalFound b (Whole r next) = refusalOf b r
+refusalFound b (Whole r next) = verdictOf b r
 
 abbrev pub givenFound : Book → Found → ℕ
 givenFound b NoBytes = 0

@@ -1,7 +1,7 @@
 // The desk: a record is carried out or refused.
 ghost use mathlib.Core.Path.{_≡_};
 ghost use Rattle.book.specs.Facts.{Sound};
-ghost use Rattle.rules.specs.Refusals.{refusalOf};
+ghost use Rattle.rules.specs.Numbered.{verdictOf};
 ghost use Rattle.desk.specs.Answers.{refusalIn, givenIn, nobody};
 ghost use Rattle.desk.specs.Steps.{stepOf, nextOf, givenOf, nextRefusal, nextGiven};
 ghost use Rattle.desk.specs.Over.{overDone, overNext};
@@ -90,6 +90,7 @@ fn step_at(t: Table, r: Record) -> Carried
     let mut tm = t.tm;
     let mut amounts = t.amounts;
     let mut needs = t.needs;
+    let mut numbers = t.numbers;
     let was = t.modes;
     table::sizes(sort, live, tm, amounts);
     table::modes::size(was);
@@ -101,6 +102,7 @@ fn step_at(t: Table, r: Record) -> Carried
     let at = At {
         count,
         serial: t.serial,
+        next: t.next,
         waiting: true,
     };
     let gone = steps::step(
@@ -110,6 +112,7 @@ fn step_at(t: Table, r: Record) -> Carried
         &mut amounts,
         &mut modes,
         &mut needs,
+        &mut numbers,
         &mut excess,
         &was,
         at,
@@ -132,6 +135,8 @@ fn step_at(t: Table, r: Record) -> Carried
         amounts,
         modes: steps::modes_of(was, modes, after.waiting),
         needs,
+        next: after.next,
+        numbers,
     };
     Carried { answer, table }
 }
@@ -164,7 +169,7 @@ fn at(c: Carried, place: usize) -> CarriedNext
 // A record handed over as values.
 pub fn carry_out(t: Table, record: Record) -> Carried
     ensures { λ d. ⌜ d ≡ overDone (stepOf (turnedBack t) «record») ⌝ }
-    ensures { λ d. ⌜ refusalIn (d .answer .outcome) ≡ refusalOf (turnedBack t) «record» ⌝ }
+    ensures { λ d. ⌜ refusalIn (d .answer .outcome) ≡ verdictOf (turnedBack t) «record» ⌝ }
     ensures { λ d. ⌜ givenIn (d .answer .outcome) ≡ givenOf (turnedBack t) «record» ⌝ }
 {
     if !book::is_sound(t) {

@@ -15,7 +15,7 @@ use Rattle.book.specs.Facts.{Sound}
 use Rattle.dayfile.specs.declared.Record.{Record}
 use Rattle.rules.specs.declared.Change.{Change}
 use Rattle.rules.specs.declared.Change.the-variants.{Refuse, Put, Open}
-use Rattle.rules.specs.Effects.{changeOf}
+use Rattle.rules.specs.Numbered.{placed, actOf}
 use Rattle.rules.proofs.Deciding.{never-one, refuse-number}
 use Rattle.desk.specs.declared.Outcome.the-variants.{Refused}
 use Rattle.desk.specs.Answers.{nobody, ofRecord, answerOf, carriedIn}
@@ -25,24 +25,24 @@ use Rattle.steps.specs.Steps.{refusalShown, givenShown, carriedShown}
 
 -- the numbers of a record at a sound book, by its change
 abbrev pub numbersBy : Record → ℕ → Change → List ℕ
-numbersBy r count c = r .serial ∷ r .code ∷ r .account ∷ refusalShown c ∷ givenShown count c ∷ []
+numbersBy r next c = r .serial ∷ r .code ∷ r .account ∷ refusalShown c ∷ givenShown next c ∷ []
 
-pub carried-shown : (count : ℕ) (r : Record) (c : Change) → carriedIn (answerOf count r c .outcome) ≡ carriedShown c
+pub carried-shown : (next : ℕ) (r : Record) (c : Change) → carriedIn (answerOf next r c .outcome) ≡ carriedShown c
 unfolding pick
-carried-shown count r (Refuse n) = by (eqb n 1)
+carried-shown next r (Refuse n) = by (eqb n 1)
   where
     by : (t : Bool) → carriedIn (pick t (nobody (Refused n)) (ofRecord r (Refused n)) .outcome) ≡ 0
     by true = refl
     by false = refl
-carried-shown count r (Put x) = refl
-carried-shown count r (Open x) = refl
+carried-shown next r (Put x) = refl
+carried-shown next r (Open x) = refl
 
-pub numbers-by : (b : Book) (r : Record) (c : Change) → Sound b → c ≡ changeOf b r → numbersOfLine (stepOf b r .answer) ≡ numbersBy r (b .count) c
+pub numbers-by : (b : Book) (r : Record) (c : Change) → Sound b → c ≡ actOf b r → numbersOfLine (stepOf b r .answer) ≡ numbersBy r (b .next) c
 unfolding numbersOfLine stepOf
 numbers-by b r (Refuse n) s e =
-    ap numbersOfLine (ap (answerOf (b .count) r) (sym e) ∙ pick-no (eqb n 1) _ _ (ne-eqb n 1 (λ q. never-one b r s (refuse-number b r n (sym e) ∙ q))))
-numbers-by b r (Put x) s e = ap (λ c. numbersOfLine (answerOf (b .count) r c)) (sym e)
-numbers-by b r (Open x) s e = ap (λ c. numbersOfLine (answerOf (b .count) r c)) (sym e)
+    ap numbersOfLine (ap (answerOf (b .next) r) (sym e) ∙ pick-no (eqb n 1) _ _ (ne-eqb n 1 (λ q. never-one b (placed b r) s (refuse-number b (placed b r) n (sym e) ∙ q))))
+numbers-by b r (Put x) s e = ap (λ c. numbersOfLine (answerOf (b .next) r c)) (sym e)
+numbers-by b r (Open x) s e = ap (λ c. numbersOfLine (answerOf (b .next) r c)) (sym e)
 
 -- five stores, one after the other
 pub five-stores : (l : List ℕ) (at a b c d e : ℕ)

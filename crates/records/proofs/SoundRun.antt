@@ -16,6 +16,7 @@ use Rattle.dayfile.specs.declared.Record.{Record}
 use Rattle.dayfile.specs.declared.Found.{Found}
 use Rattle.dayfile.specs.declared.Found.the-variants.{End as NoBytes, Cut as TooFew, Whole}
 use Rattle.dayfile.specs.Reading.{foundAt}
+use Rattle.rules.specs.Numbered.{placed}
 use Rattle.rules.proofs.SoundChange.{change-sound}
 use Rattle.desk.specs.Answers.{carriedIn}
 use Rattle.desk.specs.Steps.{stepOf, onFound, nextOf}
@@ -27,7 +28,7 @@ use Rattle.records.proofs.NumbersPut.{ran-sound}
 
 pub step-sound : (b : Book) (r : Record) → Sound b → Sound (stepOf b r .book)
 unfolding stepOf
-step-sound b r s = change-sound b r s
+step-sound b r s = change-sound b (placed b r) s
 
 module _ (s : List ℕ) where
   stopped-book : (f : Found) (b : Book) (place read done : ℕ) → stopped f b place read done .book ≡ b

@@ -8,13 +8,15 @@ use lib.ListN.{length}
 use lib.Seq.{length-sets}
 use Rattle.sums.specs.Choice.{pick}
 use Rattle.rows.specs.declared.Book.{Book}
+use Rattle.rows.specs.Rows.{placeOf}
 use Rattle.book.specs.Facts.{Sound}
 use Rattle.dayfile.specs.declared.Record.{Record}
 use Rattle.dayfile.specs.declared.Found.the-variants.{End as NoBytes, Cut as TooFew, Whole}
 use Rattle.dayfile.specs.Reading.{foundAt}
 use Rattle.rules.specs.declared.Change.{Change}
 use Rattle.rules.specs.declared.Change.the-variants.{Refuse, Put, Open}
-use Rattle.rules.specs.Effects.{changeOf, bookAfter}
+use Rattle.rules.specs.Effects.{bookAfter}
+use Rattle.rules.specs.Numbered.{placed, actOf}
 use Rattle.rules.proofs.SoundChange.{change-sound}
 use Rattle.desk.specs.Answers.{carriedIn, answerOf}
 use Rattle.desk.specs.Steps.{stepOf}
@@ -43,13 +45,13 @@ carried-most (Put x) = omega arith
 carried-most (Open x) = omega arith
 
 -- the step, by the change
-step-book : (b : Book) (r : Record) (c : Change) → c ≡ changeOf b r → stepOf b r .book ≡ bookAfter b (r .account) c
+step-book : (b : Book) (r : Record) (c : Change) → c ≡ actOf b r → stepOf b r .book ≡ bookAfter b (placeOf b (r .account)) c
 unfolding stepOf
-step-book b r c e = ap (bookAfter b (r .account)) (sym e)
+step-book b r c e = ap (bookAfter b (placeOf b (r .account))) (sym e)
 
-step-carried : (b : Book) (r : Record) (c : Change) → c ≡ changeOf b r → carriedIn (stepOf b r .answer .outcome) ≡ carriedShown c
+step-carried : (b : Book) (r : Record) (c : Change) → c ≡ actOf b r → carriedIn (stepOf b r .answer .outcome) ≡ carriedShown c
 unfolding stepOf
-step-carried b r c e = ap (λ d. carriedIn (answerOf (b .count) r d .outcome)) (sym e) ∙ carried-shown (b .count) r c
+step-carried b r c e = ap (λ d. carriedIn (answerOf (b .next) r d .outcome)) (sym e) ∙ carried-shown (b .next) r c
 
 module _ (s : List ℕ) (most : ℕ) (b : Book) (place read : ℕ) (r : Record) (next : ℕ) (l : read < most) (f : foundAt s place ≡ Whole r next) where
   fuel : most - read ≡ suc (most - (read + 1))
@@ -68,25 +70,25 @@ module _ (s : List ℕ) (most : ℕ) (b : Book) (place read : ℕ) (r : Record) 
 module _ (s : List ℕ) (most : ℕ) (numbered : Bool) (room₀ : List ℕ) (b₀ : Book) (place₀ read₀ done₀ : ℕ)
     (room : List ℕ) (b : Book) (place read done : ℕ) (g : Loop s most numbered room₀ b₀ place₀ read₀ done₀ room b place read done) where
   -- one record more, whose change is c
-  pub turn-one-more : (r : Record) (next : ℕ) (c : Change) (room′ : List ℕ) (b′ : Book) → read < most → foundAt s place ≡ Whole r next → c ≡ changeOf b r
-      → room′ ≡ pick numbered (putLineNumbers room read (numbersBy r (b .count) c)) room → b′ ≡ bookAfter b (r .account) c
+  pub turn-one-more : (r : Record) (next : ℕ) (c : Change) (room′ : List ℕ) (b′ : Book) → read < most → foundAt s place ≡ Whole r next → c ≡ actOf b r
+      → room′ ≡ pick numbered (putLineNumbers room read (numbersBy r (b .next) c)) room → b′ ≡ bookAfter b (placeOf b (r .account)) c
       → Loop s most numbered room₀ b₀ place₀ read₀ done₀ room′ b′ next (read + 1) (done + carriedShown c)
   unfolding pick
   turn-one-more r next c room′ b′ l f e er eb = record {
     within = omega arith;
     fewer = omega (arith, g .fewer, carried-most c);
-    sound = rw (eb, e) (change-sound b r (g .sound));
+    sound = rw (eb, e) (change-sound b (placed b r) (g .sound));
     same = size numbered er ∙ g .same;
     space = g .space;
     runs = rw (eb, ← (step-book b r c e), ← (step-carried b r c e)) (sym (run-turn s most b place read r next l f done) ∙ g .runs);
     numbers = rw (eb, ← (step-book b r c e)) (numbers-on numbered er ∙ g .numbers);
   }
     where
-      size : (t : Bool) → room′ ≡ pick t (putLineNumbers room read (numbersBy r (b .count) c)) room → length room′ ≡ length room
-      size true q = ap length q ∙ length-sets room (5 * read) (numbersBy r (b .count) c)
+      size : (t : Bool) → room′ ≡ pick t (putLineNumbers room read (numbersBy r (b .next) c)) room → length room′ ≡ length room
+      size true q = ap length q ∙ length-sets room (5 * read) (numbersBy r (b .next) c)
       size false q = ap length q
 
-      numbers-on : (t : Bool) → room′ ≡ pick t (putLineNumbers room read (numbersBy r (b .count) c)) room
+      numbers-on : (t : Bool) → room′ ≡ pick t (putLineNumbers room read (numbersBy r (b .next) c)) room
           → pick t (putNumbersFrom s (most - (read + 1)) (stepOf b r .book) next (read + 1) room′) room′ ≡ pick t (putNumbersFrom s (most - read) b place read room) room
       numbers-on true q =
           ap (putNumbersFrom s (most - (read + 1)) (stepOf b r .book) next (read + 1)) (q ∙ ap (putLineNumbers room read) (sym (numbers-by b r c (g .sound) e)))

@@ -30,5 +30,5 @@ putNumbersFrom s zero b place k room = room
 putNumbersFrom s (suc most) b place k room = numbering (putNumbersFrom s most) (foundAt s place) b k room
 
 -- what the loop came to, with the words that it left
-abbrev pub ranIn : Went → Marks → List ℕ → List Bool → List Bool → List ℕ → Ran
-ranIn x m w was modes needs = record { book = bookAt (x .at) m w was modes needs; place = x .place; closing = x .closing; read = x .read; done = x .done }
+abbrev pub ranIn : Went → Marks → List ℕ → List Bool → List Bool → List ℕ → List ℕ → Ran
+ranIn x m w was modes needs numbers = record { book = bookAt (x .at) m w was modes needs numbers; place = x .place; closing = x .closing; read = x .read; done = x .done }

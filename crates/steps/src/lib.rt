@@ -4,8 +4,9 @@ ghost use mathlib.Core.Path.{_≡_};
 ghost use Prim.Native.Nat.{_<_};
 ghost use lib.ListN.{length};
 ghost use Rattle.rules.specs.Refusals.{isOpening};
+ghost use Rattle.rules.specs.Numbered.{placed};
 ghost use Rattle.table.specs.Words.{marksFrom};
-ghost use Rattle.steps.specs.Steps.{Ready, Decided, modesIn, atAfter, Going, Stepped, goneWith};
+ghost use Rattle.steps.specs.Steps.{Ready, Decided, modesIn, bookAt, atAfter, Going, Stepped, goneWith};
 use codes::amend;
 use codes::early;
 use codes::own::open;
@@ -14,6 +15,8 @@ use looking::look_after;
 use looking::mode_of;
 use looking::past_if;
 use looking::settle_needs;
+use lookup::place_among;
+use rules::naming;
 
 mod looking;
 
@@ -135,7 +138,7 @@ fn carry(
 
 // One record, its account told by the place of its row, at the arrays of a sound book. `modes` are those that a look leaves: where a record is carried out they are the book's. K3's needs and
 // K2's look move at most three places; openings, 4, 5 and 11 move no figure that they go by.
-pub fn step(
+fn step_placed(
     sort: &mut [u8; 256],
     live: &mut [bool; 256],
     tm: &mut [u16; 256],
@@ -159,6 +162,39 @@ pub fn step(
         look_after(sort, live, tm, w, modes, excess, was, at.waiting, past);
     }
     gone
+}
+
+// One record at the arrays of a sound book: the row that its number names is looked up (K11).
+pub fn step(
+    sort: &mut [u8; 256],
+    live: &mut [bool; 256],
+    tm: &mut [u16; 256],
+    w: &mut [u64; 2560],
+    modes: &mut [bool; 256],
+    needs: &mut [u64; 256],
+    numbers: &mut [u16; 256],
+    excess: &mut [u64; 256],
+    was: &[bool; 256],
+    at: At,
+    r: Record,
+) -> Gone
+    requires { ⌜ Going at (marksFrom (now sort) (now live) (now tm)) (now w) (now was) (now modes) (now needs) (now numbers) (now excess) ⌝ }
+    ensures { λ x. ⌜ Stepped at (marksFrom (now (sort .entry)) (now (live .entry)) (now (tm .entry))) (now (w .entry)) (now (was .entry)) (now (modes .entry)) (now (needs .entry)) (now (numbers .entry)) (placed (bookAt at (marksFrom (now (sort .entry)) (now (live .entry)) (now (tm .entry))) (now (w .entry)) (now (was .entry)) (now (modes .entry)) (now (needs .entry)) (now (numbers .entry))) r) x (marksFrom (now (sort .exit)) (now (live .exit)) (now (tm .exit))) (now (w .exit)) (now (modes .exit)) (now (needs .exit)) (now (numbers .exit)) (now (excess .exit)) ⌝ }
+{
+    let place = place_among(numbers, at.count, r.account);
+    step_placed(
+        sort,
+        live,
+        tm,
+        w,
+        modes,
+        needs,
+        numbers,
+        excess,
+        was,
+        at,
+        naming(place, r),
+    )
 }
 
 // Where the book stands after a record.

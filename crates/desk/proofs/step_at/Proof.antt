@@ -11,7 +11,7 @@ use Rattle.desk.proofs.step_at.Tie as tie
 
 -- THE PLACES, each named once.
 abbrev called : tie.After-size2 → tie.Start
-called s = s .before .before .before .before .before .before .before .before .before
+called s = s .before .before .before .before .before .before .before .before .before .before
 
 abbrev sized : tie.After-deemed-under → tie.After-size2
 sized u = u .before .before .before .before .before
@@ -20,7 +20,7 @@ abbrev summed : tie.After-look-all → tie.After-deemed-under
 summed l = l .before .before .before .before .before .before
 
 abbrev looked : tie.After-step → tie.After-look-all
-looked s = s .before .before .before .before .before .before .before .before .before
+looked s = s .before .before .before .before .before .before .before .before .before .before
 
 sizes-requires : tie.Need-sizes-requires
 sizes-requires c κs = search needs
@@ -47,7 +47,7 @@ look-all-requires c κs =
 
 step-requires : tie.Need-step-requires
 step-requires c κs =
-    let l = c .before .before .before .before .before .before .before .before in
+    let l = c .before .before .before .before .before .before .before .before .before in
     let u = summed l in
     let z = sized u in
     let s = called z in
@@ -74,8 +74,8 @@ returns c =
     let u = x .1 .1 .1 .0 in
     let after = c .before .on .result in
     stepped-over _ (s .args .r) (s .pre) _ _ _ _ (c .before .before .outcome-of .ensures) (h .refusal) (h .given) (h .ready .size)
-    (ap (λ l. bookFrom (after .count) (after .serial) n u l (x .1 .1 .1 .1 .1 .0)) (c .modes-of .ensures)
-    ∙ ap (λ a. bookAt a n u (s .args .t .modes) (x .1 .1 .1 .1 .0) (x .1 .1 .1 .1 .1 .0)) (c .before .on .ensures) ∙ h .book)
+    (ap (λ l. bookFrom (after .count) (after .serial) n u l (x .1 .1 .1 .1 .1 .0) (after .next) (x .1 .1 .1 .1 .1 .1 .0)) (c .modes-of .ensures)
+    ∙ ap (λ a. bookAt a n u (s .args .t .modes) (x .1 .1 .1 .1 .0) (x .1 .1 .1 .1 .1 .0) (x .1 .1 .1 .1 .1 .1 .0)) (c .before .on .ensures) ∙ h .book)
 
 pub step-at-spec : {M : Type 1} → statement M
 step-at-spec =
