@@ -37,12 +37,13 @@ pub struct Day {
 }
 
 // Where a book stands that was handed over.
-fn starting(count: u16, serial: u16) -> At
-    ensures { λ x. ⌜ x ≡ record { count = count; serial = serial; waiting = true } ⌝ }
+fn starting(count: u16, serial: u16, next: u32) -> At
+    ensures { λ x. ⌜ x ≡ record { count = count; serial = serial; next = next; waiting = true } ⌝ }
 {
     At {
         count,
         serial,
+        next,
         waiting: true,
     }
 }
@@ -93,6 +94,7 @@ fn in_turns(program: &[u8], printing: bool, t: Table) -> Day
     let mut tm = t.tm;
     let mut amounts = t.amounts;
     let mut needs = t.needs;
+    let mut accounts = t.numbers;
     let was = t.modes;
     table::sizes(sort, live, tm, amounts);
     table::modes::size(was);
@@ -100,7 +102,7 @@ fn in_turns(program: &[u8], printing: bool, t: Table) -> Day
     let mut excess = [0u64; 256];
     deemed_under(&sort, &tm, &amounts, t.count, true, &mut excess);
     let mut modes = look_all(&sort, &tm, &amounts, t.count, &excess, &was);
-    let mut at = starting(t.count, t.serial);
+    let mut at = starting(t.count, t.serial, t.next);
     let mut rest: usize = 0;
     let mut read: u64 = 0;
     let mut done: u64 = 0;
@@ -116,6 +118,7 @@ fn in_turns(program: &[u8], printing: bool, t: Table) -> Day
             &mut amounts,
             &mut modes,
             &mut needs,
+            &mut accounts,
             &mut excess,
             &was,
             at,
@@ -150,6 +153,8 @@ fn in_turns(program: &[u8], printing: bool, t: Table) -> Day
         amounts,
         modes: modes_of(was, modes, at.waiting),
         needs,
+        next: at.next,
+        numbers: accounts,
     };
     Day {
         table,

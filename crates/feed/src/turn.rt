@@ -39,7 +39,7 @@ fn at_once(left: u64) -> u64
     if left < RECORDS { left } else { RECORDS }
 }
 
-// Where lines are asked for, their numbers are put from the room's start.
+// Where lines are asked for, their numbers are put from the room's start; `accounts` are the rows' numbers.
 pub(crate) fn carry_on(
     sort: &mut [u8; 256],
     live: &mut [bool; 256],
@@ -47,6 +47,7 @@ pub(crate) fn carry_on(
     w: &mut [u64; 2560],
     modes: &mut [bool; 256],
     needs: &mut [u64; 256],
+    accounts: &mut [u16; 256],
     excess: &mut [u64; 256],
     was: &[bool; 256],
     at: At,
@@ -55,10 +56,10 @@ pub(crate) fn carry_on(
     printing: bool,
     numbers: &mut [u16; 3200],
 ) -> Went
-    requires { ⌜ Going at (marksFrom (now sort) (now live) (now tm)) (now w) (now was) (now modes) (now needs) (now excess) × (length (now numbers) ≡ 3200) ⌝ }
-    ensures { λ x. ⌜ ranIn x (marksFrom (now (sort .exit)) (now (live .exit)) (now (tm .exit))) (now (w .exit)) (now (was .entry)) (now (modes .exit)) (now (needs .exit)) ≡ runOf (now (held .entry)) (min left 640) (bookAt at (marksFrom (now (sort .entry)) (now (live .entry)) (now (tm .entry))) (now (w .entry)) (now (was .entry)) (now (modes .entry)) (now (needs .entry))) 0 0 0 ⌝ }
-    ensures { λ x. ⌜ Going (x .at) (marksFrom (now (sort .exit)) (now (live .exit)) (now (tm .exit))) (now (w .exit)) (now (was .entry)) (now (modes .exit)) (now (needs .exit)) (now (excess .exit)) ⌝ }
-    ensures { λ x. ⌜ (x .read ≤ 640) × (length (now (numbers .exit)) ≡ 3200) × (printing ≡ true → linesTo (now (numbers .exit)) (x .read) ≡ linesOf (answersOf (now (held .entry)) (min left 640) (bookAt at (marksFrom (now (sort .entry)) (now (live .entry)) (now (tm .entry))) (now (w .entry)) (now (was .entry)) (now (modes .entry)) (now (needs .entry))) 0)) ⌝ }
+    requires { ⌜ Going at (marksFrom (now sort) (now live) (now tm)) (now w) (now was) (now modes) (now needs) (now accounts) (now excess) × (length (now numbers) ≡ 3200) ⌝ }
+    ensures { λ x. ⌜ ranIn x (marksFrom (now (sort .exit)) (now (live .exit)) (now (tm .exit))) (now (w .exit)) (now (was .entry)) (now (modes .exit)) (now (needs .exit)) (now (accounts .exit)) ≡ runOf (now (held .entry)) (min left 640) (bookAt at (marksFrom (now (sort .entry)) (now (live .entry)) (now (tm .entry))) (now (w .entry)) (now (was .entry)) (now (modes .entry)) (now (needs .entry)) (now (accounts .entry))) 0 0 0 ⌝ }
+    ensures { λ x. ⌜ Going (x .at) (marksFrom (now (sort .exit)) (now (live .exit)) (now (tm .exit))) (now (w .exit)) (now (was .entry)) (now (modes .exit)) (now (needs .exit)) (now (accounts .exit)) (now (excess .exit)) ⌝ }
+    ensures { λ x. ⌜ (x .read ≤ 640) × (length (now (numbers .exit)) ≡ 3200) × (printing ≡ true → linesTo (now (numbers .exit)) (x .read) ≡ linesOf (answersOf (now (held .entry)) (min left 640) (bookAt at (marksFrom (now (sort .entry)) (now (live .entry)) (now (tm .entry))) (now (w .entry)) (now (was .entry)) (now (modes .entry)) (now (needs .entry)) (now (accounts .entry))) 0)) ⌝ }
 {
     go(
         sort,
@@ -67,6 +68,7 @@ pub(crate) fn carry_on(
         w,
         modes,
         needs,
+        accounts,
         excess,
         was,
         at,

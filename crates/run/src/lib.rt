@@ -37,6 +37,7 @@ fn run(t: Table, piece: &[u8], most: u64, room: &mut [u16], numbered: bool) -> E
     let mut tm = t.tm;
     let mut amounts = t.amounts;
     let mut needs = t.needs;
+    let mut numbers = t.numbers;
     let was = t.modes;
     table::sizes(sort, live, tm, amounts);
     table::modes::size(was);
@@ -48,6 +49,7 @@ fn run(t: Table, piece: &[u8], most: u64, room: &mut [u16], numbered: bool) -> E
     let first = At {
         count,
         serial: t.serial,
+        next: t.next,
         waiting: true,
     };
     let went = go(
@@ -57,6 +59,7 @@ fn run(t: Table, piece: &[u8], most: u64, room: &mut [u16], numbered: bool) -> E
         &mut amounts,
         &mut modes,
         &mut needs,
+        &mut numbers,
         &mut excess,
         &was,
         first,
@@ -76,6 +79,8 @@ fn run(t: Table, piece: &[u8], most: u64, room: &mut [u16], numbered: bool) -> E
         amounts,
         modes: steps::modes_of(was, modes, at.waiting),
         needs,
+        next: at.next,
+        numbers,
     };
     Ended {
         table,

@@ -27,22 +27,22 @@ use Rattle.feed.proofs.in_turns.Statement.{statement}
 use Rattle.feed.proofs.in_turns.Tie as tie
 
 abbrev Inv-loop : tie.InvT-loop
-Inv-loop program printing space₀ numbers₀ text₀ sort₀ live₀ tm₀ amounts₀ needs₀ was excess₀ modes₀ at₀ rest₀ read₀ done₀ printed₀ ended₀ space numbers text sort live tm amounts needs excess modes at rest read done printed ended =
-    Feeding printing (bookFrom (at₀ .count) (at₀ .serial) (marksFrom sort₀ live₀ tm₀) amounts₀ was needs₀) space (bookAt at (marksFrom sort live tm) amounts was modes needs) rest read done printed
-    × Going at (marksFrom sort live tm) amounts was modes needs excess
+Inv-loop program printing space₀ numbers₀ text₀ sort₀ live₀ tm₀ amounts₀ needs₀ accounts₀ was excess₀ modes₀ at₀ rest₀ read₀ done₀ printed₀ ended₀ space numbers text sort live tm amounts needs accounts excess modes at rest read done printed ended =
+    Feeding printing (bookFrom (at₀ .count) (at₀ .serial) (marksFrom sort₀ live₀ tm₀) amounts₀ was needs₀ (at₀ .next) accounts₀) space (bookAt at (marksFrom sort live tm) amounts was modes needs accounts) rest read done printed
+    × Going at (marksFrom sort live tm) amounts was modes needs accounts excess
     × (length numbers ≡ 3200)
     × (length text ≡ 20480)
 
 abbrev μ-loop : tie.MeasureT-loop
-μ-loop program printing space₀ numbers₀ text₀ sort₀ live₀ tm₀ amounts₀ needs₀ was excess₀ modes₀ at₀ rest₀ read₀ done₀ printed₀ ended₀ space numbers text sort live tm amounts needs excess modes at rest read done printed ended =
+μ-loop program printing space₀ numbers₀ text₀ sort₀ live₀ tm₀ amounts₀ needs₀ accounts₀ was excess₀ modes₀ at₀ rest₀ read₀ done₀ printed₀ ended₀ space numbers text sort live tm amounts needs accounts excess modes at rest read done printed ended =
     1_000_000 - read
 
 -- THE PLACES, each named once.
 abbrev called : tie.After-size2 Inv-loop μ-loop → tie.Start Inv-loop μ-loop
-called s = s .before .before .before .before .before .before .before .before .before .before .before
+called s = s .before .before .before .before .before .before .before .before .before .before .before .before
 
 abbrev blanked : tie.After-size2 Inv-loop μ-loop → tie.After-blank Inv-loop μ-loop
-blanked s = s .before .before .before .before .before .before .before .before .before
+blanked s = s .before .before .before .before .before .before .before .before .before .before
 
 abbrev sized : tie.After-deemed-under Inv-loop μ-loop → tie.After-size2 Inv-loop μ-loop
 sized u = u .before .before .before .before .before
@@ -57,7 +57,7 @@ abbrev turn : tie.After-refill Inv-loop μ-loop → tie.At-loop Inv-loop μ-loop
 turn f = f .before .before
 
 abbrev filled : tie.After-carry-on Inv-loop μ-loop → tie.After-refill Inv-loop μ-loop
-filled c = c .before .before .before .before .before .before .before .before .before .before .before .before .before
+filled c = c .before .before .before .before .before .before .before .before .before .before .before .before .before .before
 
 abbrev carried : tie.After-print-lines Inv-loop μ-loop → tie.After-carry-on Inv-loop μ-loop
 carried w = w .before .before .before .before
@@ -74,19 +74,19 @@ handed t = called (sized (summed (started t .before))) .args .t
 
 -- the same by the words that the loop starts from
 abbrev first : tie.At-loop Inv-loop μ-loop → Book
-first t = let at = started t .starting .result in let h = handed t in bookFrom (at .count) (at .serial) (marksOf h) (h .amounts) (h .modes) (h .needs)
+first t = let at = started t .starting .result in let h = handed t in bookFrom (at .count) (at .serial) (marksOf h) (h .amounts) (h .modes) (h .needs) (at .next) (h .numbers)
 
 is-first : (t : tie.At-loop Inv-loop μ-loop) → first t ≡ turnedBack (handed t)
 is-first t =
     let h = handed t in
-    ap (λ (at : At). bookFrom (at .count) (at .serial) (marksOf h) (h .amounts) (h .modes) (h .needs)) (started t .starting .ensures)
+    ap (λ (at : At). bookFrom (at .count) (at .serial) (marksOf h) (h .amounts) (h .modes) (h .needs) (at .next) (h .numbers)) (started t .starting .ensures)
 
 -- what the turn came to
 abbrev ran : tie.After-carry-on Inv-loop μ-loop → Ran
-ran c = let x = c .carry-on .last in ranIn (c .carry-on .result) (marksFrom (x .0) (x .1 .0) (x .1 .1 .0)) (x .1 .1 .1 .0) (handed (turn (filled c)) .modes) (x .1 .1 .1 .1 .0) (x .1 .1 .1 .1 .1 .0)
+ran c = let x = c .carry-on .last in ranIn (c .carry-on .result) (marksFrom (x .0) (x .1 .0) (x .1 .1 .0)) (x .1 .1 .1 .0) (handed (turn (filled c)) .modes) (x .1 .1 .1 .1 .0) (x .1 .1 .1 .1 .1 .0) (x .1 .1 .1 .1 .1 .1 .0)
 
 piece : (c : tie.After-carry-on Inv-loop μ-loop) → (let f = filled c in let v = turn f .loop in
-    Piece (called (sized (summed (started (turn f) .before))) .args .printing) (first (turn f)) (v .space) (bookAt (v .at) (marksFrom (v .sort) (v .live) (v .tm)) (v .amounts) (handed (turn f) .modes) (v .modes) (v .needs)) (v .rest) (v .read) (v .done) (v .printed) (f .refill .last .1 .0) (v .rest + f .refill .result .count) (ran c))
+    Piece (called (sized (summed (started (turn f) .before))) .args .printing) (first (turn f)) (v .space) (bookAt (v .at) (marksFrom (v .sort) (v .live) (v .tm)) (v .amounts) (handed (turn f) .modes) (v .modes) (v .needs) (v .accounts)) (v .rest) (v .read) (v .done) (v .printed) (f .refill .last .1 .0) (v .rest + f .refill .result .count) (ran c))
 piece c =
     let g = turn (filled c) .loop .inv in
     let f = filled c .refill in
@@ -164,16 +164,16 @@ add-held c =
     omega (arith, f .refill .ensures .0, f .refill .kept .1 .0, turn f .loop .inv .0 .size)
 
 array-share-prefix-space : tie.Need-array-share-prefix-space Inv-loop μ-loop
-array-share-prefix-space c = c .before .before .before .before .before .before .before .before .before .before .refill .ensures .0
+array-share-prefix-space c = c .before .before .before .before .before .before .before .before .before .before .before .refill .ensures .0
 
 slice-aggregate-carry-on : tie.Need-slice-aggregate-carry-on Inv-loop μ-loop
-slice-aggregate-carry-on c = sym (length-take-le _ _ (c .before .before .before .before .before .before .before .before .before .before .before .refill .ensures .0))
+slice-aggregate-carry-on c = sym (length-take-le _ _ (c .before .before .before .before .before .before .before .before .before .before .before .before .refill .ensures .0))
 
 sub-carry-on : tie.Need-sub-carry-on Inv-loop μ-loop
-sub-carry-on c = read-upto (turn (c .before .before .before .before .before .before .before .before .before .before .before) .loop .inv .0)
+sub-carry-on c = read-upto (turn (c .before .before .before .before .before .before .before .before .before .before .before .before) .loop .inv .0)
 
 carry-on-requires : tie.Need-carry-on-requires Inv-loop μ-loop
-carry-on-requires c κs = let i = turn (c .before .before .before .before .before .before .before .before .before .before .before .before) .loop .inv in (i .1, i .2)
+carry-on-requires c κs = let i = turn (c .before .before .before .before .before .before .before .before .before .before .before .before .before) .loop .inv in (i .1, i .2)
 
 slice-aggregate-print-lines : tie.Need-slice-aggregate-print-lines Inv-loop μ-loop
 slice-aggregate-print-lines c = sym (turn (filled (c .before .before .before)) .loop .inv .3)
@@ -243,7 +243,7 @@ returns-2 c =
     let at = t .carry-on .result .at in
     let n = marksFrom (x .0) (x .1 .0) (x .1 .1 .0) in
     came-over (is-first (turn (filled t))) (last-turn-came (piece t) _ (shown s) _ (s .stops .result) (s .stops .ensures) (c .before .if2 .taken) _
-    (ap (λ (l : List Bool). turned (bookFrom (at .count) (at .serial) n (x .1 .1 .1 .0) l (x .1 .1 .1 .1 .1 .0))) (sym (c .modes-of .ensures)) ∙ back-and-over _ (t .carry-on .ensures .1 .0 .size)))
+    (ap (λ (l : List Bool). turned (bookFrom (at .count) (at .serial) n (x .1 .1 .1 .0) l (x .1 .1 .1 .1 .1 .0) (at .next) (x .1 .1 .1 .1 .1 .1 .0))) (sym (c .modes-of .ensures)) ∙ back-and-over _ (t .carry-on .ensures .1 .0 .size)))
 
 pub in-turns-spec : {M : Type 1} → statement M
 in-turns-spec =

@@ -19,10 +19,10 @@ abbrev summed : tie.After-look-all → tie.After-deemed-under
 summed l = l .before .before .before .before .before .before
 
 abbrev called : tie.After-size2 → tie.Start
-called s = s .before .before .before .before .before .before .before .before .before .before .before
+called s = s .before .before .before .before .before .before .before .before .before .before .before .before
 
 abbrev looked : tie.After-go → tie.After-look-all
-looked g = g .before .before .before .before .before .before .before .before .before .before
+looked g = g .before .before .before .before .before .before .before .before .before .before .before
 
 sizes-requires : tie.Need-sizes-requires
 sizes-requires c κs = search needs
@@ -49,7 +49,7 @@ look-all-requires c κs =
 
 go-requires : tie.Need-go-requires
 go-requires c κs =
-    let l = c .before .before .before .before .before .before .before .before .before in
+    let l = c .before .before .before .before .before .before .before .before .before .before in
     let u = summed l in
     let z = sized u in
     let s = called z in
@@ -70,7 +70,7 @@ returns c =
     let w = g .go .result in
     let n = marksFrom (x .0) (x .1 .0) (x .1 .1 .0) in (
       left-over _ _ (g .go .ensures .1 .0 .size)
-          (ap {B = Ran} (λ (l : List Bool). record { book = bookFrom (w .at .count) (w .at .serial) n (x .1 .1 .1 .0) l (x .1 .1 .1 .1 .1 .0); place = w .place; closing = w .closing; read = w .read; done = w .done }) (c .modes-of .ensures) ∙ g .go .ensures .0),
+          (ap {B = Ran} (λ (l : List Bool). record { book = bookFrom (w .at .count) (w .at .serial) n (x .1 .1 .1 .0) l (x .1 .1 .1 .1 .1 .0) (w .at .next) (x .1 .1 .1 .1 .1 .1 .0); place = w .place; closing = w .closing; read = w .read; done = w .done }) (c .modes-of .ensures) ∙ g .go .ensures .0),
       g .go .ensures .1 .1,
     )
 
