@@ -29,6 +29,7 @@ const OUTCOMES: [&str; NAMES.len()] = [
     "0 22",
     "0 15 18 19 20 21 22",
     "0 15",
+    "0 1 23",
 ];
 
 #[derive(Default)]

@@ -4,16 +4,17 @@
 
 use super::{between_records, Programs};
 use crate::book::Book;
+use crate::bookfile::{self, Version};
 use crate::child::{ask, ask_held, Pace};
 use crate::difference::settle;
 use crate::made::Made;
 use crate::make::asked::{any_sound, to_take_over, unsound, with_steps};
 use crate::make::{losses, make, ROUND};
 use crate::options::Options;
+use crate::print;
 use crate::rng::Rng;
 use crate::rule::Rule;
-use crate::table::{Fault, Table};
-use crate::{bookfile, print};
+use crate::table::{Fault, Table, LIVE, MODE};
 use std::fs;
 use std::path::{Path, PathBuf};
 
@@ -301,16 +302,27 @@ fn handed_over(book: &Book) -> Book {
 /// None where there is to be no such file.
 fn no_book_bytes(place: u64, mut bytes: Vec<u8>, rng: &mut Rng) -> Option<Vec<u8>> {
     let drawn = rng.below(256) as usize;
-    match place % 9 {
+    let whole = bytes.len();
+    let at = |word: usize| Version::Two.at(drawn, word).unwrap_or(0);
+    match place % 10 {
         0 => return None,
         1 => bytes.clear(),
-        2 => bytes.truncate(bookfile::LENGTH - 1),
+        2 => bytes.truncate(whole - 1),
         3 => bytes.push(0),
         4 => bytes[rng.below(3) as usize] ^= 1,
-        5 => bytes[3] = rng.pick(&[0, 2, 255]),
-        6 => bytes[bookfile::PLACES + drawn * bookfile::PLACE + 1] = 2,
-        7 => bytes[bookfile::PLACES + drawn * bookfile::PLACE + 84] = 255,
-        _ => bytes.truncate(rng.below(bookfile::LENGTH as u64) as usize),
+        // Of another version, whose length isn't this.
+        5 => bytes[3] = rng.pick(&[0, 1, 3, 255]),
+        6 => bytes[at(LIVE)] = 2,
+        7 => bytes[at(MODE)] = 255,
+        8 => {
+            bytes = bookfile::bytes_as(&Table::fresh(), Version::One);
+            match rng.below(3) {
+                0 => bytes.truncate(bytes.len() - 1),
+                1 => bytes.push(0),
+                _ => bytes[3] = 2,
+            }
+        }
+        _ => bytes.truncate(rng.below(whole as u64) as usize),
     }
     Some(bytes)
 }
@@ -327,8 +339,8 @@ fn book_difference(kept: &[u8], want: &Table) -> String {
             want.places[place], got.places[place]
         ),
         None => format!(
-            "another book was kept: second has {} accounts and serial {}, other {} and {}",
-            want.count, want.serial, got.count, got.serial
+            "another book was kept: second has {} accounts, serial {} and next number {}, other {}, {} and {}",
+            want.count, want.serial, want.next, got.count, got.serial, got.next
         ),
     }
 }

@@ -9,6 +9,7 @@ pub mod desk;
 mod endings;
 pub mod figures;
 mod lists;
+pub mod numbers;
 mod overs;
 mod pieces;
 mod records;

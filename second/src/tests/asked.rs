@@ -56,7 +56,7 @@ fn a_whole_round_meets_everything() {
         }
         assert_eq!(met.missed(), Vec::<String>::new());
     }
-    let outcomes = 2 + 3 + 15 + 17 + 4 + 6 + 5 + 4 + 3 + 6 + 2 + 7 + 2;
+    let outcomes = 2 + 3 + 15 + 17 + 4 + 6 + 5 + 4 + 3 + 6 + 2 + 7 + 2 + 3;
     let edges = 5 + 5 + 6 + 5 + 5 + 5 + 8 + 3 + 3 + 3 + 8 + 12;
     let taken_over = 2 + 3 + 6;
     let faults = Fault::all(Rule::Old).len() + Fault::all(Rule::New).len();
@@ -195,7 +195,7 @@ fn a_call_in_short() {
     let call = Calls::of(&bytes).next().unwrap();
     assert_eq!(
         story::short(&call),
-        "carry_out margin 1 5\n  its book: 2 accounts, next serial 1, 0 modes on, \
+        "carry_out margin 1 5\n  its book: 2 accounts, next serial 1, next number 2, 0 modes on, \
          faults [KeptNeed(1, 1, true)]"
     );
 }

@@ -51,7 +51,13 @@ fn sound_ones() {
 
 #[test]
 fn numbers_and_sorts() {
-    let many = of(|table| table.count = 257);
+    let counted = |count: u16| {
+        of(|table| {
+            table.count = count;
+            table.number_by_places();
+        })
+    };
+    let many = counted(257);
     assert_eq!(many[0], TooManyAccounts);
     assert_eq!(many[1..], [SecondCm; 249]);
     assert_eq!(
@@ -61,8 +67,8 @@ fn numbers_and_sorts() {
         }),
         [NoAccounts]
     );
-    assert_eq!(of(|table| table.count = 8), [SecondCm]);
-    assert_eq!(of(|table| table.count = 6), [Beyond(SORT), Beyond(TM)]);
+    assert_eq!(counted(8), [SecondCm]);
+    assert_eq!(counted(6), [Beyond(SORT), Beyond(TM)]);
     for word in 0..WORDS.len() {
         assert_eq!(of(|table| table.places[7][word] = 1), [Beyond(word)]);
         assert_eq!(of(|table| table.places[255][word] = 1), [Beyond(word)]);

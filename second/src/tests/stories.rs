@@ -83,7 +83,7 @@ fn errors_name_the_line() {
         "a book has places 0 to 255\nset 256 margin 1",
         "`256` is too large\nset 0 sort 256",
         "`65536` is too large\nserial 65536",
-        "a book has 23816 bytes\nbyte 23816 1",
+        "the book has 23816 bytes\nbyte 23816 1",
         "`retire 0` is refused with 8\ndo retire 0",
         "`x` is no account\nstanding x",
         "values need ten numbers\ncarry_out values 1 2 3",

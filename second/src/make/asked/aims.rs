@@ -195,10 +195,14 @@ fn any_record(book: Table, rng: &mut Rng) -> Call {
 /// By one of the other calls that take a book, with arguments that would do
 /// for a sound one, or wouldn't.
 fn asked_elsewhere(book: Table, rng: &mut Rng) -> Call {
-    match rng.below(6) {
+    match rng.below(7) {
         0 => {
             let account = rng.near(u64::from(book.count)) as u16;
             Call::Standing(book, account)
+        }
+        6 => {
+            let room = rng.pick(&[0, 2, 3 * book.held()]);
+            Call::Archive(book, room)
         }
         1 => any_record(book, rng),
         2 => {
