@@ -5,10 +5,9 @@
 
 use crate::book::MOST_ACCOUNTS;
 use crate::table::{Place, Table, LIVE, MODE, NUMBER, WIDTHS, WORDS};
-use std::ffi::{OsStr, OsString};
-use std::fs::{self, File};
-use std::io::{self, Read, Write};
-use std::path::Path;
+use std::ffi::OsStr;
+use std::fs::File;
+use std::io::Read;
 
 /// `LVB`, without its version.
 pub const MARK: [u8; 3] = [0x4C, 0x56, 0x42];
@@ -153,20 +152,4 @@ pub fn read_file(path: &OsStr) -> Result<Table, String> {
         .and_then(|file| file.take(most).read_to_end(&mut bytes))
         .map_err(|error| error.to_string())?;
     table(&bytes).ok_or_else(|| "it is no book".to_string())
-}
-
-/// Written whole beside its place and then renamed: whoever looks there finds
-/// the old book or the new one.
-pub fn write_file(path: &Path, table: &Table) -> io::Result<()> {
-    let mut beside = OsString::from(path);
-    beside.push(".new");
-    let written = File::create(&beside).and_then(|mut file| {
-        file.write_all(&bytes(table))?;
-        file.sync_all()?;
-        fs::rename(&beside, path)
-    });
-    if written.is_err() {
-        let _ = fs::remove_file(&beside);
-    }
-    written
 }

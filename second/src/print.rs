@@ -98,7 +98,7 @@ pub fn day(piece: &[u8]) -> Vec<u8> {
     day_seen(piece, |_, _| {}).0
 }
 
-fn sort_word(sort: Sort) -> &'static str {
+pub fn sort_word(sort: Sort) -> &'static str {
     match sort {
         Sort::Cm => "cm",
         Sort::Tm => "tm",

@@ -16,6 +16,15 @@ impl Entry {
         [self.number, self.code, self.tm]
     }
 
+    /// What the record that opened it made.
+    pub fn sort(&self) -> Sort {
+        match self.code {
+            TRADING => Sort::Tm,
+            CLIENT => Sort::Client,
+            _ => Sort::Cp,
+        }
+    }
+
     /// Of a row of a sound book. The sort of one that isn't the CM's is the code
     /// of the record that opened it.
     fn of(table: &Table, place: &Place) -> Entry {
