@@ -95,6 +95,13 @@ pub fn bytes_as(table: &Table, version: Version) -> Vec<u8> {
     out
 }
 
+/// In version 1, where that says the same.
+pub fn first_bytes(table: &Table) -> Option<Vec<u8>> {
+    let mut by_places = table.clone();
+    by_places.number_by_places();
+    (by_places == *table).then(|| bytes_as(table, Version::One))
+}
+
 /// The version that bytes begin with; None where they begin no book.
 pub fn version(bytes: &[u8]) -> Option<Version> {
     let head = bytes.get(..4)?;

@@ -67,8 +67,8 @@ second make KIND SEED > DAYFILE          a made-up day: busy hostile bent bounds
                                          tens valued short wanting falling million
 second losses SEED < DAYFILE > LOSSFILE  made-up losses for the book at that day's end
 second make-calls SEED > CALLS           made-up calls
-second compare [--day P] [--standings P] [--closeouts P] [--needs P] [--take-over P] [--margins P]
-               [--calls P] [--margin-runs N]
+second compare [--day P] [--standings P] [--closeouts P] [--needs P] [--take-over P]
+               [--archive P] [--margins P] [--calls P] [--margin-runs N]
                [--days N] [--seed S] [--millions K] [--books N] [--call-inputs N] [--trickle]
                                          other programs against this one: on made-up days, on N days
                                          in two pieces with book files, on N inputs of made-up calls

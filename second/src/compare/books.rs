@@ -2,7 +2,7 @@
 //! in two pieces with a night between them, and book files that are no book or
 //! not a sound one.
 
-use super::{between_records, Programs};
+use super::{archives, between_records, Programs};
 use crate::book::Book;
 use crate::bookfile::{self, Version};
 use crate::child::{ask, ask_held, Pace};
@@ -24,29 +24,54 @@ pub struct Met {
     pub days: u64,
     runs: u64,
     odd: u64,
+    /// Books of version 1.
+    first_versions: u64,
     unsound: u64,
     none: u64,
     /// Taken over, and not.
     over: [u64; 2],
+    pub archives: archives::Met,
 }
 
 impl Met {
     pub fn line(&self) -> String {
         format!(
-            "same: {} days in two pieces, {} runs from a book; books with modes of their own: {}, not sound: {}, none: {}; taken over: {}, not taken over: {}",
-            self.days, self.runs, self.odd, self.unsound, self.none, self.over[0], self.over[1]
+            "same: {} days in two pieces, {} runs from a book; books with modes of their own: {}, of version 1: {}, not sound: {}, none: {}; taken over: {}, not taken over: {}",
+            self.days,
+            self.runs,
+            self.odd,
+            self.first_versions,
+            self.unsound,
+            self.none,
+            self.over[0],
+            self.over[1]
         )
+    }
+
+    /// What so many nights must have met, and didn't.
+    fn missed(&self, programs: &Programs) -> Vec<String> {
+        if self.days < 40 {
+            return Vec::new();
+        }
+        let mut missed = match programs.archive {
+            Some(_) => self.archives.missed(),
+            None => Vec::new(),
+        };
+        if self.first_versions == 0 {
+            missed.push("a book of version 1".to_string());
+        }
+        missed
     }
 }
 
 /// A program's name, the program, and its words.
 type Run<'n, 'p> = (&'static str, &'n str, Vec<&'p Path>);
 
-struct Night<'a> {
-    programs: &'a Programs<'a>,
-    made: Made,
-    rng: Rng,
-    met: &'a mut Met,
+pub struct Night<'a> {
+    pub programs: &'a Programs<'a>,
+    pub made: Made,
+    pub rng: Rng,
+    pub met: &'a mut Met,
 }
 
 /// Days by kind and seed as elsewhere, but shorter.
@@ -68,33 +93,49 @@ pub fn all_books(options: &Options, programs: &Programs, many: u64) -> Result<Me
             rng: Rng::new(seed, 0xB00C),
             met: &mut met,
         };
-        night.two_pieces()?;
-        night.own_modes()?;
-        night.not_sound(place)?;
+        night.two_pieces(place)?;
+        night.own_modes(place)?;
+        for more in 0..2 {
+            night.not_sound(2 * place + more)?;
+        }
         night.no_book(place)?;
         if let Some(program) = programs.take_over {
             night.take_over(program, place)?;
         }
+        if let Some(program) = programs.archive {
+            night.archivings(program, place)?;
+        }
         met.days += 1;
     }
-    for name in ["book", "to", "losses"] {
+    for name in ["book", "to", "losses", "archive"] {
         let _ = fs::remove_file(programs.folder.join(name));
+    }
+    let missed = met.missed(programs);
+    if !missed.is_empty() {
+        return Err(format!("not met: {}", missed.join(", ")));
     }
     Ok(met)
 }
 
 impl Night<'_> {
-    fn path(&self, name: &str) -> PathBuf {
+    pub fn path(&self, name: &str) -> PathBuf {
         self.programs.folder.join(name)
     }
 
-    fn put(&self, name: &str, bytes: &[u8]) -> Result<PathBuf, String> {
+    pub fn put(&self, name: &str, bytes: &[u8]) -> Result<PathBuf, String> {
         let path = self.path(name);
         fs::write(&path, bytes).map_err(|error| error.to_string())?;
         Ok(path)
     }
 
-    fn told(&self, what: &str) -> String {
+    /// FROM, every other time in version 1 where that says the same.
+    pub fn put_book(&mut self, table: &Table, place: u64) -> Result<PathBuf, String> {
+        let first = bookfile::first_bytes(table).filter(|_| place % 2 == 0);
+        self.met.first_versions += u64::from(first.is_some());
+        self.put("book", &first.unwrap_or_else(|| bookfile::bytes(table)))
+    }
+
+    pub fn told(&self, what: &str) -> String {
         let Made { kind, seed, .. } = self.made;
         let folder = self.programs.folder.display();
         format!("difference: {what}, kind {kind}, seed {seed}; the book is in {folder}")
@@ -118,7 +159,9 @@ impl Night<'_> {
         settle(&self.programs.folder, &made, name, want, got)
     }
 
-    fn two_pieces(&mut self) -> Result<(), String> {
+    /// Every other time the book is archived in between; records of the second
+    /// piece name the same numbers as before.
+    fn two_pieces(&mut self, place: u64) -> Result<(), String> {
         let bytes = self.made.bytes.clone();
         let cut = between_records(&bytes, &mut self.rng);
         let (first, second) = bytes.split_at(cut);
@@ -126,13 +169,24 @@ impl Night<'_> {
         let _ = fs::remove_file(&book);
         let after = self.day(Book::fresh(), Path::new("-"), &book, first)?;
         self.shown(&after, &book, second)?;
-        let after = handed_over(&after);
+        let mut after = handed_over(&after);
+        if place % 2 == 1 {
+            let table = self.night_archive(&Table::of(&after), &book)?;
+            after = table.book().unwrap_or(after);
+            self.shown(&after, &book, second)?;
+        }
         let after = self.day(after, &book, &book, second)?;
         self.shown(&after, &book, &[])
     }
 
     /// The lines, and the bytes of the book file. Gives the book after it.
-    fn day(&mut self, book: Book, from: &Path, to: &Path, piece: &[u8]) -> Result<Book, String> {
+    pub fn day(
+        &mut self,
+        book: Book,
+        from: &Path,
+        to: &Path,
+        piece: &[u8],
+    ) -> Result<Book, String> {
         let (lines, closing, after) = print::day_parts(book, piece, |_, _| {});
         let program = match self.programs.day {
             Some(program) => program,
@@ -152,7 +206,7 @@ impl Night<'_> {
     }
 
     /// The programs that show a book, with this piece carried out first.
-    fn shown(&mut self, book: &Book, path: &Path, piece: &[u8]) -> Result<(), String> {
+    pub fn shown(&mut self, book: &Book, path: &Path, piece: &[u8]) -> Result<(), String> {
         if let Some(program) = self.programs.standings {
             let want = print::standings_over(handed_over(book), piece);
             self.settled("standings from a book", program, &[path], piece, &want)?;
@@ -177,10 +231,10 @@ impl Night<'_> {
     }
 
     /// A sound book whose modes need not fit its figures.
-    fn own_modes(&mut self) -> Result<(), String> {
+    fn own_modes(&mut self, place: u64) -> Result<(), String> {
         let table = any_sound(&mut self.rng);
         let piece = with_steps(&table, &mut self.rng);
-        let book = self.put("book", &bookfile::bytes(&table))?;
+        let book = self.put_book(&table, place)?;
         let sound = table.book().ok_or("a book was made that isn't sound")?;
         let to = self.path("to");
         let _ = fs::remove_file(&to);
@@ -202,10 +256,12 @@ impl Night<'_> {
         let book = self.put("book", &bookfile::bytes(&table))?;
         let to = self.put("to", b"as it was")?;
         let losses = self.put("losses", &vec![0; 8 * table.held()])?;
+        let archive = self.put("archive", b"as it was")?;
         let closed = [print::UNSOUND, print::UNSOUND_CLOSE_OUT].concat();
-        for (name, program, words) in self.runs(&book, &to, &losses) {
+        for (name, program, words) in self.runs([&book, &to, &losses, &archive]) {
             let want = match name {
                 "closeouts" => &closed,
+                "archive" => &b"1 0\n"[..],
                 // It judges by the old rule.
                 "take_over" => continue,
                 _ => print::UNSOUND,
@@ -215,12 +271,14 @@ impl Night<'_> {
             settle(&self.programs.folder, &self.made, &what, want, got)?;
         }
         self.met.unsound += 1;
-        self.to_untouched(&to)
+        self.untouched(&to)?;
+        self.untouched(&archive)
     }
 
     /// The programs there are, each with its words.
-    fn runs<'p>(&self, book: &'p Path, to: &'p Path, losses: &'p Path) -> Vec<Run<'_, 'p>> {
+    fn runs<'p>(&self, [book, to, losses, archive]: [&'p Path; 4]) -> Vec<Run<'_, 'p>> {
         let all = [
+            ("archive", self.programs.archive, vec![book, to, archive]),
             ("take_over", self.programs.take_over, vec![book, to]),
             ("day", self.programs.day, vec![book, to]),
             ("standings", self.programs.standings, vec![book]),
@@ -232,10 +290,10 @@ impl Night<'_> {
             .collect()
     }
 
-    fn to_untouched(&self, to: &Path) -> Result<(), String> {
-        match fs::read(to) {
+    fn untouched(&self, file: &Path) -> Result<(), String> {
+        match fs::read(file) {
             Ok(bytes) if bytes == b"as it was" => Ok(()),
-            _ => Err(self.told("a book was kept that should not have been")),
+            _ => Err(self.told("a file was kept that should not have been")),
         }
     }
 
@@ -245,7 +303,7 @@ impl Night<'_> {
         let faults = Fault::all(Rule::Old);
         let table = match place % 3 {
             0 => unsound(
-                faults[place as usize % faults.len()],
+                faults[place as usize / 3 * 13 % faults.len()],
                 Rule::Old,
                 &mut self.rng,
             ),
@@ -259,7 +317,7 @@ impl Night<'_> {
         settle(&self.programs.folder, &self.made, "take_over", want, got)?;
         self.met.over[usize::from(after.is_none())] += 1;
         match after {
-            None => self.to_untouched(&to),
+            None => self.untouched(&to),
             Some(after) if fs::read(&to).unwrap_or_default() == bookfile::bytes(&after) => Ok(()),
             Some(after) => {
                 let kept = fs::read(&to).unwrap_or_default();
@@ -280,7 +338,8 @@ impl Night<'_> {
         };
         let to = self.put("to", b"as it was")?;
         let losses = self.put("losses", &[0; 8])?;
-        for (name, program, words) in self.runs(&book, &to, &losses) {
+        let archive = self.put("archive", b"as it was")?;
+        for (name, program, words) in self.runs([&book, &to, &losses, &archive]) {
             let got = ask(program, &words, &self.made.bytes, Pace::Whole);
             let silent = got.as_ref().map_or(false, |got| got.stderr.is_empty());
             let what = format!("{name} from what is no book");
@@ -290,7 +349,8 @@ impl Night<'_> {
             }
         }
         self.met.none += 1;
-        self.to_untouched(&to)
+        self.untouched(&to)?;
+        self.untouched(&archive)
     }
 }
 
@@ -327,7 +387,7 @@ fn no_book_bytes(place: u64, mut bytes: Vec<u8>, rng: &mut Rng) -> Option<Vec<u8
     Some(bytes)
 }
 
-fn book_difference(kept: &[u8], want: &Table) -> String {
+pub fn book_difference(kept: &[u8], want: &Table) -> String {
     let got = match bookfile::table(kept) {
         Some(got) => got,
         None => return "what was kept is no book".to_string(),

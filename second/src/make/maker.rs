@@ -196,6 +196,24 @@ impl Maker {
         }
     }
 
+    /// A number that was given and that no row held has; None in a book without
+    /// an archive.
+    pub fn archived(&mut self) -> Option<u16> {
+        let held = self.book.numbers.of_rows[..self.book.count].iter();
+        let held = held.map(|&number| u32::from(number));
+        let ends: Vec<u32> = held.chain([self.book.numbers.next]).collect();
+        let gaps: Vec<(u32, u32)> = ends
+            .windows(2)
+            .filter(|two| two[0] + 1 < two[1])
+            .map(|two| (two[0] + 1, two[1] - 1))
+            .collect();
+        let &first = gaps.first()?;
+        let drawn = self.rng.pick(&gaps);
+        let (least, most) = self.rng.pick(&[first, drawn]);
+        let inside = self.rng.between(u64::from(least), u64::from(most)) as u32;
+        Some(self.rng.pick(&[least, most, inside]) as u16)
+    }
+
     /// Mostly some hundreds of records, now and then a few thousand.
     pub fn usual_length(&mut self) -> u64 {
         if self.rng.one_in(20) {

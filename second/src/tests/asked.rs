@@ -52,7 +52,7 @@ fn a_whole_round_meets_everything() {
             let text = String::from_utf8(out).unwrap();
             let ending = text.lines().last().unwrap();
             assert_eq!(ending.starts_with("bad "), asked.ending != 0, "seed {seed}");
-            met.count_ending(asked.ending);
+            met.count_input(&asked);
         }
         assert_eq!(met.missed(), Vec::<String>::new());
     }

@@ -294,7 +294,7 @@ fn book_edges(book: &Table) -> Vec<&'static str> {
     chosen(&BOOKS, &is)
 }
 
-fn chosen(names: &[&'static str], is: &[bool]) -> Vec<&'static str> {
+pub fn chosen(names: &[&'static str], is: &[bool]) -> Vec<&'static str> {
     let named = names.iter().zip(is);
     named.filter(|(_, &is)| is).map(|(&name, _)| name).collect()
 }

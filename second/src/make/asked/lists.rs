@@ -1,7 +1,7 @@
 //! Account numbers, lists of losses and rooms.
 
 use super::books::{self, append, find, row, settle};
-use super::numbers::{archived, renumber, Gaps};
+use super::given::{gone, with_archive};
 use crate::book::{CEILING, MOST_ACCOUNTS};
 use crate::calls::Call;
 use crate::make::losses;
@@ -40,12 +40,10 @@ pub const WHO: [Who; 16] = [
 ];
 
 pub fn standing(who: Who, rng: &mut Rng) -> Call {
-    let mut book = books::sound(rng);
-    if let Who::Archived = who {
-        let with_rows = rng.pick(&[Gaps::Start, Gaps::End, Gaps::NoneLeft]);
-        let gaps = if book.count > 1 { with_rows } else { Gaps::End };
-        renumber(&mut book, gaps, rng);
-    }
+    let mut book = match who {
+        Who::Archived => with_archive(rng),
+        _ => books::sound(rng),
+    };
     let next = u64::from(book.next);
     let given = book.places[rng.below(u64::from(book.count)) as usize][NUMBER];
     let account = match who {
@@ -59,17 +57,10 @@ pub fn standing(who: Who, rng: &mut Rng) -> Call {
             book.places[place][NUMBER]
         }
         Who::NeverGiven => rng.between(next, next + 256),
-        Who::Archived => gone(&book, rng),
+        Who::Archived => u64::from(gone(&book, rng)),
         Who::PastTable => rng.pick(&[256, 256 + given, 65_280 + given, 65_535]),
     };
     Call::Standing(book, account.min(65_535) as u16)
-}
-
-/// A number in the archive: mostly one that is the place of a row, or 0.
-fn gone(book: &Table, rng: &mut Rng) -> u64 {
-    let gone = archived(book);
-    let drawn = rng.pick(&gone);
-    rng.pick(&[gone[0], gone[0], drawn, gone[gone.len() - 1]])
 }
 
 /// The CM's or any other's under a shortfall.
