@@ -5,6 +5,7 @@ mod archives;
 mod books;
 mod calls;
 mod margins;
+mod refused;
 
 use crate::book::Book;
 use crate::child::{ask, Pace};

@@ -1,10 +1,9 @@
 //! Programs that start from a book file and leave one, against this one: days
-//! in two pieces with a night between them, and book files that are no book or
-//! not a sound one.
+//! in two pieces with a night between them, and books that are taken over.
 
 use super::{archives, between_records, Programs};
 use crate::book::Book;
-use crate::bookfile::{self, Version};
+use crate::bookfile;
 use crate::child::{ask, ask_held, Pace};
 use crate::difference::settle;
 use crate::made::Made;
@@ -14,7 +13,7 @@ use crate::options::Options;
 use crate::print;
 use crate::rng::Rng;
 use crate::rule::Rule;
-use crate::table::{Fault, Table, LIVE, MODE};
+use crate::table::{Fault, Table};
 use std::fs;
 use std::path::{Path, PathBuf};
 
@@ -26,8 +25,8 @@ pub struct Met {
     odd: u64,
     /// Books of version 1.
     first_versions: u64,
-    unsound: u64,
-    none: u64,
+    pub unsound: u64,
+    pub none: u64,
     /// Taken over, and not.
     over: [u64; 2],
     pub archives: archives::Met,
@@ -64,9 +63,6 @@ impl Met {
     }
 }
 
-/// A program's name, the program, and its words.
-type Run<'n, 'p> = (&'static str, &'n str, Vec<&'p Path>);
-
 pub struct Night<'a> {
     pub programs: &'a Programs<'a>,
     pub made: Made,
@@ -93,18 +89,7 @@ pub fn all_books(options: &Options, programs: &Programs, many: u64) -> Result<Me
             rng: Rng::new(seed, 0xB00C),
             met: &mut met,
         };
-        night.two_pieces(place)?;
-        night.own_modes(place)?;
-        for more in 0..2 {
-            night.not_sound(2 * place + more)?;
-        }
-        night.no_book(place)?;
-        if let Some(program) = programs.take_over {
-            night.take_over(program, place)?;
-        }
-        if let Some(program) = programs.archive {
-            night.archivings(program, place)?;
-        }
+        night.all(place)?;
         met.days += 1;
     }
     for name in ["book", "to", "losses", "archive"] {
@@ -118,6 +103,22 @@ pub fn all_books(options: &Options, programs: &Programs, many: u64) -> Result<Me
 }
 
 impl Night<'_> {
+    fn all(&mut self, place: u64) -> Result<(), String> {
+        self.two_pieces(place)?;
+        self.own_modes(place)?;
+        for more in 0..2 {
+            self.not_sound(2 * place + more)?;
+        }
+        self.no_book(place)?;
+        if let Some(program) = self.programs.take_over {
+            self.take_over(program, place)?;
+        }
+        match self.programs.archive {
+            Some(program) => self.archivings(program, place),
+            None => Ok(()),
+        }
+    }
+
     pub fn path(&self, name: &str) -> PathBuf {
         self.programs.folder.join(name)
     }
@@ -244,59 +245,6 @@ impl Night<'_> {
         self.shown(&after, &to, &[])
     }
 
-    /// "The closing line is `1 0 0`, standard input isn't read": it is held
-    /// open, so that a program that waits for it is found out.
-    fn not_sound(&mut self, place: u64) -> Result<(), String> {
-        let faults = Fault::all(Rule::New);
-        let table = unsound(
-            faults[place as usize % faults.len()],
-            Rule::New,
-            &mut self.rng,
-        );
-        let book = self.put("book", &bookfile::bytes(&table))?;
-        let to = self.put("to", b"as it was")?;
-        let losses = self.put("losses", &vec![0; 8 * table.held()])?;
-        let archive = self.put("archive", b"as it was")?;
-        let closed = [print::UNSOUND, print::UNSOUND_CLOSE_OUT].concat();
-        for (name, program, words) in self.runs([&book, &to, &losses, &archive]) {
-            let want = match name {
-                "closeouts" => &closed,
-                "archive" => &b"1 0\n"[..],
-                // It judges by the old rule.
-                "take_over" => continue,
-                _ => print::UNSOUND,
-            };
-            let got = ask_held(program, &words);
-            let what = format!("{name} from a book that isn't sound");
-            settle(&self.programs.folder, &self.made, &what, want, got)?;
-        }
-        self.met.unsound += 1;
-        self.untouched(&to)?;
-        self.untouched(&archive)
-    }
-
-    /// The programs there are, each with its words.
-    fn runs<'p>(&self, [book, to, losses, archive]: [&'p Path; 4]) -> Vec<Run<'_, 'p>> {
-        let all = [
-            ("archive", self.programs.archive, vec![book, to, archive]),
-            ("take_over", self.programs.take_over, vec![book, to]),
-            ("day", self.programs.day, vec![book, to]),
-            ("standings", self.programs.standings, vec![book]),
-            ("needs", self.programs.needs, vec![book]),
-            ("closeouts", self.programs.closeouts, vec![losses, book]),
-        ];
-        all.into_iter()
-            .filter_map(|(name, program, words)| Some((name, program?, words)))
-            .collect()
-    }
-
-    fn untouched(&self, file: &Path) -> Result<(), String> {
-        match fs::read(file) {
-            Ok(bytes) if bytes == b"as it was" => Ok(()),
-            _ => Err(self.told("a file was kept that should not have been")),
-        }
-    }
-
     /// The refusal alone, standard input unread, and TO: the book taken over,
     /// or as it was.
     fn take_over(&mut self, program: &str, place: u64) -> Result<(), String> {
@@ -325,66 +273,11 @@ impl Night<'_> {
             }
         }
     }
-
-    /// Nothing on standard output, something on standard error.
-    fn no_book(&mut self, place: u64) -> Result<(), String> {
-        let (bytes, path) = (bookfile::bytes(&Table::fresh()), self.path("book"));
-        let _ = fs::remove_file(&path);
-        let bad = no_book_bytes(place, bytes, &mut self.rng);
-        let book = match (&bad, place % 2) {
-            (Some(bytes), _) => self.put("book", bytes)?,
-            (None, 0) => path,
-            (None, _) => self.programs.folder.clone(),
-        };
-        let to = self.put("to", b"as it was")?;
-        let losses = self.put("losses", &[0; 8])?;
-        let archive = self.put("archive", b"as it was")?;
-        for (name, program, words) in self.runs([&book, &to, &losses, &archive]) {
-            let got = ask(program, &words, &self.made.bytes, Pace::Whole);
-            let silent = got.as_ref().map_or(false, |got| got.stderr.is_empty());
-            let what = format!("{name} from what is no book");
-            settle(&self.programs.folder, &self.made, &what, b"", got)?;
-            if silent {
-                return Err(self.told(&format!("{what} says nothing on standard error")));
-            }
-        }
-        self.met.none += 1;
-        self.untouched(&to)?;
-        self.untouched(&archive)
-    }
 }
 
 /// As a program finds it in a file.
 fn handed_over(book: &Book) -> Book {
     Table::of(book).book().unwrap_or_else(|| book.clone())
-}
-
-/// None where there is to be no such file.
-fn no_book_bytes(place: u64, mut bytes: Vec<u8>, rng: &mut Rng) -> Option<Vec<u8>> {
-    let drawn = rng.below(256) as usize;
-    let whole = bytes.len();
-    let at = |word: usize| Version::Two.at(drawn, word).unwrap_or(0);
-    match place % 10 {
-        0 => return None,
-        1 => bytes.clear(),
-        2 => bytes.truncate(whole - 1),
-        3 => bytes.push(0),
-        4 => bytes[rng.below(3) as usize] ^= 1,
-        // Of another version, whose length isn't this.
-        5 => bytes[3] = rng.pick(&[0, 1, 3, 255]),
-        6 => bytes[at(LIVE)] = 2,
-        7 => bytes[at(MODE)] = 255,
-        8 => {
-            bytes = bookfile::bytes_as(&Table::fresh(), Version::One);
-            match rng.below(3) {
-                0 => bytes.truncate(bytes.len() - 1),
-                1 => bytes.push(0),
-                _ => bytes[3] = 2,
-            }
-        }
-        _ => bytes.truncate(rng.below(whole as u64) as usize),
-    }
-    Some(bytes)
 }
 
 pub fn book_difference(kept: &[u8], want: &Table) -> String {

@@ -171,7 +171,9 @@ fn two_checks_agree() {
         for _ in 0..50 {
             let mut bent = book.clone();
             let place = rng.below(book.count as u64 + 1).min(255) as usize;
-            match rng.below(6) {
+            match rng.below(8) {
+                6 => bent.numbers.of_rows[place] = rng.near(place as u64) as u16,
+                7 => bent.numbers.next = rng.near(book.count as u64) as u32,
                 0 => bent.rows[place].pledged = rng.near(CEILING),
                 1 => bent.rows[place].margin = rng.below(CEILING),
                 2 => bent.needs[place] = rng.near(book.needs[place]),

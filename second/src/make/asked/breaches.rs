@@ -1,8 +1,9 @@
 //! Books that aren't sound in one way alone, or in several.
 
+mod numbers;
+
 use super::books::*;
-use super::numbers::{archived, renumber, Gaps};
-use crate::book::{CEILING, KINDS, MOST_ACCOUNTS, MOST_NUMBERS};
+use crate::book::{CEILING, KINDS, MOST_ACCOUNTS};
 use crate::rng::Rng;
 use crate::rule::Rule;
 use crate::table::*;
@@ -60,12 +61,13 @@ fn breach(table: &mut Table, fault: Fault, rule: Rule, rng: &mut Rng) -> Option<
             let account = an_account(table, sort, Some(live), rng)?;
             table.places[account][MODE] = 1;
         }
-        Fault::TopHasNumber | Fault::NumberTwice | Fault::NumberFalls => {
-            numbers(table, fault, rng)?;
-        }
-        Fault::NumberIsNext | Fault::NumberPastNext => past_next(table, fault, rng)?,
-        Fault::NextIsNothing => next_is_nothing(table, rule, rng),
-        Fault::NextPastAll => table.next = past_all(table, rng),
+        Fault::TopHasNumber
+        | Fault::NumberTwice
+        | Fault::NumberFalls
+        | Fault::NumberIsNext
+        | Fault::NumberPastNext
+        | Fault::NextIsNothing
+        | Fault::NextPastAll => numbers::breach(table, fault, rule, rng)?,
         Fault::KeptNeed(sort, live, is_high) => {
             return kept_need(table, [sort, live], is_high, rule, rng)
         }
@@ -300,76 +302,4 @@ fn kept_need(
         need - rng.pick(&[1, 1, need, margin])
     };
     Some(())
-}
-
-/// Rows that don't rise by number, or don't start with the CM's 0.
-fn numbers(table: &mut Table, fault: Fault, rng: &mut Rng) -> Option<()> {
-    let held = table.held();
-    let number = |table: &Table, place: usize| table.places[place][NUMBER];
-    if fault == Fault::TopHasNumber {
-        renumber(table, if held > 1 { Gaps::Start } else { Gaps::End }, rng);
-        let lowest = (1..held).map(|place| number(table, place)).next();
-        let above = lowest.unwrap_or(u64::from(table.next));
-        table.places[0][NUMBER] = rng.pick(&[1, above - 1]);
-        return Some(());
-    }
-    let least = if fault == Fault::NumberTwice { 1 } else { 2 };
-    if held <= least {
-        return None;
-    }
-    let drawn = rng.between(least as u64, held as u64 - 1) as usize;
-    let place = rng.pick(&[least, held - 1, drawn]);
-    let before = number(table, place - 1);
-    table.places[place][NUMBER] = match fault {
-        Fault::NumberTwice => before,
-        // That of the CM, of the row before the last one, or of none.
-        _ => rng.pick(&[0, before - 1, number(table, place - 2)]),
-    };
-    if rng.one_in(2) && fault == Fault::NumberFalls {
-        // Two rows have each other's number.
-        table.places[place][NUMBER] = before;
-        table.places[place - 1][NUMBER] = before + 1;
-    }
-    Some(())
-}
-
-/// The last row's number is the next, or above it.
-fn past_next(table: &mut Table, fault: Fault, rng: &mut Rng) -> Option<()> {
-    let last = table.held() - 1;
-    if last == 0 {
-        return None;
-    }
-    let number = table.places[last][NUMBER];
-    if fault == Fault::NumberIsNext {
-        table.next = number as u32;
-        return Some(());
-    }
-    let lower: Vec<u64> = archived(table)
-        .into_iter()
-        .filter(|&gone| gone < number)
-        .collect();
-    if !lower.is_empty() && rng.one_in(2) {
-        table.next = rng.pick(&lower) as u32;
-        return Some(());
-    }
-    if table.next >= MOST_NUMBERS - 1 {
-        table.number_by_places();
-    }
-    let next = u64::from(table.next);
-    table.places[last][NUMBER] = rng.pick(&[next + 1, u64::from(MOST_NUMBERS) - 1]);
-    Some(())
-}
-
-/// The CM alone, whose number isn't below it.
-fn next_is_nothing(table: &mut Table, rule: Rule, rng: &mut Rng) {
-    table.places[1..].fill([0; WORDS.len()]);
-    table.count = 1;
-    cover(table, rule, rng);
-    table.next = 0;
-}
-
-/// By one, by the right number in its low bytes, or far.
-fn past_all(table: &Table, rng: &mut Rng) -> u32 {
-    let right = MOST_NUMBERS + table.next.min(MOST_NUMBERS - 1);
-    rng.pick(&[MOST_NUMBERS + 1, right, 1 << 31, u32::MAX])
 }
