@@ -16,6 +16,8 @@ pub enum Aim {
     Fault(Fault),
     /// A sound book with these numbers missing.
     Gapped(Gaps),
+    /// The same with 256 rows.
+    Full(Gaps),
     Over(given::By, Gaps),
     /// An opening by this code, and whether all rows are held.
     Opening(u8, Gaps, bool),
@@ -41,6 +43,7 @@ impl Aim {
             }
             aims.push(Aim::Opening(OPEN_CP, gaps, true));
         }
+        aims.extend([Aim::Full(Gaps::Nowhere), Aim::Full(Gaps::Everywhere)]);
         aims.extend((1..=LAST_CODE).map(Aim::OfArchived));
         aims.extend(Fault::all(Rule::New).into_iter().map(Aim::Fault));
         aims
@@ -51,6 +54,10 @@ impl Aim {
             Aim::Archive(retired, room, gaps) => archives::call(retired, room, gaps, rng),
             Aim::Fault(fault) => archives::of_unsound(breaches::with(fault, Rule::New, rng), rng),
             Aim::Gapped(gaps) => Call::IsSound(archives::with_gaps(gaps, rng)),
+            Aim::Full(gaps) => {
+                let full = archives::Retired::OfFull;
+                Call::IsSound(archives::with_retired(full, gaps, rng))
+            }
             Aim::Over(by, gaps) => given::over(by, gaps, rng),
             Aim::Opening(code, gaps, is_full) => given::opening(code, gaps, is_full, rng),
             Aim::Openings(gaps) => given::openings(gaps, rng),
