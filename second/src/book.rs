@@ -1,15 +1,18 @@
-//! The book of one clearing member: its rows, its modes, the needs kept beside
-//! the rows, and when a book is sound.
+//! The book of one clearing member: its rows and their numbers, its modes, the
+//! needs kept beside the rows, and when a book is sound. Accounts are named by
+//! their row's place here; `numbers` has the way from a number to it.
 
 mod needs;
+mod numbers;
 mod uses;
 
 use crate::mode::Mode;
 use crate::rule::Rule;
+pub use numbers::{Numbers, MOST_NUMBERS};
 
 /// "The ceiling is 10,000,000,000,000 paise."
 pub const CEILING: u64 = 10_000_000_000_000;
-/// "A book holds at most 256 accounts, numbered from 0."
+/// "A book holds at most 256 accounts."
 pub const MOST_ACCOUNTS: usize = 256;
 /// Cash, fixed deposits, bank guarantees, government securities.
 pub const KINDS: usize = 4;
@@ -18,7 +21,7 @@ pub const SECURITIES: usize = 3;
 
 #[derive(Clone, Copy, PartialEq, Eq, PartialOrd, Ord, Default, Debug)]
 pub enum Sort {
-    /// A row whose number was never given.
+    /// A row that isn't held.
     #[default]
     Unused,
     Cm,
@@ -31,7 +34,7 @@ pub enum Sort {
 pub struct Row {
     pub sort: Sort,
     pub live: bool,
-    /// A client's TM; 0 for every other sort.
+    /// The place of a client's TM; 0 for every other sort.
     pub tm: u16,
     pub received: [u64; KINDS],
     pub allocated: [u64; KINDS],
@@ -106,6 +109,7 @@ impl Standing {
 pub struct Book {
     pub rows: [Row; MOST_ACCOUNTS],
     pub count: usize,
+    pub numbers: Numbers,
     pub serial: u16,
     /// On for a TM or the CM in risk reduction mode, off for any other row.
     pub modes: [Mode; MOST_ACCOUNTS],
@@ -134,6 +138,7 @@ impl Book {
         Book {
             rows,
             count: 1,
+            numbers: Numbers::fresh(),
             serial: 0,
             modes: [Mode::Off; MOST_ACCOUNTS],
             needs: [0; MOST_ACCOUNTS],
@@ -147,6 +152,7 @@ impl Book {
     pub fn handed_over(
         rows: [Row; MOST_ACCOUNTS],
         count: usize,
+        numbers: Numbers,
         serial: u16,
         modes: [Mode; MOST_ACCOUNTS],
         needs: [u64; MOST_ACCOUNTS],
@@ -154,6 +160,7 @@ impl Book {
         let mut book = Book {
             rows,
             count,
+            numbers,
             serial,
             modes,
             needs,
@@ -172,9 +179,8 @@ impl Book {
         self.rows[account].collateral()
     }
 
-    /// "The account is not live, or its number was never given" is the opposite.
-    pub fn is_live(&self, account: u16) -> bool {
-        usize::from(account) < self.count && self.rows[usize::from(account)].live
+    pub fn is_live(&self, account: usize) -> bool {
+        account < self.count && self.rows[account].live
     }
 
     /// A trading or the clearing member: those who answer for others.
@@ -222,21 +228,24 @@ impl Book {
         }
     }
 
-    pub fn open(&mut self, sort: Sort, tm: u16) -> u16 {
-        let number = self.count;
-        self.rows[number] = Row::opened(sort, tm);
+    /// Behind the last row, with the next number, which it gives.
+    pub fn open(&mut self, sort: Sort, tm: usize) -> u16 {
+        let number = self.numbers.next as u16;
+        self.rows[self.count] = Row::opened(sort, tm as u16);
+        self.numbers.of_rows[self.count] = number;
         self.count += 1;
-        number as u16
+        self.numbers.next += 1;
+        number
     }
 
-    pub fn has_live_client(&self, tm: u16) -> bool {
+    pub fn has_live_client(&self, tm: usize) -> bool {
         let rows = &self.rows[..self.count];
         rows.iter()
-            .any(|row| row.sort == Sort::Client && row.live && row.tm == tm)
+            .any(|row| row.sort == Sort::Client && row.live && usize::from(row.tm) == tm)
     }
 
-    /// The standings of all numbers given, all but the mode from present
-    /// amounts only. Whoever answers for an account has a lower number, so one
+    /// The standings of all rows held, all but the mode from present
+    /// amounts only. Whoever answers for an account has a lower place, so one
     /// walk down suffices.
     pub fn standings(&self) -> Vec<Standing> {
         let mut called = vec![0u64; self.count];
@@ -254,7 +263,8 @@ impl Book {
     }
 
     /// Document 01, "A sound book", without its last line: it "no longer has to
-    /// be covered" (K8); and "each kept need equals the need worked out afresh" (K3). A row that is no client has TM number 0.
+    /// be covered" (K8); and "each kept need equals the need worked out afresh"
+    /// (K3), and numbers rise (K11). A row that is no client has TM word 0.
     pub fn is_sound(&self) -> bool {
         (1..=MOST_ACCOUNTS).contains(&self.count)
             && self.rows[0].sort == Sort::Cm
@@ -264,6 +274,7 @@ impl Book {
                 .all(|row| *row == Row::default())
             && (0..self.count).all(|account| self.row_is_sound(account))
             && self.modes_are_sound()
+            && self.numbers.are_sound(self.count)
             && self.needs == self.needs_afresh()
     }
 

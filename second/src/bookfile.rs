@@ -1,86 +1,162 @@
-//! A book's written form: `LVB` and version 1, count, serial, and fifteen
-//! words for each of the 256 places, all high byte first.
+//! A book's written form: `LVB`, version 2, count, serial, next number, and
+//! sixteen words for each of the 256 places, all high byte first. Version 1 has
+//! no numbers: it is read wherever a book is and written by nothing but stories
+//! and made-up calls.
 
 use crate::book::MOST_ACCOUNTS;
-use crate::table::{Place, Table, LIVE, MODE, WIDTHS, WORDS};
-use std::ffi::{OsStr, OsString};
-use std::fs::{self, File};
-use std::io::{self, Read, Write};
-use std::path::Path;
+use crate::table::{Place, Table, LIVE, MODE, NUMBER, WIDTHS, WORDS};
+use std::ffi::OsStr;
+use std::fs::File;
+use std::io::Read;
 
-/// `LVB`, version 1.
-pub const HEAD: [u8; 4] = [0x4C, 0x56, 0x42, 0x01];
-/// Where the places begin.
-pub const PLACES: usize = 8;
-/// The bytes of a place.
-pub const PLACE: usize = 93;
-pub const LENGTH: usize = PLACES + MOST_ACCOUNTS * PLACE;
+/// `LVB`, without its version.
+pub const MARK: [u8; 3] = [0x4C, 0x56, 0x42];
 
+#[derive(Clone, Copy, PartialEq, Eq, Debug)]
+pub enum Version {
+    /// "Numbers equal to places below the count and 0 from there on, next
+    /// number the count."
+    One,
+    Two,
+}
+
+impl Version {
+    pub fn of(byte: u8) -> Option<Version> {
+        match byte {
+            1 => Some(Version::One),
+            2 => Some(Version::Two),
+            _ => None,
+        }
+    }
+
+    pub fn byte(self) -> u8 {
+        match self {
+            Version::One => 1,
+            Version::Two => 2,
+        }
+    }
+
+    /// Where the places begin.
+    const fn places(self) -> usize {
+        match self {
+            Version::One => 8,
+            Version::Two => 12,
+        }
+    }
+
+    /// The bytes of a place.
+    const fn place(self) -> usize {
+        match self {
+            Version::One => 93,
+            Version::Two => 95,
+        }
+    }
+
+    pub const fn length(self) -> usize {
+        self.places() + MOST_ACCOUNTS * self.place()
+    }
+
+    /// The first word of a place that it has.
+    fn first_word(self) -> usize {
+        match self {
+            Version::One => NUMBER + 1,
+            Version::Two => NUMBER,
+        }
+    }
+
+    /// Where a word of a place stands; None for one that it hasn't.
+    pub fn at(self, place: usize, word: usize) -> Option<usize> {
+        let before = WIDTHS.get(self.first_word()..word)?;
+        let before: usize = before.iter().sum();
+        Some(self.places() + place * self.place() + before)
+    }
+}
+
+/// "Only version 2 is written."
 pub fn bytes(table: &Table) -> Vec<u8> {
-    let mut out = Vec::with_capacity(LENGTH);
-    out.extend_from_slice(&HEAD);
+    bytes_as(table, Version::Two)
+}
+
+/// Of version 1 numbers and next number are left out.
+pub fn bytes_as(table: &Table, version: Version) -> Vec<u8> {
+    let mut out = Vec::with_capacity(version.length());
+    out.extend_from_slice(&MARK);
+    out.push(version.byte());
     out.extend_from_slice(&table.count.to_be_bytes());
     out.extend_from_slice(&table.serial.to_be_bytes());
+    if version == Version::Two {
+        out.extend_from_slice(&table.next.to_be_bytes());
+    }
     for place in &table.places {
-        for (word, width) in place.iter().zip(WIDTHS) {
+        for (word, width) in place.iter().zip(WIDTHS).skip(version.first_word()) {
             out.extend_from_slice(&word.to_be_bytes()[8 - width..]);
         }
     }
     out
 }
 
+/// In version 1, where that says the same.
+pub fn first_bytes(table: &Table) -> Option<Vec<u8>> {
+    let mut by_places = table.clone();
+    by_places.number_by_places();
+    (by_places == *table).then(|| bytes_as(table, Version::One))
+}
+
+/// The version that bytes begin with; None where they begin no book.
+pub fn version(bytes: &[u8]) -> Option<Version> {
+    let head = bytes.get(..4)?;
+    Version::of(head[3]).filter(|_| head[..3] == MARK)
+}
+
 /// None where the bytes are no book: "live and mode are 0 or 1; anything else
 /// is no book."
 pub fn table(bytes: &[u8]) -> Option<Table> {
-    if bytes.len() != LENGTH || bytes[..4] != HEAD {
+    let version = version(bytes)?;
+    if bytes.len() != version.length() {
         return None;
     }
-    let pair = |at: usize| u16::from_be_bytes([bytes[at], bytes[at + 1]]);
     let mut places = [[0; WORDS.len()]; MOST_ACCOUNTS];
-    for (place, bytes) in places.iter_mut().zip(bytes[PLACES..].chunks_exact(PLACE)) {
-        *place = place_of(bytes);
+    let rows = bytes[version.places()..].chunks_exact(version.place());
+    for (place, bytes) in places.iter_mut().zip(rows) {
+        *place = place_of(bytes, version);
     }
     let is_yes_or_no = |place: &Place| place[LIVE] <= 1 && place[MODE] <= 1;
-    places.iter().all(is_yes_or_no).then(|| Table {
-        count: pair(4),
-        serial: pair(6),
+    let mut table = Table {
+        count: number(&bytes[4..6]) as u16,
+        serial: number(&bytes[6..8]) as u16,
+        next: number(&bytes[8..12]) as u32,
         places,
-    })
+    };
+    if version == Version::One {
+        table.number_by_places();
+    }
+    table.places.iter().all(is_yes_or_no).then_some(table)
 }
 
-fn place_of(bytes: &[u8]) -> Place {
+fn place_of(bytes: &[u8], version: Version) -> Place {
     let mut place = [0; WORDS.len()];
     let mut left = bytes;
-    for (word, width) in place.iter_mut().zip(WIDTHS) {
+    let words = place.iter_mut().zip(WIDTHS);
+    for (word, width) in words.skip(version.first_word()) {
         let (own, rest) = left.split_at(width);
-        *word = own.iter().fold(0, |sum, &byte| sum << 8 | u64::from(byte));
+        *word = number(own);
         left = rest;
     }
     place
 }
 
+fn number(bytes: &[u8]) -> u64 {
+    bytes
+        .iter()
+        .fold(0, |sum, &byte| sum << 8 | u64::from(byte))
+}
+
 /// The book of a file, or why there is none.
 pub fn read_file(path: &OsStr) -> Result<Table, String> {
     let mut bytes = Vec::new();
-    let most = LENGTH as u64 + 1;
+    let most = Version::Two.length() as u64 + 1;
     File::open(path)
         .and_then(|file| file.take(most).read_to_end(&mut bytes))
         .map_err(|error| error.to_string())?;
     table(&bytes).ok_or_else(|| "it is no book".to_string())
-}
-
-/// Written whole beside its place and then renamed: whoever looks there finds
-/// the old book or the new one.
-pub fn write_file(path: &Path, table: &Table) -> io::Result<()> {
-    let mut beside = OsString::from(path);
-    beside.push(".new");
-    let written = File::create(&beside).and_then(|mut file| {
-        file.write_all(&bytes(table))?;
-        file.sync_all()?;
-        fs::rename(&beside, path)
-    });
-    if written.is_err() {
-        let _ = fs::remove_file(&beside);
-    }
-    written
 }

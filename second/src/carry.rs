@@ -1,7 +1,7 @@
 //! Carrying one record out: refusals 3 to 14 and 17 in their order, 17 "after
 //! 11 and before 12".
 
-use crate::book::{Book, Row, Sort, CEILING, KINDS, MOST_ACCOUNTS};
+use crate::book::{Book, Row, Sort, CEILING, KINDS};
 use crate::dayfile::*;
 use crate::refusal::Refusal;
 
@@ -52,11 +52,8 @@ pub fn carry_values(book: &mut Book, record: &Values) -> Answer {
         Outcome::Refused(Refusal::WrongSerial)
     } else {
         book.serial = book.serial.wrapping_add(1);
-        instruct(book, record).unwrap_or_else(Outcome::Refused)
+        judged(book, record).unwrap_or_else(Outcome::Refused)
     };
-    if !matches!(outcome, Outcome::Refused(_)) {
-        book.look_after(usize::from(record.account));
-    }
     Answer {
         serial: record.serial,
         code: record.code,
@@ -65,18 +62,22 @@ pub fn carry_values(book: &mut Book, record: &Values) -> Answer {
     }
 }
 
-fn instruct(book: &mut Book, record: &Values) -> Carried {
+/// A record names its account by number; all from 8 on goes by its row.
+fn judged(book: &mut Book, record: &Values) -> Carried {
     if let Some(fault) = record.fault() {
         return Err(fault);
     }
-    if !book.is_live(record.account) {
-        return Err(Refusal::NotLive);
-    }
+    let account = book.live_place(record.account).ok_or(Refusal::NotLive)?;
+    let outcome = instruct(book, account, record)?;
+    book.look_after(account);
+    Ok(outcome)
+}
+
+fn instruct(book: &mut Book, account: usize, record: &Values) -> Carried {
     let amounts = record.amounts;
-    let account = usize::from(record.account);
     let kinds = [amounts[0], amounts[1], amounts[2], amounts[3]];
     match record.code {
-        OPEN_TM | OPEN_CLIENT | OPEN_CP => open(book, record.code, record.account),
+        OPEN_TM | OPEN_CLIENT | OPEN_CP => open(book, record.code, account),
         RECEIVE => receive(book, account, kinds),
         HAND_BACK => hand_back(book, account, kinds),
         ALLOCATE => allocate(book, account, kinds),
@@ -84,7 +85,7 @@ fn instruct(book: &mut Book, record: &Values) -> Carried {
         PLEDGE => pledge(book, account, amounts[PLEDGED]),
         UNPLEDGE => unpledge(book, account, amounts[PLEDGED]),
         SET_MARGIN => set_margin(book, account, amounts[MARGIN]),
-        RETIRE => retire(book, record.account),
+        RETIRE => retire(book, account),
         // "Neither can be refused for want of cover."
         REVALUE => Ok(put(book, account, |row| row.pledged = amounts[PLEDGED])),
         REVISE => Ok(put(book, account, |row| row.margin = amounts[MARGIN])),
@@ -92,17 +93,18 @@ fn instruct(book: &mut Book, record: &Values) -> Carried {
     }
 }
 
-/// The account named must be the TM for a client, the CM for TMs and CPs.
-fn open(book: &mut Book, code: u8, named: u16) -> Carried {
+/// The account named must be the TM for a client, the CM for TMs and CPs; the
+/// CM's place is 0, as is the TM word of a row that is no client.
+fn open(book: &mut Book, code: u8, named: usize) -> Carried {
     let (sort, wanted) = match code {
         OPEN_TM => (Sort::Tm, Sort::Cm),
         OPEN_CP => (Sort::Cp, Sort::Cm),
         _ => (Sort::Client, Sort::Tm),
     };
-    if book.rows[usize::from(named)].sort != wanted {
+    if book.rows[named].sort != wanted {
         return Err(Refusal::WrongSort);
     }
-    if book.count == MOST_ACCOUNTS {
+    if !book.has_room() {
         return Err(Refusal::NoNumberLeft);
     }
     Ok(Outcome::Opened(book.open(sort, named)))
@@ -197,14 +199,14 @@ fn put(book: &mut Book, account: usize, change: impl FnOnce(&mut Row)) -> Outcom
     Outcome::Done
 }
 
-fn retire(book: &mut Book, account: u16) -> Carried {
+fn retire(book: &mut Book, account: usize) -> Carried {
     if account == 0 {
         return Err(Refusal::WrongSort);
     }
-    let row = &book.rows[usize::from(account)];
+    let row = &book.rows[account];
     if !row.is_empty() || (row.sort == Sort::Tm && book.has_live_client(account)) {
         return Err(Refusal::NotEmpty);
     }
-    book.rows[usize::from(account)].live = false;
+    book.rows[account].live = false;
     Ok(Outcome::Done)
 }

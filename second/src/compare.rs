@@ -1,9 +1,11 @@
 //! Other programs against this one, byte for byte, on many made-up days,
 //! calls and books.
 
+mod archives;
 mod books;
 mod calls;
 mod margins;
+mod refused;
 
 use crate::book::Book;
 use crate::child::{ask, Pace};
@@ -22,12 +24,13 @@ use crate::tally::Tally;
 use std::fs;
 use std::path::{Path, PathBuf};
 
-const VALUED: [&str; 13] = [
+const VALUED: [&str; 14] = [
     "--day",
     "--standings",
     "--closeouts",
     "--needs",
     "--take-over",
+    "--archive",
     "--margins",
     "--margin-runs",
     "--calls",
@@ -52,6 +55,7 @@ pub struct Programs<'a> {
     closeouts: Option<&'a str>,
     needs: Option<&'a str>,
     take_over: Option<&'a str>,
+    archive: Option<&'a str>,
     margins: Option<&'a str>,
     calls: Option<&'a str>,
     folder: PathBuf,
@@ -60,7 +64,8 @@ pub struct Programs<'a> {
 impl Programs<'_> {
     fn reads_days(&self) -> bool {
         let shows = self.standings.or(self.closeouts).or(self.needs);
-        self.day.or(shows).or(self.take_over).is_some()
+        let books = self.take_over.or(self.archive);
+        self.day.or(shows).or(books).is_some()
     }
 }
 
@@ -74,13 +79,14 @@ pub fn compare(words: &[String]) -> Result<String, String> {
         closeouts: options.value("--closeouts"),
         needs: options.value("--needs"),
         take_over: options.value("--take-over"),
+        archive: options.value("--archive"),
         margins: options.value("--margins"),
         calls: options.value("--calls"),
         folder: std::env::temp_dir().join(format!("second-compare-{}", std::process::id())),
     };
     if !programs.reads_days() && programs.calls.or(programs.margins).is_none() {
         return Err(
-            "compare: name a program with --day, --standings, --closeouts, --needs, --take-over, --margins or --calls"
+            "compare: name a program with --day, --standings, --closeouts, --needs, --take-over, --archive, --margins or --calls"
                 .to_string(),
         );
     }
@@ -101,7 +107,11 @@ fn all(options: &Options, programs: &Programs) -> Result<Vec<String>, String> {
         lines.push(all_days(options, programs)?.summary());
         let many = options.number("--books", 0)?;
         if many > 0 {
-            lines.push(books::all_books(options, programs, many)?.line());
+            let met = books::all_books(options, programs, many)?;
+            lines.push(met.line());
+            if programs.archive.is_some() {
+                lines.push(met.archives.line());
+            }
         }
     }
     if let Some(program) = programs.margins {

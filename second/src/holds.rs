@@ -62,7 +62,7 @@ impl Taking {
             UNPLEDGE => Way::Unpledge,
             _ => return None,
         };
-        let account = usize::from(record.account);
+        let account = book.place_of(record.account)?;
         let row = &book.rows[account];
         let [cash, deposits, guarantees, securities] = row.allocated;
         Some(Taking {
@@ -131,8 +131,8 @@ impl<'a> Holds<'a> {
             self.count(&taking);
             return answer.refusal() == self.by_the_letter(&taking);
         }
-        if record.code == HAND_BACK {
-            self.count_hand_back(usize::from(record.account), amounts);
+        if let (HAND_BACK, Some(account)) = (record.code, self.before.place_of(record.account)) {
+            self.count_hand_back(account, amounts);
         }
         answer.refusal() != Refusal::KeptIn as u8
     }
@@ -217,10 +217,10 @@ impl<'a> Holds<'a> {
     }
 
     fn turned_by(&self, answer: &Answer, book: &Book) -> Vec<(usize, Turner)> {
-        let account = usize::from(answer.account);
+        let account = book.place_of(answer.account);
         (0..self.before.count)
             .filter(|&member| self.before.modes[member] != book.modes[member])
-            .filter_map(|member| Some((member, turner(answer.code, member == account)?)))
+            .filter_map(|member| Some((member, turner(answer.code, Some(member) == account)?)))
             .collect()
     }
 }

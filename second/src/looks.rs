@@ -106,7 +106,7 @@ impl Looks {
                     self.look(answer.code, account, used, book.collateral(account));
                 }
             }
-            let named = usize::from(answer.account);
+            let named = book.place_of(answer.account).unwrap_or(0);
             if answer.code == RETIRE && self.has_been_on[named] {
                 self.met.count(named, RETIRED);
             }

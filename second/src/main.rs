@@ -14,6 +14,7 @@ mod day;
 mod dayfile;
 mod desk;
 mod difference;
+mod files;
 mod holds;
 mod looks;
 mod made;
@@ -52,6 +53,9 @@ second closeouts LOSSFILE [FROM] < DAYFILE
                                          TO: where to keep the book after the day
 second take_over FROM TO                 the book of FROM taken over to the new rule, kept as TO:
                                          0, or 1 and TO stays as it was
+second archive FROM TO ARCHIVE           the book of FROM without its retired rows, kept as TO: the
+                                         refusal and how many rows moved; ARCHIVE, a text, gets a
+                                         line for each that it doesn't have: NUMBER tm|client|cp TM
 second margins [--record] SERIAL ACCOUNT INITIAL < POSITIONS
                                          a client's extreme loss and initial margin, or its record;
                                          a line a position: USDINR futures 10000001; and once, if
@@ -63,8 +67,8 @@ second make KIND SEED > DAYFILE          a made-up day: busy hostile bent bounds
                                          tens valued short wanting falling million
 second losses SEED < DAYFILE > LOSSFILE  made-up losses for the book at that day's end
 second make-calls SEED > CALLS           made-up calls
-second compare [--day P] [--standings P] [--closeouts P] [--needs P] [--take-over P] [--margins P]
-               [--calls P] [--margin-runs N]
+second compare [--day P] [--standings P] [--closeouts P] [--needs P] [--take-over P]
+               [--archive P] [--margins P] [--calls P] [--margin-runs N]
                [--days N] [--seed S] [--millions K] [--books N] [--call-inputs N] [--trickle]
                                          other programs against this one: on made-up days, on N days
                                          in two pieces with book files, on N inputs of made-up calls
@@ -77,16 +81,18 @@ second read-calls < CALLS > STORY        and back
 
 A story has one book, fresh at first. Lines that change it:
   fresh   do RECORD   set PLACE WORD VALUE   count N   serial N   settle   settle old   byte AT VALUE
+  next N (the next number)   do archive   version N (of its written form: 1 at first and when fresh,
+  with places as numbers; 2 from `next`, `do archive` or `set PLACE number` on)
 Calls, each handed the book as it is then:
   is_sound   standing ACCOUNT   carry_out RECORD   carry_out_next PLACE PIECE
   day NUMBER PIECE   read_at PLACE PIECE   write RECORD room N
-  close_out room N losses LOSS ..   needs room N   take_over
+  close_out room N losses LOSS ..   needs room N   take_over   archive room N
   margin SERIAL ACCOUNT INITIAL POSITION ; .., POSITION: PRODUCT SIDE NOTIONAL, PRODUCT a name or a number
   margin_with SERIAL ACCOUNT INITIAL FIGURES POSITION ; ..   exposure FIGURES, such as 50,-30
   exposures EACH room N FIGURE ..
 Other bytes:
   bytes HEX   cut N   # a comment
-WORD: sort live tm received.KIND allocated.KIND pledged margin mode need, KIND one of cash deposits
+WORD: number sort live tm received.KIND allocated.KIND pledged margin mode need, KIND one of cash deposits
 guarantees securities. RECORD: as `second write` takes it, or `values SERIAL CODE MARK ACCOUNT` and
 six amounts. PIECE: records, `raw HEX` and `zeros N` with ; between them, or nothing.
 ";
@@ -115,6 +121,7 @@ fn main() -> ExitCode {
         "closeouts" => programs::closeouts(&arguments[1..], &day_file),
         "margins" => desk::lines::margins(&arguments[1..], &|| input(desk::lines::MOST as u64 + 1)),
         "take_over" => programs::take_over(&arguments[1..]),
+        "archive" => programs::archive(&arguments[1..]),
         "make" => make_command(&words),
         "make-calls" => make_calls_command(&words),
         "losses" => losses_command(&words),

@@ -104,7 +104,10 @@ impl<'a> Margins<'a> {
     }
 
     fn fits(&mut self, answer: &Answer, book: &Book, margin: u64) -> bool {
-        let account = usize::from(answer.account);
+        let account = match book.place_of(answer.account) {
+            Some(account) => account,
+            None => return false,
+        };
         let (before, is_refused) = (self.margins[account], answer.refusal() != 0);
         let change = match is_refused {
             true if margin == before + 1 => Some(Change::OneMore),

@@ -76,8 +76,12 @@ impl Moves {
 
     /// Whether all of it is possible.
     fn count(&mut self, answer: &Answer, book: &Book, now: &[Standing], moved: &[usize]) -> bool {
-        let account = usize::from(answer.opened().max(answer.account));
-        let (sort, deed) = (book.rows[account].sort, self.deed(answer, now));
+        // A number given is above the one named.
+        let account = match book.place_of(answer.opened().max(answer.account)) {
+            Some(account) => account,
+            None => return false,
+        };
+        let (sort, deed) = (book.rows[account].sort, self.deed(answer, account, now));
         let above = book.answers_for(account);
         let tm = if sort == Sort::Tm { account } else { above };
         let moved = match whose(moved, tm) {
@@ -101,8 +105,7 @@ impl Moves {
     }
 
     /// A margin is part of the need of the account named, whoever that is.
-    fn deed(&self, answer: &Answer, now: &[Standing]) -> Deed {
-        let account = usize::from(answer.account);
+    fn deed(&self, answer: &Answer, account: usize, now: &[Standing]) -> Deed {
         match answer.code {
             OPEN_TM | OPEN_CLIENT | OPEN_CP => Deed::Opened,
             RECEIVE => Deed::Received,

@@ -1,4 +1,5 @@
-//! What the programs print. Every line ends with a newline.
+//! What the programs print. Every line ends with a newline. An account is told
+//! by its number, accounts stand in the order of their rows.
 
 use crate::book::{Book, Sort, Standing};
 use crate::carry::Answer;
@@ -97,7 +98,7 @@ pub fn day(piece: &[u8]) -> Vec<u8> {
     day_seen(piece, |_, _| {}).0
 }
 
-fn sort_word(sort: Sort) -> &'static str {
+pub fn sort_word(sort: Sort) -> &'static str {
     match sort {
         Sort::Cm => "cm",
         Sort::Tm => "tm",
@@ -109,7 +110,8 @@ fn sort_word(sort: Sort) -> &'static str {
 
 fn push_standing(out: &mut Vec<u8>, book: &Book, account: usize, standing: &Standing) {
     let row = &book.rows[account];
-    let (sort, tm) = (sort_word(row.sort), row.tm);
+    let (sort, tm) = (sort_word(row.sort), book.tm_number(account));
+    let number = book.number(account);
     let state = if row.live { "live" } else { "retired" };
     let Standing {
         collateral,
@@ -122,7 +124,7 @@ fn push_standing(out: &mut Vec<u8>, book: &Book, account: usize, standing: &Stan
     } = *standing;
     let mode = mode.word();
     let figures = format!("{collateral} {need} {blocked} {deemed} {free} {mode} {shortfall}");
-    out.extend_from_slice(format!("{account} {sort} {state} {tm} {figures}\n").as_bytes());
+    out.extend_from_slice(format!("{number} {sort} {state} {tm} {figures}\n").as_bytes());
 }
 
 /// The lines of `standings` without the closing line.
@@ -157,7 +159,7 @@ pub fn standings(piece: &[u8]) -> Vec<u8> {
 pub fn needs_over(book: Book, piece: &[u8]) -> Vec<u8> {
     let (mut out, book) = closed(book, piece);
     for (account, need) in book.all_needs().into_iter().enumerate() {
-        push_numbers(&mut out, &[account as u64, need]);
+        push_numbers(&mut out, &[u64::from(book.number(account)), need]);
     }
     out
 }
@@ -170,7 +172,7 @@ pub fn needs(piece: &[u8]) -> Vec<u8> {
 pub fn closeouts_over(book: Book, piece: &[u8], losses: &[u8]) -> Vec<u8> {
     let (mut out, book) = closed(book, piece);
     match close_out_bytes(&book, losses) {
-        Ok(answer) => push_close_out(&mut out, &answer),
+        Ok(answer) => push_close_out(&mut out, &book, &answer),
         Err(refusal) => out.extend_from_slice(format!("refused {}\n", refusal as u8).as_bytes()),
     }
     out
@@ -180,10 +182,10 @@ pub fn closeouts(piece: &[u8], losses: &[u8]) -> Vec<u8> {
     closeouts_over(Book::fresh(), piece, losses)
 }
 
-fn push_close_out(out: &mut Vec<u8>, answer: &CloseOut) {
+fn push_close_out(out: &mut Vec<u8>, book: &Book, answer: &CloseOut) {
     for (account, (loss, payment)) in answer.losses.iter().zip(&answer.payments).enumerate() {
         let numbers = [
-            account as u64,
+            u64::from(book.number(account)),
             *loss,
             payment.own,
             payment.tm,

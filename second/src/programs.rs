@@ -1,12 +1,15 @@
 //! The programs `day`, `standings`, `needs` and `closeouts`: over a fresh
 //! book, or over the one that FROM holds. A FROM that can't be read, or is no
 //! book, is told and nothing is printed; over one that isn't sound the day
-//! stays unread. And `take_over`, from one book file to another.
+//! stays unread. And `take_over` and `archive`, from one book file to another.
+
+mod archive;
 
 use crate::book::{Book, MOST_ACCOUNTS};
 use crate::seen::Seen;
 use crate::table::Table;
-use crate::{bookfile, print, put_out, usage, Output};
+use crate::{bookfile, files, print, put_out, usage, Output};
+pub use archive::{archive, with_lines};
 use std::ffi::OsString;
 use std::fs::File;
 use std::io::{self, Read};
@@ -82,7 +85,7 @@ pub fn day(words: &[OsString], day_file: Reading) -> Output {
 /// The book has its place before the closing line is printed. Where it can't
 /// be kept that line is missing.
 fn keep(program: &str, to: &OsString, table: &Table) -> Result<(), String> {
-    let kept = bookfile::write_file(Path::new(to), table);
+    let kept = files::replace(Path::new(to), &bookfile::bytes(table));
     kept.map_err(|error| {
         format!(
             "{program}: cannot keep the book: {}: {error}",

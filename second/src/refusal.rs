@@ -12,6 +12,7 @@ pub enum Refusal {
     OutOfRange = 6,
     NotLive = 7,
     WrongSort = 8,
+    /// K11: 256 rows held, or every number given.
     NoNumberLeft = 9,
     PastCeiling = 10,
     MoreThanThere = 11,
@@ -29,4 +30,6 @@ pub enum Refusal {
     SumPast = 21,
     /// K10; checked before 21.
     PastFigure = 22,
+    /// K11; checked after 1.
+    ArchiveTooShort = 23,
 }

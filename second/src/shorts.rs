@@ -203,18 +203,17 @@ impl<'a> Shorts<'a> {
         if answer.code == LAST_CODE + 1 && answer.refusal() == 4 {
             kinds.push(Kind::CodeFourteen);
         }
-        let account = usize::from(answer.account);
         let amounts = match record.checked() {
             Ok(amounts) => amounts,
             Err(_) => return kinds,
         };
-        if account < book.count {
+        if let Some(account) = book.place_of(answer.account) {
             let sort = book.rows[account].sort;
             if answer.refusal() == 0 {
                 kinds.extend(self.turned(answer.code, sort, book));
             }
             if self.short > 0 {
-                kinds.extend(self.under(answer, &amounts, book));
+                kinds.extend(self.under(answer, account, &amounts, book));
             }
         }
         kinds
@@ -242,8 +241,13 @@ impl<'a> Shorts<'a> {
         Some(Kind::Turned(sort, by, turn))
     }
 
-    fn under(&self, answer: &Answer, amounts: &[u64; 6], book: &Book) -> Option<Kind> {
-        let account = usize::from(answer.account);
+    fn under(
+        &self,
+        answer: &Answer,
+        account: usize,
+        amounts: &[u64; 6],
+        book: &Book,
+    ) -> Option<Kind> {
         let row = &book.rows[account];
         let asked = match (answer.code, answer.refusal()) {
             (OPEN_TM | OPEN_CLIENT | OPEN_CP, 0) => return Some(Kind::Opened),

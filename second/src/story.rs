@@ -7,8 +7,13 @@
 //!     do RECORD                     carries a record out; it is an error if it is refused
 //!     set PLACE WORD VALUE          one word: sort live tm received.cash received.deposits
 //!                                   received.guarantees received.securities allocated.cash
-//!                                   (and so on) pledged margin mode need
-//!     count N, serial N             the number of accounts, the next serial
+//!                                   (and so on) pledged margin mode need number
+//!     count N, serial N, next N     the number of accounts, the next serial, the next number
+//!     do archive                    moves its retired rows to an archive
+//!     version 1, version 2          the version of its written form: 1 at first and when fresh,
+//!                                   where numbers are the places of rows and the next number is
+//!                                   the count; 2 from the first line on that speaks of numbers:
+//!                                   `set PLACE number`, `next` or `do archive`
 //!     settle                        kept needs worked out afresh
 //!     settle old                    the same by the old rule, for a book to be taken over
 //!     byte AT VALUE                 one byte of the written form, counted from 0
@@ -23,6 +28,7 @@
 //!     close_out room N losses LOSS ..
 //!     needs room N
 //!     take_over
+//!     archive room N
 //!     margin SERIAL ACCOUNT INITIAL POSITION ; ..
 //!                                   POSITION: PRODUCT SIDE NOTIONAL, the product by name or number
 //!     margin_with SERIAL ACCOUNT INITIAL FIGURES POSITION ; ..
@@ -39,21 +45,22 @@
 //! of such lines and of `zeros N`, with `;` between them; nothing is an empty
 //! piece. Serials run on from the book's.
 
+mod book;
 mod desk;
 mod read;
 
-use crate::bookfile::{self, PLACE, PLACES};
+use crate::bookfile::Version;
 use crate::calls::Call;
 use crate::carry::carry_values;
 use crate::dayfile::{Next, Reader, Values};
 use crate::rule::Rule;
-use crate::table::{Table, MODE, NEED, WIDTHS, WORDS};
+use crate::table::{Table, MODE, NEED, NUMBER, WORDS};
 use crate::text::{hex_bytes, line_bytes, moved_on, parsed};
+use book::Written;
 pub use read::{read, short};
 
 struct Story {
-    /// The book's written form. It need not be a book.
-    book: Vec<u8>,
+    book: Written,
     out: Vec<u8>,
 }
 
@@ -62,7 +69,7 @@ type Done = Result<(), String>;
 /// Text to the bytes of calls; an error names its line.
 pub fn write(text: &[u8]) -> Result<Vec<u8>, String> {
     let mut story = Story {
-        book: bookfile::bytes(&Table::fresh()),
+        book: Written::fresh(),
         out: Vec::new(),
     };
     for (place, line) in text.split(|&byte| byte == b'\n').enumerate() {
@@ -86,13 +93,16 @@ impl Story {
                 Ok(())
             }
             ("cut", [many]) => self.cut(parsed(many, "number of bytes")?),
-            ("fresh" | "set" | "count" | "serial" | "byte", words) => self.change(word, words),
+            ("fresh" | "set" | "count" | "serial" | "next" | "version" | "byte", words) => {
+                self.book.change(word, words)
+            }
+            ("do", ["archive"]) => self.archive(),
             ("do", _) => self.carry_out(rest),
             ("settle", []) => self.settle(Rule::New),
             ("settle", ["old"]) => self.settle(Rule::Old),
             (_, words) => {
                 let call = self.call(word, rest, words)?;
-                let book = call.book().map_or(&[][..], |_| &self.book);
+                let book = call.book().map_or(&[][..], |_| &self.book.bytes);
                 call.lay_over(&mut self.out, book);
                 Ok(())
             }
@@ -106,71 +116,37 @@ impl Story {
         Ok(())
     }
 
-    fn change(&mut self, word: &str, words: &[&str]) -> Done {
-        match (word, words) {
-            ("fresh", []) => self.book = bookfile::bytes(&Table::fresh()),
-            ("set", [place, word, value]) => self.set(place, word, value)?,
-            ("count", [count]) => self.put(4, 2, parsed(count, "number of accounts")?)?,
-            ("serial", [serial]) => self.put(6, 2, parsed(serial, "serial")?)?,
-            ("byte", [at, value]) => self.put(parsed(at, "place")?, 1, parsed(value, "byte")?)?,
-            _ => return Err(format!("`{word}` is said otherwise")),
-        }
-        Ok(())
-    }
-
-    /// A number into so many bytes of the written form.
-    fn put(&mut self, at: usize, width: usize, value: u64) -> Done {
-        if width < 8 && value >> (8 * width) != 0 {
-            return Err(format!("`{value}` is too large"));
-        }
-        let slot = self.book.get_mut(at..at + width);
-        let slot = slot.ok_or("a book has 23816 bytes")?;
-        slot.copy_from_slice(&value.to_be_bytes()[8 - width..]);
-        Ok(())
-    }
-
-    fn set(&mut self, place: &str, word: &str, value: &str) -> Done {
-        let place: usize = parsed(place, "place")?;
-        if place > 255 {
-            return Err("a book has places 0 to 255".to_string());
-        }
-        let known = WORDS.iter().position(|&known| known == word);
-        let word = known.ok_or_else(|| format!("unknown word `{word}`"))?;
-        let before: usize = WIDTHS[..word].iter().sum();
-        let at = PLACES + place * PLACE + before;
-        self.put(at, WIDTHS[word], parsed(value, "value")?)
-    }
-
-    fn table(&self) -> Result<Table, String> {
-        bookfile::table(&self.book).ok_or_else(|| "the book is none".to_string())
-    }
-
     /// "The book isn't sound" is no part of a story that goes on.
     fn carry_out(&mut self, said: &str) -> Done {
         let record = self.record(said)?;
-        let book = self.table()?.book();
+        let book = self.book.table()?.book();
         let mut book = book.ok_or("the book isn't sound")?;
         match carry_values(&mut book, &record).refusal() {
             0 => {
-                self.book = bookfile::bytes(&Table::of(&book));
+                self.book.keep(&Table::of(&book));
                 Ok(())
             }
             refusal => Err(format!("`{said}` is refused with {refusal}")),
         }
     }
 
+    /// With an archive that is long enough.
+    fn archive(&mut self) -> Done {
+        let archived = self.book.table()?.archived();
+        let archived = archived.ok_or("the book isn't sound")?;
+        self.book.turn(Version::Two)?;
+        self.book.keep(&archived.book);
+        Ok(())
+    }
+
     fn settle(&mut self, rule: Rule) -> Done {
-        let mut table = self.table()?;
+        let mut table = self.book.table()?;
         for (place, need) in table.needs_afresh(rule).into_iter().enumerate() {
             let need = u64::try_from(need);
             table.places[place][NEED] = need.map_err(|_| "a need is past its word")?;
         }
-        self.book = bookfile::bytes(&table);
+        self.book.keep(&table);
         Ok(())
-    }
-
-    fn serial(&self) -> u16 {
-        u16::from_be_bytes([self.book[6], self.book[7]])
     }
 
     fn record(&self, said: &str) -> Result<Values, String> {
@@ -178,7 +154,7 @@ impl Story {
         if let ["values", numbers @ ..] = words.as_slice() {
             return values(numbers);
         }
-        let bytes = line_bytes(said, self.serial())?;
+        let bytes = line_bytes(said, self.book.serial())?;
         let mut reader = Reader::new(&bytes);
         match (reader.next(), reader.left()) {
             (Next::Record(record), []) => Ok(record.values()),
@@ -187,7 +163,7 @@ impl Story {
     }
 
     fn piece(&self, said: &str) -> Result<Vec<u8>, String> {
-        let (mut piece, mut running) = (Vec::new(), self.serial());
+        let (mut piece, mut running) = (Vec::new(), self.book.serial());
         for part in said.split(';') {
             let words: Vec<&str> = part.split_whitespace().collect();
             let bytes = match words.as_slice() {
@@ -229,6 +205,7 @@ impl Story {
             }
             ("needs", ["room", room]) => Call::Needs(book, parsed(room, "room")?),
             ("take_over", []) => Call::TakeOver(book),
+            ("archive", ["room", room]) => Call::Archive(book, parsed(room, "room")?),
             _ => {
                 let call = desk::call(word, words)?;
                 let unknown = || format!("unknown word `{word}`, or it is said otherwise");

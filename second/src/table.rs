@@ -1,15 +1,18 @@
 //! A book word by word, as it may be handed over from outside: sound or not.
 
+mod archive;
 mod faults;
 mod takeover;
 
-use crate::book::{Book, Row, Sort, KINDS, MOST_ACCOUNTS};
+use crate::book::{Book, Numbers, Row, Sort, KINDS, MOST_ACCOUNTS};
 use crate::mode::Mode;
 use crate::rule::Rule;
+pub use archive::{Archived, Entry};
 pub use faults::Fault;
 
 /// The words of a place, in the order of the written form.
-pub const WORDS: [&str; 15] = [
+pub const WORDS: [&str; 16] = [
+    "number",
     "sort",
     "live",
     "tm",
@@ -28,20 +31,22 @@ pub const WORDS: [&str; 15] = [
 ];
 
 /// Where in the list they stand.
-pub const SORT: usize = 0;
-pub const LIVE: usize = 1;
-pub const TM: usize = 2;
-pub const RECEIVED: usize = 3;
-pub const ALLOCATED: usize = 7;
+pub const NUMBER: usize = 0;
+pub const SORT: usize = 1;
+pub const LIVE: usize = 2;
+/// A client's: the place of its TM's row.
+pub const TM: usize = 3;
+pub const RECEIVED: usize = 4;
+pub const ALLOCATED: usize = 8;
 /// Those allocated.
-pub const SECURITIES: usize = 10;
-pub const PLEDGED: usize = 11;
-pub const MARGIN: usize = 12;
-pub const MODE: usize = 13;
-pub const NEED: usize = 14;
+pub const SECURITIES: usize = 11;
+pub const PLEDGED: usize = 12;
+pub const MARGIN: usize = 13;
+pub const MODE: usize = 14;
+pub const NEED: usize = 15;
 
 /// How many bytes each word has in the written form.
-pub const WIDTHS: [usize; 15] = [1, 1, 2, 8, 8, 8, 8, 8, 8, 8, 8, 8, 8, 1, 8];
+pub const WIDTHS: [usize; 16] = [2, 1, 1, 2, 8, 8, 8, 8, 8, 8, 8, 8, 8, 8, 1, 8];
 
 /// Sorts: "0 the CM, 1 TM, 2 client, 3 CP; any byte can be read."
 pub const CM: u64 = 0;
@@ -49,13 +54,15 @@ pub const TRADING: u64 = 1;
 pub const CLIENT: u64 = 2;
 pub const CP: u64 = 3;
 
-/// Fifteen words, each within its width; live and mode are 0 or 1.
+/// Sixteen words, each within its width; live and mode are 0 or 1.
 pub type Place = [u64; WORDS.len()];
 
 #[derive(Clone, PartialEq, Eq, Debug)]
 pub struct Table {
     pub count: u16,
     pub serial: u16,
+    /// The next number to be given.
+    pub next: u32,
     pub places: [Place; MOST_ACCOUNTS],
 }
 
@@ -72,11 +79,12 @@ impl Table {
         Table {
             count: book.count as u16,
             serial: book.serial,
+            next: book.numbers.next,
             places,
         }
     }
 
-    /// How many of the places the number of accounts takes in.
+    /// How many of the places the number of rows takes in.
     pub fn held(&self) -> usize {
         usize::from(self.count).min(MOST_ACCOUNTS)
     }
@@ -97,7 +105,24 @@ impl Table {
         };
         let modes = std::array::from_fn(|account| mode(&self.places[account]));
         let needs = std::array::from_fn(|account| self.places[account][NEED]);
-        Some(Book::handed_over(rows, count, self.serial, modes, needs))
+        let numbers = Numbers {
+            of_rows: std::array::from_fn(|account| self.places[account][NUMBER] as u16),
+            next: self.next,
+        };
+        let serial = self.serial;
+        Some(Book::handed_over(
+            rows, count, numbers, serial, modes, needs,
+        ))
+    }
+
+    /// As a book that says nothing of numbers has them: "numbers equal to places
+    /// below the count and 0 from there on, next number the count".
+    pub fn number_by_places(&mut self) {
+        let held = self.held();
+        for (number, place) in self.places.iter_mut().enumerate() {
+            place[NUMBER] = if number < held { number as u64 } else { 0 };
+        }
+        self.next = u32::from(self.count);
     }
 }
 
@@ -110,6 +135,7 @@ fn place_of(book: &Book, account: usize) -> Place {
         Sort::Cp => CP,
     };
     let mut place = [0; WORDS.len()];
+    place[NUMBER] = u64::from(book.number(account));
     place[SORT] = sort;
     place[LIVE] = u64::from(row.live);
     place[TM] = u64::from(row.tm);
@@ -122,7 +148,7 @@ fn place_of(book: &Book, account: usize) -> Place {
     place
 }
 
-/// Of a place within the number of accounts of a sound book.
+/// Of a place within the number of rows of a sound book.
 fn row_of(place: &Place) -> Row {
     let sort = match place[SORT] {
         CM => Sort::Cm,

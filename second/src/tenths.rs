@@ -114,12 +114,12 @@ impl<'a> Tenths<'a> {
             Next::Record(record) => record,
             _ => return false,
         };
-        let account = usize::from(answer.account);
-        if account >= book.count {
-            return true;
-        }
+        let account = match book.place_of(answer.account) {
+            Some(account) => account,
+            None => return true,
+        };
         if let Ok(amounts) = record.checked() {
-            for kind in self.kinds(answer, &amounts, book) {
+            for kind in self.kinds(answer, account, &amounts, book) {
                 *self.met.0.entry(kind).or_default() += 1;
             }
         }
@@ -127,8 +127,7 @@ impl<'a> Tenths<'a> {
         book.collateral(account) == by_the_letter(&book.rows[account])
     }
 
-    fn kinds(&self, answer: &Answer, amounts: &[u64; 6], book: &Book) -> Vec<Kind> {
-        let account = usize::from(answer.account);
+    fn kinds(&self, answer: &Answer, account: usize, amounts: &[u64; 6], book: &Book) -> Vec<Kind> {
         let row = &book.rows[account];
         match (answer.code, answer.refusal()) {
             (ALLOCATE, 0) if amounts[SECURITIES] > 0 => {
@@ -137,9 +136,10 @@ impl<'a> Tenths<'a> {
                     .filter(|&paise| paise == row.allocated[SECURITIES]);
                 held.map(|paise| Kind::Holds(row.sort, paise)).collect()
             }
-            (RELEASE | UNPLEDGE, 0 | 12 | 17) => taking(answer, amounts, book),
+            (RELEASE | UNPLEDGE, 0 | 12 | 17) => taking(answer, account, amounts, book),
             (SET_MARGIN, 0 | 13) if amounts[MARGIN] > self.margins[account] => {
-                margin(answer, amounts[MARGIN], book).into_iter().collect()
+                let kind = margin(answer, account, amounts[MARGIN], book);
+                kind.into_iter().collect()
             }
             _ => Vec::new(),
         }
@@ -161,8 +161,7 @@ fn moved(row: &Row, amounts: &[u64; 6], by: fn(u64, u64) -> u64) -> Row {
 
 /// A refusal leaves the row; an account's own collateral is no part of its
 /// need.
-fn taking(answer: &Answer, amounts: &[u64; 6], book: &Book) -> Vec<Kind> {
-    let account = usize::from(answer.account);
+fn taking(answer: &Answer, account: usize, amounts: &[u64; 6], book: &Book) -> Vec<Kind> {
     let (row, is_done) = (book.rows[account], answer.refusal() == 0);
     let (before, left) = match is_done {
         true => (moved(&row, amounts, |now, gone| now + gone), row),
@@ -209,8 +208,7 @@ fn side(left: u64, blocked: u64, collateral: u64) -> Option<Side> {
     }
 }
 
-fn margin(answer: &Answer, margin: u64, book: &Book) -> Option<Kind> {
-    let account = usize::from(answer.account);
+fn margin(answer: &Answer, account: usize, margin: u64, book: &Book) -> Option<Kind> {
     let is_rounded = |account: usize| book.rows[account].allocated[SECURITIES] % 10 != 0;
     let (need, covered) = (book.cm_need_with(account, margin), book.collateral(0));
     let side = match answer.refusal() {

@@ -39,13 +39,13 @@ impl Book {
         need
     }
 
-    /// "All needs in one list": of every number given, retired ones too.
+    /// "All needs in one list": of every row held, retired ones too.
     pub fn all_needs(&self) -> Vec<u64> {
         (0..self.count).map(|account| self.need(account)).collect()
     }
 
     /// What must be kept, from present amounts only; 0 for clients, CPs and
-    /// numbers never given.
+    /// rows that aren't held.
     pub fn needs_afresh(&self) -> [u64; MOST_ACCOUNTS] {
         let mut needs = [0; MOST_ACCOUNTS];
         for (account, standing) in self.standings().into_iter().enumerate() {

@@ -60,7 +60,7 @@ impl Book {
     }
 
     /// The use of every TM and the CM from present amounts only; 0 for all
-    /// others. Whoever answers for an account has a lower number.
+    /// others. Whoever answers for an account has a lower place.
     pub fn uses(&self) -> Vec<u64> {
         let mut over = vec![0; self.count];
         let mut uses = vec![0; self.count];

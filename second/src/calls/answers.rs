@@ -38,6 +38,7 @@ pub fn answer(call: &Call) -> Answered {
         Call::CloseOut(book, losses, room) => close_out_call(book.book(), losses, *room),
         Call::Needs(book, room) => needs(book.book(), *room),
         Call::TakeOver(book) => take_over(book),
+        Call::Archive(book, room) => archive(book, *room),
         Call::Margin(serial, account, initial, positions) => {
             margin_record(*serial, *account, desk::margin(*initial, positions))
         }
@@ -77,10 +78,11 @@ fn standing(book: Option<Book>, account: u16) -> Answered {
         Some(book) => book,
         None => return told(UNSOUND, &[0; 7]),
     };
-    if !book.is_live(account) {
-        return told(Refusal::NotLive as u8, &[0; 7]);
-    }
-    let standing = book.standings()[usize::from(account)];
+    let place = match book.live_place(account) {
+        Some(place) => place,
+        None => return told(Refusal::NotLive as u8, &[0; 7]),
+    };
+    let standing = book.standings()[place];
     let figures = [
         standing.collateral,
         standing.need,
@@ -93,12 +95,13 @@ fn standing(book: Option<Book>, account: u16) -> Answered {
     told(0, &figures)
 }
 
-/// `same`, or count, serial, and every place of which a word differs.
+/// `same`, or count, serial, next number, and every place of which a word
+/// differs.
 fn book_words(before: &Table, after: &Table) -> String {
     if before == after {
         return "same".to_string();
     }
-    let mut words = format!("{} {}", after.count, after.serial);
+    let mut words = format!("{} {} {}", after.count, after.serial, after.next);
     for (number, place) in after.places.iter().enumerate() {
         if before.places[number] != *place {
             words = spaced(format!("{words} {number}"), place);
@@ -276,6 +279,28 @@ fn take_over(table: &Table) -> Answered {
         None => with_book(told(UNSOUND, &[]), "same"),
         Some(after) => with_book(told(0, &[]), &book_words(table, &after)),
     }
+}
+
+/// "23, the archive is too short, after 1, nothing moved"; "archive room not
+/// needed stays unchanged".
+fn archive(table: &Table, room: usize) -> Answered {
+    let mut words: Vec<u64> = lent(room).iter().map(|word| word % 65_536).collect();
+    let (refusal, archived) = match table.archived() {
+        None => (UNSOUND, None),
+        Some(archived) if room < 3 * archived.entries.len() => {
+            (Refusal::ArchiveTooShort as u8, None)
+        }
+        Some(archived) => (0, Some(archived)),
+    };
+    let (entries, after) = match archived {
+        None => (Vec::new(), table.clone()),
+        Some(archived) => (archived.entries, archived.book),
+    };
+    for (three, entry) in words.chunks_exact_mut(3).zip(&entries) {
+        three.copy_from_slice(&entry.numbers());
+    }
+    words.insert(0, entries.len() as u64);
+    with_book(told(refusal, &words), &book_words(table, &after))
 }
 
 /// The refusal alone, "no record then", or the record.

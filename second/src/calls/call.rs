@@ -30,10 +30,12 @@ pub enum Call {
     MarginWith(u16, u16, u64, Vec<Position>, Vec<i64>),
     /// Figures a client, all clients' figures, room.
     Exposures(u8, Vec<i64>, usize),
+    /// Book, room.
+    Archive(Table, usize),
 }
 
 /// Every call by its number.
-pub const NAMES: [(u8, &str); 14] = [
+pub const NAMES: [(u8, &str); 15] = [
     (1, "is_sound"),
     (2, "standing"),
     (3, "carry_out"),
@@ -48,6 +50,7 @@ pub const NAMES: [(u8, &str); 14] = [
     (12, "exposure"),
     (13, "margin_with"),
     (14, "exposures"),
+    (16, "archive"),
 ];
 
 impl Call {
@@ -75,6 +78,7 @@ impl Call {
                 Call::MarginWith(serial, account, initial, positions, input.figures()?)
             }
             14 => Call::Exposures(input.figures_each()?, input.signed_list()?, input.room()?),
+            16 => Call::Archive(input.book()?, input.room()?),
             _ => return None,
         };
         Some(call)
@@ -101,6 +105,7 @@ impl Call {
             Call::Exposure(..) => 12,
             Call::MarginWith(..) => 13,
             Call::Exposures(..) => 14,
+            Call::Archive(..) => 16,
         }
     }
 
@@ -123,7 +128,7 @@ impl Call {
             Call::IsSound(book) | Call::Standing(book, _) | Call::CarryOut(book, _) => Some(book),
             Call::CarryOutNext(book, _, _) | Call::Day(book, _, _) => Some(book),
             Call::CloseOut(book, _, _) | Call::Needs(book, _) => Some(book),
-            Call::TakeOver(book) => Some(book),
+            Call::TakeOver(book) | Call::Archive(book, _) => Some(book),
             Call::ReadAt(..) | Call::Write(..) | Call::Margin(..) => None,
             Call::Exposure(..) | Call::MarginWith(..) | Call::Exposures(..) => None,
         }
@@ -160,7 +165,7 @@ impl Call {
                 }
                 lay_length(out, *room);
             }
-            Call::Needs(_, room) => lay_length(out, *room),
+            Call::Needs(_, room) | Call::Archive(_, room) => lay_length(out, *room),
             _ => self.lay_desk(out),
         }
     }

@@ -55,8 +55,10 @@ impl<'a> Input<'a> {
         (length <= most).then_some(length)
     }
 
+    /// Of either version; its fourth byte tells how long it is.
     pub fn book(&mut self) -> Option<Table> {
-        bookfile::table(self.bytes(bookfile::LENGTH)?)
+        let version = bookfile::version(self.left)?;
+        bookfile::table(self.bytes(version.length())?)
     }
 
     pub fn record(&mut self) -> Option<Values> {

@@ -4,13 +4,14 @@
 mod desk;
 mod edges;
 mod figures;
+mod numbers;
 
 use super::call::NAMES;
 use super::{Answered, Call};
-use crate::make::asked::ENDINGS;
+use crate::make::asked::{Asked, ENDINGS};
 use crate::rule::Rule;
 use crate::table::{Fault, Table};
-use edges::{of_call, EDGES};
+use edges::EDGES;
 use std::collections::BTreeMap;
 
 /// The outcomes of each call, in the order of their names.
@@ -29,6 +30,7 @@ const OUTCOMES: [&str; NAMES.len()] = [
     "0 22",
     "0 15 18 19 20 21 22",
     "0 15",
+    "0 1 23",
 ];
 
 #[derive(Default)]
@@ -41,6 +43,8 @@ pub struct Met {
     alone: BTreeMap<(Rule, Fault), u64>,
     sound: u64,
     several: u64,
+    /// Books of version 1.
+    first_versions: u64,
     endings: [u64; ENDINGS.len()],
     desk: desk::Met,
     figures: figures::Met,
@@ -51,7 +55,8 @@ impl Met {
         self.calls += 1;
         let outcome = (call.name(), answered.word.clone());
         *self.outcomes.entry(outcome).or_default() += 1;
-        for edge in of_call(call, &answered.word) {
+        let edges = edges::of_call(call, &answered.word).into_iter();
+        for edge in edges.chain(numbers::of_call(call, &answered.word)) {
             *self.edges.entry((call.name(), edge)).or_default() += 1;
         }
         if let Call::Margin(_, _, initial, positions) = call {
@@ -73,9 +78,10 @@ impl Met {
         }
     }
 
-    pub fn count_ending(&mut self, ending: usize) {
+    pub fn count_input(&mut self, asked: &Asked) {
         self.inputs += 1;
-        self.endings[ending] += 1;
+        self.endings[asked.ending] += 1;
+        self.first_versions += asked.first_versions;
     }
 
     pub fn missed(&self) -> Vec<String> {
@@ -87,7 +93,7 @@ impl Met {
                 }
             }
         }
-        for (name, edges) in EDGES {
+        for (name, edges) in EDGES.into_iter().chain(numbers::EDGES) {
             let edges = edges.iter();
             let unmet = edges.filter(|&&edge| !self.edges.contains_key(&(name, edge)));
             missed.extend(unmet.map(|edge| format!("{name}: {edge}")));
@@ -101,6 +107,9 @@ impl Met {
         let endings = ENDINGS.iter().zip(self.endings);
         let unmet = endings.filter(|(_, many)| *many == 0);
         missed.extend(unmet.map(|(ending, _)| ending.0.to_string()));
+        if self.first_versions == 0 {
+            missed.push("a book of version 1".to_string());
+        }
         missed.extend(self.desk.missed());
         missed.extend(self.figures.missed());
         missed
@@ -108,13 +117,14 @@ impl Met {
 
     pub fn lines(&self) -> Vec<String> {
         let mut lines = vec![format!(
-            "same: {} inputs of {} calls; books: {} sound, unsound in {} single ways: {}, in several: {}",
+            "same: {} inputs of {} calls; books: {} sound, unsound in {} single ways: {}, in several: {}; {} of version 1",
             self.inputs,
             self.calls,
             self.sound,
             self.alone.len(),
             self.alone.values().sum::<u64>(),
-            self.several
+            self.several,
+            self.first_versions
         )];
         for (_, name) in NAMES {
             let of_call = self.outcomes.iter().filter(|((call, _), _)| *call == name);
@@ -129,11 +139,26 @@ impl Met {
             lines.push(format!("{name}, {}", met.join(", ")));
         }
         lines.extend([self.desk.line(), self.figures.line()]);
+        lines.push(self.number_line());
         let endings = ENDINGS.iter().zip(self.endings);
         let endings: Vec<String> = endings
             .map(|(ending, many)| format!("{}: {many}", ending.0))
             .collect();
         lines.push(format!("endings, {}", endings.join(", ")));
         lines
+    }
+
+    /// Archives and numbers, by call and edge.
+    fn number_line(&self) -> String {
+        let all = numbers::EDGES.into_iter();
+        let all = all.flat_map(|(name, edges)| edges.iter().map(move |&edge| (name, edge)));
+        let met: Vec<u64> = all
+            .filter_map(|edge| self.edges.get(&edge).copied())
+            .collect();
+        format!(
+            "archives and numbers, {} kinds: {}",
+            met.len(),
+            met.iter().sum::<u64>()
+        )
     }
 }

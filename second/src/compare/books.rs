@@ -1,19 +1,19 @@
 //! Programs that start from a book file and leave one, against this one: days
-//! in two pieces with a night between them, and book files that are no book or
-//! not a sound one.
+//! in two pieces with a night between them, and books that are taken over.
 
-use super::{between_records, Programs};
+use super::{archives, between_records, Programs};
 use crate::book::Book;
+use crate::bookfile;
 use crate::child::{ask, ask_held, Pace};
 use crate::difference::settle;
 use crate::made::Made;
 use crate::make::asked::{any_sound, to_take_over, unsound, with_steps};
 use crate::make::{losses, make, ROUND};
 use crate::options::Options;
+use crate::print;
 use crate::rng::Rng;
 use crate::rule::Rule;
 use crate::table::{Fault, Table};
-use crate::{bookfile, print};
 use std::fs;
 use std::path::{Path, PathBuf};
 
@@ -23,29 +23,51 @@ pub struct Met {
     pub days: u64,
     runs: u64,
     odd: u64,
-    unsound: u64,
-    none: u64,
+    /// Books of version 1.
+    first_versions: u64,
+    pub unsound: u64,
+    pub none: u64,
     /// Taken over, and not.
     over: [u64; 2],
+    pub archives: archives::Met,
 }
 
 impl Met {
     pub fn line(&self) -> String {
         format!(
-            "same: {} days in two pieces, {} runs from a book; books with modes of their own: {}, not sound: {}, none: {}; taken over: {}, not taken over: {}",
-            self.days, self.runs, self.odd, self.unsound, self.none, self.over[0], self.over[1]
+            "same: {} days in two pieces, {} runs from a book; books with modes of their own: {}, of version 1: {}, not sound: {}, none: {}; taken over: {}, not taken over: {}",
+            self.days,
+            self.runs,
+            self.odd,
+            self.first_versions,
+            self.unsound,
+            self.none,
+            self.over[0],
+            self.over[1]
         )
+    }
+
+    /// What so many nights must have met, and didn't.
+    fn missed(&self, programs: &Programs) -> Vec<String> {
+        if self.days < 40 {
+            return Vec::new();
+        }
+        let mut missed = match programs.archive {
+            Some(_) => self.archives.missed(),
+            None => Vec::new(),
+        };
+        if self.first_versions == 0 {
+            missed.push("a book of version 1".to_string());
+        }
+        missed
     }
 }
 
-/// A program's name, the program, and its words.
-type Run<'n, 'p> = (&'static str, &'n str, Vec<&'p Path>);
-
-struct Night<'a> {
-    programs: &'a Programs<'a>,
-    made: Made,
-    rng: Rng,
-    met: &'a mut Met,
+pub struct Night<'a> {
+    pub programs: &'a Programs<'a>,
+    pub made: Made,
+    pub rng: Rng,
+    pub met: &'a mut Met,
 }
 
 /// Days by kind and seed as elsewhere, but shorter.
@@ -67,33 +89,54 @@ pub fn all_books(options: &Options, programs: &Programs, many: u64) -> Result<Me
             rng: Rng::new(seed, 0xB00C),
             met: &mut met,
         };
-        night.two_pieces()?;
-        night.own_modes()?;
-        night.not_sound(place)?;
-        night.no_book(place)?;
-        if let Some(program) = programs.take_over {
-            night.take_over(program, place)?;
-        }
+        night.all(place)?;
         met.days += 1;
     }
-    for name in ["book", "to", "losses"] {
+    for name in ["book", "to", "losses", "archive"] {
         let _ = fs::remove_file(programs.folder.join(name));
+    }
+    let missed = met.missed(programs);
+    if !missed.is_empty() {
+        return Err(format!("not met: {}", missed.join(", ")));
     }
     Ok(met)
 }
 
 impl Night<'_> {
-    fn path(&self, name: &str) -> PathBuf {
+    fn all(&mut self, place: u64) -> Result<(), String> {
+        self.two_pieces(place)?;
+        self.own_modes(place)?;
+        for more in 0..2 {
+            self.not_sound(2 * place + more)?;
+        }
+        self.no_book(place)?;
+        if let Some(program) = self.programs.take_over {
+            self.take_over(program, place)?;
+        }
+        match self.programs.archive {
+            Some(program) => self.archivings(program, place),
+            None => Ok(()),
+        }
+    }
+
+    pub fn path(&self, name: &str) -> PathBuf {
         self.programs.folder.join(name)
     }
 
-    fn put(&self, name: &str, bytes: &[u8]) -> Result<PathBuf, String> {
+    pub fn put(&self, name: &str, bytes: &[u8]) -> Result<PathBuf, String> {
         let path = self.path(name);
         fs::write(&path, bytes).map_err(|error| error.to_string())?;
         Ok(path)
     }
 
-    fn told(&self, what: &str) -> String {
+    /// FROM, every other time in version 1 where that says the same.
+    pub fn put_book(&mut self, table: &Table, place: u64) -> Result<PathBuf, String> {
+        let first = bookfile::first_bytes(table).filter(|_| place % 2 == 0);
+        self.met.first_versions += u64::from(first.is_some());
+        self.put("book", &first.unwrap_or_else(|| bookfile::bytes(table)))
+    }
+
+    pub fn told(&self, what: &str) -> String {
         let Made { kind, seed, .. } = self.made;
         let folder = self.programs.folder.display();
         format!("difference: {what}, kind {kind}, seed {seed}; the book is in {folder}")
@@ -117,7 +160,9 @@ impl Night<'_> {
         settle(&self.programs.folder, &made, name, want, got)
     }
 
-    fn two_pieces(&mut self) -> Result<(), String> {
+    /// Every other time the book is archived in between; records of the second
+    /// piece name the same numbers as before.
+    fn two_pieces(&mut self, place: u64) -> Result<(), String> {
         let bytes = self.made.bytes.clone();
         let cut = between_records(&bytes, &mut self.rng);
         let (first, second) = bytes.split_at(cut);
@@ -125,13 +170,24 @@ impl Night<'_> {
         let _ = fs::remove_file(&book);
         let after = self.day(Book::fresh(), Path::new("-"), &book, first)?;
         self.shown(&after, &book, second)?;
-        let after = handed_over(&after);
+        let mut after = handed_over(&after);
+        if place % 2 == 1 {
+            let table = self.night_archive(&Table::of(&after), &book)?;
+            after = table.book().unwrap_or(after);
+            self.shown(&after, &book, second)?;
+        }
         let after = self.day(after, &book, &book, second)?;
         self.shown(&after, &book, &[])
     }
 
     /// The lines, and the bytes of the book file. Gives the book after it.
-    fn day(&mut self, book: Book, from: &Path, to: &Path, piece: &[u8]) -> Result<Book, String> {
+    pub fn day(
+        &mut self,
+        book: Book,
+        from: &Path,
+        to: &Path,
+        piece: &[u8],
+    ) -> Result<Book, String> {
         let (lines, closing, after) = print::day_parts(book, piece, |_, _| {});
         let program = match self.programs.day {
             Some(program) => program,
@@ -151,7 +207,7 @@ impl Night<'_> {
     }
 
     /// The programs that show a book, with this piece carried out first.
-    fn shown(&mut self, book: &Book, path: &Path, piece: &[u8]) -> Result<(), String> {
+    pub fn shown(&mut self, book: &Book, path: &Path, piece: &[u8]) -> Result<(), String> {
         if let Some(program) = self.programs.standings {
             let want = print::standings_over(handed_over(book), piece);
             self.settled("standings from a book", program, &[path], piece, &want)?;
@@ -176,10 +232,10 @@ impl Night<'_> {
     }
 
     /// A sound book whose modes need not fit its figures.
-    fn own_modes(&mut self) -> Result<(), String> {
+    fn own_modes(&mut self, place: u64) -> Result<(), String> {
         let table = any_sound(&mut self.rng);
         let piece = with_steps(&table, &mut self.rng);
-        let book = self.put("book", &bookfile::bytes(&table))?;
+        let book = self.put_book(&table, place)?;
         let sound = table.book().ok_or("a book was made that isn't sound")?;
         let to = self.path("to");
         let _ = fs::remove_file(&to);
@@ -189,62 +245,13 @@ impl Night<'_> {
         self.shown(&after, &to, &[])
     }
 
-    /// "The closing line is `1 0 0`, standard input isn't read": it is held
-    /// open, so that a program that waits for it is found out.
-    fn not_sound(&mut self, place: u64) -> Result<(), String> {
-        let faults = Fault::all(Rule::New);
-        let table = unsound(
-            faults[place as usize % faults.len()],
-            Rule::New,
-            &mut self.rng,
-        );
-        let book = self.put("book", &bookfile::bytes(&table))?;
-        let to = self.put("to", b"as it was")?;
-        let losses = self.put("losses", &vec![0; 8 * table.held()])?;
-        let closed = [print::UNSOUND, print::UNSOUND_CLOSE_OUT].concat();
-        for (name, program, words) in self.runs(&book, &to, &losses) {
-            let want = match name {
-                "closeouts" => &closed,
-                // It judges by the old rule.
-                "take_over" => continue,
-                _ => print::UNSOUND,
-            };
-            let got = ask_held(program, &words);
-            let what = format!("{name} from a book that isn't sound");
-            settle(&self.programs.folder, &self.made, &what, want, got)?;
-        }
-        self.met.unsound += 1;
-        self.to_untouched(&to)
-    }
-
-    /// The programs there are, each with its words.
-    fn runs<'p>(&self, book: &'p Path, to: &'p Path, losses: &'p Path) -> Vec<Run<'_, 'p>> {
-        let all = [
-            ("take_over", self.programs.take_over, vec![book, to]),
-            ("day", self.programs.day, vec![book, to]),
-            ("standings", self.programs.standings, vec![book]),
-            ("needs", self.programs.needs, vec![book]),
-            ("closeouts", self.programs.closeouts, vec![losses, book]),
-        ];
-        all.into_iter()
-            .filter_map(|(name, program, words)| Some((name, program?, words)))
-            .collect()
-    }
-
-    fn to_untouched(&self, to: &Path) -> Result<(), String> {
-        match fs::read(to) {
-            Ok(bytes) if bytes == b"as it was" => Ok(()),
-            _ => Err(self.told("a book was kept that should not have been")),
-        }
-    }
-
     /// The refusal alone, standard input unread, and TO: the book taken over,
     /// or as it was.
     fn take_over(&mut self, program: &str, place: u64) -> Result<(), String> {
         let faults = Fault::all(Rule::Old);
         let table = match place % 3 {
             0 => unsound(
-                faults[place as usize % faults.len()],
+                faults[place as usize / 3 * 13 % faults.len()],
                 Rule::Old,
                 &mut self.rng,
             ),
@@ -258,38 +265,13 @@ impl Night<'_> {
         settle(&self.programs.folder, &self.made, "take_over", want, got)?;
         self.met.over[usize::from(after.is_none())] += 1;
         match after {
-            None => self.to_untouched(&to),
+            None => self.untouched(&to),
             Some(after) if fs::read(&to).unwrap_or_default() == bookfile::bytes(&after) => Ok(()),
             Some(after) => {
                 let kept = fs::read(&to).unwrap_or_default();
                 Err(self.told(&book_difference(&kept, &after)))
             }
         }
-    }
-
-    /// Nothing on standard output, something on standard error.
-    fn no_book(&mut self, place: u64) -> Result<(), String> {
-        let (bytes, path) = (bookfile::bytes(&Table::fresh()), self.path("book"));
-        let _ = fs::remove_file(&path);
-        let bad = no_book_bytes(place, bytes, &mut self.rng);
-        let book = match (&bad, place % 2) {
-            (Some(bytes), _) => self.put("book", bytes)?,
-            (None, 0) => path,
-            (None, _) => self.programs.folder.clone(),
-        };
-        let to = self.put("to", b"as it was")?;
-        let losses = self.put("losses", &[0; 8])?;
-        for (name, program, words) in self.runs(&book, &to, &losses) {
-            let got = ask(program, &words, &self.made.bytes, Pace::Whole);
-            let silent = got.as_ref().map_or(false, |got| got.stderr.is_empty());
-            let what = format!("{name} from what is no book");
-            settle(&self.programs.folder, &self.made, &what, b"", got)?;
-            if silent {
-                return Err(self.told(&format!("{what} says nothing on standard error")));
-            }
-        }
-        self.met.none += 1;
-        self.to_untouched(&to)
     }
 }
 
@@ -298,24 +280,7 @@ fn handed_over(book: &Book) -> Book {
     Table::of(book).book().unwrap_or_else(|| book.clone())
 }
 
-/// None where there is to be no such file.
-fn no_book_bytes(place: u64, mut bytes: Vec<u8>, rng: &mut Rng) -> Option<Vec<u8>> {
-    let drawn = rng.below(256) as usize;
-    match place % 9 {
-        0 => return None,
-        1 => bytes.clear(),
-        2 => bytes.truncate(bookfile::LENGTH - 1),
-        3 => bytes.push(0),
-        4 => bytes[rng.below(3) as usize] ^= 1,
-        5 => bytes[3] = rng.pick(&[0, 2, 255]),
-        6 => bytes[bookfile::PLACES + drawn * bookfile::PLACE + 1] = 2,
-        7 => bytes[bookfile::PLACES + drawn * bookfile::PLACE + 84] = 255,
-        _ => bytes.truncate(rng.below(bookfile::LENGTH as u64) as usize),
-    }
-    Some(bytes)
-}
-
-fn book_difference(kept: &[u8], want: &Table) -> String {
+pub fn book_difference(kept: &[u8], want: &Table) -> String {
     let got = match bookfile::table(kept) {
         Some(got) => got,
         None => return "what was kept is no book".to_string(),
@@ -327,8 +292,8 @@ fn book_difference(kept: &[u8], want: &Table) -> String {
             want.places[place], got.places[place]
         ),
         None => format!(
-            "another book was kept: second has {} accounts and serial {}, other {} and {}",
-            want.count, want.serial, got.count, got.serial
+            "another book was kept: second has {} accounts, serial {} and next number {}, other {}, {} and {}",
+            want.count, want.serial, want.next, got.count, got.serial, got.next
         ),
     }
 }

@@ -46,7 +46,7 @@ fn one_input(
     if is_bad == (asked.ending == 0) {
         return Err(format!("calls, seed {seed}: made with another ending"));
     }
-    met.count_ending(asked.ending);
+    met.count_input(&asked);
     let got = ask(program, &[], &asked.bytes, pace);
     let got = got.map_err(|error| format!("calls: cannot run: {error}"))?;
     if got.stdout == want && got.status.code().is_some() {

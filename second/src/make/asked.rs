@@ -3,17 +3,24 @@
 //! seeds that follow one another go on where the last one stopped.
 
 mod aims;
+mod archives;
 mod books;
 mod breaches;
 pub mod desk;
 mod endings;
 pub mod figures;
+mod given;
 mod lists;
+pub mod numbers;
 mod overs;
 mod pieces;
 mod records;
 
+use crate::bookfile;
 use crate::calls::Call;
+use crate::dayfile::{OPEN_CLIENT, OPEN_CP, OPEN_TM, RETIRE};
+use crate::make::maker::Maker;
+use crate::make::mixed::any_step;
 use crate::rng::Rng;
 use crate::rule::Rule;
 use crate::table::{Fault, Table};
@@ -28,6 +35,8 @@ pub const CALLS: usize = 80;
 pub struct Asked {
     pub bytes: Vec<u8>,
     pub ending: usize,
+    /// How many of its books are of version 1.
+    pub first_versions: u64,
 }
 
 pub fn make(seed: u64) -> Asked {
@@ -35,13 +44,25 @@ pub fn make(seed: u64) -> Asked {
     let aims = Aim::round();
     let start = (seed as usize).wrapping_mul(CALLS);
     let mut bytes = Vec::new();
+    let mut first_versions = 0;
     for place in 0..CALLS {
         let aim = aims[start.wrapping_add(place) % aims.len()];
-        aim.call(&mut rng).lay(&mut bytes);
+        let call = aim.call(&mut rng);
+        let first = call.book().and_then(bookfile::first_bytes);
+        let first = first.filter(|_| rng.one_in(4));
+        first_versions += u64::from(first.is_some());
+        match first {
+            Some(book) => call.lay_over(&mut bytes, &book),
+            None => call.lay(&mut bytes),
+        }
     }
     let ending = seed as usize % ENDINGS.len();
     endings::put(ending, &mut bytes, &mut rng);
-    Asked { bytes, ending }
+    Asked {
+        bytes,
+        ending,
+        first_versions,
+    }
 }
 
 /// How many inputs it takes to go over all aims and all endings.
@@ -65,10 +86,39 @@ pub fn to_take_over(place: u64, rng: &mut Rng) -> Table {
     overs::book(overs::OVERS[place as usize % overs::OVERS.len()], rng)
 }
 
+/// A sound book that is to be archived, a kind of it for each place.
+pub fn to_archive(place: u64, rng: &mut Rng) -> Table {
+    let retired = archives::RETIRED[place as usize % archives::RETIRED.len()];
+    let gaps = numbers::GAPS[place as usize % numbers::GAPS.len()];
+    archives::with_retired(retired, gaps, rng)
+}
+
 /// A piece for this book.
 pub fn with_steps(book: &Table, rng: &mut Rng) -> Vec<u8> {
     let many = rng.below(60);
     pieces::steps(book, many, rng)
+}
+
+/// A piece for this book that leaves retired accounts, where it can.
+pub fn with_retirings(book: &Table, rng: &mut Rng) -> Vec<u8> {
+    let book = match book.book() {
+        Some(book) => book,
+        None => return Vec::new(),
+    };
+    let mut maker = Maker::over(book, rng.next());
+    for _ in 0..rng.below(40) {
+        any_step(&mut maker);
+    }
+    for code in [OPEN_TM, OPEN_CP] {
+        let before = maker.book.count;
+        let opened = maker.opened(code, 0);
+        if maker.book.count > before {
+            maker.say(OPEN_CLIENT, 0, opened, &[]);
+            maker.say(RETIRE, 0, opened + 1, &[]);
+            maker.say(RETIRE, 0, opened, &[]);
+        }
+    }
+    maker.bytes
 }
 
 /// Any call on any book.

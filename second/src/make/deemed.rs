@@ -25,7 +25,7 @@ pub fn spent(maker: &mut Maker) {
     shared(maker);
     for account in 0..maker.book.count {
         let tm = maker.book.answers_for(account);
-        if tm != 0 && maker.book.is_live(account as u16) {
+        if tm != 0 && maker.book.is_live(account) {
             call_for(maker, account, tm);
         }
     }

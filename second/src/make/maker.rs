@@ -1,5 +1,6 @@
 //! A seeded maker of a day. It keeps a model book beside the bytes, so that it
-//! can steer at the edges of the rules.
+//! can steer at the edges of the rules. Steps name accounts by row; a record is
+//! laid down with the row's number.
 
 use crate::book::{Book, Sort};
 use crate::carry::{carry, Outcome};
@@ -19,8 +20,33 @@ pub struct Maker {
     pub scale: u64,
     /// How many accounts the day works up to.
     pub wanted: usize,
-    /// Work goes to accounts from this number on.
+    /// Work goes to accounts from this row on.
     pub lowest: u16,
+    naming: Naming,
+}
+
+/// What the account of a step is.
+#[derive(Clone, Copy)]
+pub enum Naming {
+    /// A row. As far past the rows held it is as far past the numbers given; in
+    /// a book without an archive that is the same number.
+    Row,
+    /// A number as it is, whichever row has it.
+    Number,
+}
+
+impl Naming {
+    fn number(self, book: &Book, account: u16) -> u16 {
+        let row = usize::from(account);
+        match self {
+            Naming::Number => account,
+            Naming::Row if row < book.count => book.number(row),
+            Naming::Row => {
+                let past = book.numbers.next as usize + row - book.count;
+                u16::try_from(past).unwrap_or(u16::MAX)
+            }
+        }
+    }
 }
 
 impl Maker {
@@ -37,6 +63,7 @@ impl Maker {
             scale,
             wanted: 8,
             lowest: 0,
+            naming: Naming::Row,
         }
     }
 
@@ -56,7 +83,8 @@ impl Maker {
         if self.full() {
             return false;
         }
-        lay(&mut self.bytes, code, mark, serial, account, amounts);
+        let number = self.naming.number(&self.book, account);
+        lay(&mut self.bytes, code, mark, serial, number, amounts);
         self.catch_up()
     }
 
@@ -125,7 +153,14 @@ impl Maker {
         self.book.deemed(0)
     }
 
-    /// Opens an account and gives its number.
+    /// Steps that name accounts by number.
+    pub fn by_number(&mut self, steps: impl FnOnce(&mut Maker)) {
+        self.naming = Naming::Number;
+        steps(self);
+        self.naming = Naming::Row;
+    }
+
+    /// Opens an account and gives its row.
     pub fn opened(&mut self, code: u8, named: u16) -> u16 {
         self.say(code, 0, named, &[]);
         self.book.count as u16 - 1
@@ -141,7 +176,7 @@ impl Maker {
         let span = self.book.count as u64 - u64::from(self.lowest).min(self.book.count as u64 - 1);
         for _ in 0..8 {
             let account = (self.book.count as u64 - 1 - self.rng.below(span)) as u16;
-            if self.book.is_live(account) {
+            if self.book.is_live(usize::from(account)) {
                 return account;
             }
         }
@@ -159,6 +194,24 @@ impl Maker {
         } else {
             Some(self.rng.pick(&fitting))
         }
+    }
+
+    /// A number that was given and that no row held has; None in a book without
+    /// an archive.
+    pub fn archived(&mut self) -> Option<u16> {
+        let held = self.book.numbers.of_rows[..self.book.count].iter();
+        let held = held.map(|&number| u32::from(number));
+        let ends: Vec<u32> = held.chain([self.book.numbers.next]).collect();
+        let gaps: Vec<(u32, u32)> = ends
+            .windows(2)
+            .filter(|two| two[0] + 1 < two[1])
+            .map(|two| (two[0] + 1, two[1] - 1))
+            .collect();
+        let &first = gaps.first()?;
+        let drawn = self.rng.pick(&gaps);
+        let (least, most) = self.rng.pick(&[first, drawn]);
+        let inside = self.rng.between(u64::from(least), u64::from(most)) as u32;
+        Some(self.rng.pick(&[least, most, inside]) as u16)
     }
 
     /// Mostly some hundreds of records, now and then a few thousand.

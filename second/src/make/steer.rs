@@ -365,8 +365,15 @@ pub fn wind_down_account(maker: &mut Maker, account: u16) {
     maker.say(RETIRE, 0, account, &[]);
 }
 
-/// Refusal 7: numbers never given, and those of retired accounts.
+/// Refusal 7: numbers never given, those of retired accounts and, where there is
+/// an archive, those in it.
 pub fn stranger(maker: &mut Maker) {
+    match maker.archived() {
+        Some(number) if !maker.rng.one_in(3) => {
+            return maker.by_number(|maker| any_good_record(maker, number));
+        }
+        _ => {}
+    }
     let count = maker.book.count as u16;
     let rows = &maker.book.rows[..maker.book.count];
     let retired = rows.iter().position(|row| !row.live);

@@ -2,22 +2,38 @@
 //! and one call in short.
 
 use super::*;
+use crate::bookfile;
 use crate::calls::Calls;
 use crate::desk::lines::side_word;
 use crate::desk::{Position, PRODUCTS};
 use crate::text::{hex, read_from};
 
+/// A book and the version that it stands in.
+type Standing = (Table, Version);
+
+fn fresh() -> Standing {
+    (Table::fresh(), Version::One)
+}
+
 /// A story of the whole input; what is no call stands at its end as bytes.
 pub fn read(bytes: &[u8]) -> String {
     let mut out = String::new();
-    let mut book = Table::fresh();
+    let mut before = fresh();
     let mut calls = Calls::of(bytes);
-    for call in calls.by_ref() {
-        if let Some(now) = call.book() {
-            out += &changes(&book, now);
-            book = now.clone();
+    loop {
+        let left = calls.left();
+        let call = match calls.next() {
+            Some(call) => call,
+            None => break,
+        };
+        if let Some(book) = call.book() {
+            // A book is the first argument of every call that has one.
+            let version = bookfile::version(&left[1..]).unwrap_or(Version::Two);
+            let now = (book.clone(), version);
+            out += &changes(&before, &now);
+            before = now;
         }
-        out += &call_line(&call, book.serial);
+        out += &call_line(&call, before.0.serial);
         out.push('\n');
     }
     if !calls.left().is_empty() {
@@ -27,9 +43,8 @@ pub fn read(bytes: &[u8]) -> String {
 }
 
 /// From the book before or from a fresh one, whichever takes fewer lines.
-fn changes(before: &Table, now: &Table) -> String {
-    let fresh = Table::fresh();
-    let (on, anew) = (changed_words(before, now), changed_words(&fresh, now));
+fn changes(before: &Standing, now: &Standing) -> String {
+    let (on, anew) = (changed_words(before, now), changed_words(&fresh(), now));
     if on.len() <= anew.len() {
         on.concat()
     } else {
@@ -37,17 +52,26 @@ fn changes(before: &Table, now: &Table) -> String {
     }
 }
 
-fn changed_words(before: &Table, now: &Table) -> Vec<String> {
+/// Numbers are said in version 2 alone.
+fn changed_words((before, was): &Standing, (now, version): &Standing) -> Vec<String> {
     let mut lines = Vec::new();
+    if was != version {
+        lines.push(format!("version {}\n", version.byte()));
+    }
     if before.count != now.count {
         lines.push(format!("count {}\n", now.count));
     }
     if before.serial != now.serial {
         lines.push(format!("serial {}\n", now.serial));
     }
+    if before.next != now.next && *version == Version::Two {
+        lines.push(format!("next {}\n", now.next));
+    }
+    let said = |word: &usize| *word != NUMBER || *version == Version::Two;
     for (number, place) in now.places.iter().enumerate() {
         let was = &before.places[number];
-        for word in (0..WORDS.len()).filter(|&word| was[word] != place[word]) {
+        let words = (0..WORDS.len()).filter(said);
+        for word in words.filter(|&word| was[word] != place[word]) {
             lines.push(format!("set {number} {} {}\n", WORDS[word], place[word]));
         }
     }
@@ -73,7 +97,7 @@ fn call_line(call: &Call, serial: u16) -> String {
             let losses: String = losses.iter().map(|loss| format!(" {loss}")).collect();
             format!("{name} room {room} losses{losses}")
         }
-        Call::Needs(_, room) => format!("{name} room {room}"),
+        Call::Needs(_, room) | Call::Archive(_, room) => format!("{name} room {room}"),
         Call::Margin(serial, account, initial, positions) => {
             format!(
                 "{name} {serial} {account} {initial} {}",
@@ -152,8 +176,8 @@ pub fn short(call: &Call) -> String {
         faults.truncate(6);
         let on = book.places.iter().filter(|place| place[MODE] != 0).count();
         line += &format!(
-            "\n  its book: {} accounts, next serial {}, {on} modes on, faults {faults:?}",
-            book.count, book.serial
+            "\n  its book: {} accounts, next serial {}, next number {}, {on} modes on, faults {faults:?}",
+            book.count, book.serial, book.next
         );
     }
     line

@@ -1,9 +1,10 @@
-//! Document 01, "A sound book", with K2, K3, K7 and K8, clause by clause and of
+//! Document 01, "A sound book", with K2, K3, K7, K8 and K11, clause by clause and of
 //! any words at all: sums are of 128 bits, and no clause trusts another. Kept
 //! needs go by a rule, and the old one alone asks for cover.
 
 use super::*;
-use crate::book::CEILING;
+use crate::book::{CEILING, MOST_NUMBERS};
+use std::cmp::Ordering;
 
 /// One way in which a book isn't sound. Each is a clause by itself, told apart
 /// by word and sort so that a comparison can say which ones it has met.
@@ -46,6 +47,19 @@ pub enum Fault {
     /// "Each kept need equals the need worked out afresh", and is 0 for
     /// clients and CPs: sort, live, and whether it is too high.
     KeptNeed(u64, u64, bool),
+    /// "Number 0 is the CM", so row 0 has it.
+    TopHasNumber,
+    /// "Rows in a sound book rise by number": one has that of the row before
+    /// it, or a lower one.
+    NumberTwice,
+    NumberFalls,
+    /// ".. all below the next to be given": one is the next, or above it.
+    NumberIsNext,
+    NumberPastNext,
+    /// Not even the CM's 0 is below it.
+    NextIsNothing,
+    /// "Go up to 65,535": past 65,536, which says that every one is given.
+    NextPastAll,
 }
 
 /// The words of a row that are amounts.
@@ -58,6 +72,7 @@ impl Fault {
         use Fault::*;
         let mut all = vec![NoAccounts, TooManyAccounts];
         all.extend([TopIsNoCm, TopIsRetired, TopHasTm]);
+        // A number beyond the rows held too.
         all.extend((0..WORDS.len()).map(Beyond));
         all.extend([UnknownSort, SecondCm, HasTm(TRADING), HasTm(CP)]);
         all.extend([OwnTm, HigherTm, TmBeyond, TmPastTable]);
@@ -79,6 +94,8 @@ impl Fault {
         for sort in [CLIENT, CP] {
             all.extend([KeptNeed(sort, 0, true), KeptNeed(sort, 1, true)]);
         }
+        all.extend([TopHasNumber, NumberTwice, NumberFalls]);
+        all.extend([NumberIsNext, NumberPastNext, NextIsNothing, NextPastAll]);
         all
     }
 }
@@ -126,7 +143,35 @@ impl Table {
             self.row_faults(account, &mut faults);
         }
         self.need_faults(held, rule, &mut faults);
+        self.number_faults(held, &mut faults);
         faults
+    }
+
+    /// Numbers beyond the rows held are among the words that must be zero.
+    fn number_faults(&self, held: usize, faults: &mut Vec<Fault>) {
+        let numbers: Vec<u64> = self.places[..held].iter().map(|row| row[NUMBER]).collect();
+        let next = u64::from(self.next);
+        if numbers[0] != 0 {
+            faults.push(Fault::TopHasNumber);
+        }
+        if next > u64::from(MOST_NUMBERS) {
+            faults.push(Fault::NextPastAll);
+        }
+        for two in numbers.windows(2) {
+            match two[1].cmp(&two[0]) {
+                Ordering::Less => faults.push(Fault::NumberFalls),
+                Ordering::Equal => faults.push(Fault::NumberTwice),
+                Ordering::Greater => {}
+            }
+        }
+        for &number in &numbers {
+            match number.cmp(&next) {
+                Ordering::Less => {}
+                Ordering::Equal if next == 0 => faults.push(Fault::NextIsNothing),
+                Ordering::Equal => faults.push(Fault::NumberIsNext),
+                Ordering::Greater => faults.push(Fault::NumberPastNext),
+            }
+        }
     }
 
     fn top_faults(&self, faults: &mut Vec<Fault>) {

@@ -11,8 +11,8 @@ use crate::make::asked::{any_sound, figures, make, unsound, whole_round, with_st
 use crate::margins::Margins;
 use crate::moves::Moves;
 use crate::rng::Rng;
-use crate::story;
 use crate::table::{Fault, Table};
+use crate::{bookfile, story};
 
 #[test]
 fn made_books_are_sound() {
@@ -52,15 +52,18 @@ fn a_whole_round_meets_everything() {
             let text = String::from_utf8(out).unwrap();
             let ending = text.lines().last().unwrap();
             assert_eq!(ending.starts_with("bad "), asked.ending != 0, "seed {seed}");
-            met.count_ending(asked.ending);
+            met.count_input(&asked);
         }
         assert_eq!(met.missed(), Vec::<String>::new());
     }
-    let outcomes = 2 + 3 + 15 + 17 + 4 + 6 + 5 + 4 + 3 + 6 + 2 + 7 + 2;
+    let outcomes = 2 + 3 + 15 + 17 + 4 + 6 + 5 + 4 + 3 + 6 + 2 + 7 + 2 + 3;
     let edges = 5 + 5 + 6 + 5 + 5 + 5 + 8 + 3 + 3 + 3 + 8 + 12;
     let taken_over = 2 + 3 + 6;
+    let numbers = 9 + 7 + 4 + 7 + 2 + 6 + 13 + 3 + 4;
     let faults = Fault::all(Rule::Old).len() + Fault::all(Rule::New).len();
-    let all = outcomes + edges + taken_over + faults + ENDINGS.len();
+    let all = outcomes + edges + taken_over + numbers + faults + ENDINGS.len();
+    // And a book of version 1.
+    let all = all + 1;
     let all = all + Case::all().len() + figures::Case::all().len();
     assert_eq!(Met::default().missed().len(), all);
 }
@@ -71,8 +74,17 @@ fn calls_come_back() {
         let bytes = make(seed).bytes;
         let mut again = Vec::new();
         let mut calls = Calls::of(&bytes);
-        for call in calls.by_ref() {
-            call.lay(&mut again);
+        loop {
+            let left = calls.left();
+            let call = match calls.next() {
+                Some(call) => call,
+                None => break,
+            };
+            // A book comes first, and tells its version.
+            let version = call.book().and_then(|_| bookfile::version(&left[1..]));
+            let book = call.book().zip(version);
+            let book = book.map(|(book, version)| bookfile::bytes_as(book, version));
+            call.lay_over(&mut again, &book.unwrap_or_default());
         }
         again.extend_from_slice(calls.left());
         assert!(again == bytes, "seed {seed}");
@@ -195,7 +207,7 @@ fn a_call_in_short() {
     let call = Calls::of(&bytes).next().unwrap();
     assert_eq!(
         story::short(&call),
-        "carry_out margin 1 5\n  its book: 2 accounts, next serial 1, 0 modes on, \
+        "carry_out margin 1 5\n  its book: 2 accounts, next serial 1, next number 2, 0 modes on, \
          faults [KeptNeed(1, 1, true)]"
     );
 }

@@ -1,8 +1,9 @@
 //! A book's written form, and days that start from one and leave one.
 
 use super::*;
-use crate::table::{Table, LIVE, MARGIN, MODE, NEED, PLEDGED};
-use crate::{bookfile, programs};
+use crate::bookfile::{self, Version};
+use crate::programs;
+use crate::table::{Table, LIVE, MARGIN, MODE, NEED, NUMBER, PLEDGED, SORT};
 use std::ffi::OsString;
 use std::fs;
 use std::path::PathBuf;
@@ -40,11 +41,48 @@ fn fresh_bytes() -> Vec<u8> {
 
 #[test]
 fn a_fresh_book() {
-    let mut want = vec![0; 23_816];
-    want[..6].copy_from_slice(&[0x4C, 0x56, 0x42, 1, 0, 1]);
-    want[9] = 1;
-    assert_eq!(fresh_bytes(), want);
-    assert_eq!(bookfile::table(&want), Some(Table::fresh()));
+    let mut want = vec![0; 24_332];
+    want[..6].copy_from_slice(&[0x4C, 0x56, 0x42, 2, 0, 1]);
+    want[11] = 1;
+    want[15] = 1;
+    assert!(fresh_bytes() == want);
+    assert!(bookfile::table(&want) == Some(Table::fresh()));
+}
+
+/// "A version 1 book is still read wherever a book is."
+#[test]
+fn a_fresh_book_of_version_1() {
+    let mut first = vec![0; 23_816];
+    first[..6].copy_from_slice(&[0x4C, 0x56, 0x42, 1, 0, 1]);
+    first[9] = 1;
+    assert!(bookfile::table(&first) == Some(Table::fresh()));
+    assert!(bookfile::bytes_as(&Table::fresh(), Version::One) == first);
+    assert!(bookfile::table(&first[..23_815]).is_none());
+    assert!(bookfile::table(&[&first[..], &[0]].concat()).is_none());
+    for (at, value) in [(0, 0x4D), (3, 0), (3, 2), (9, 2), (92, 2)] {
+        let mut bad = first.clone();
+        bad[at] = value;
+        assert!(bookfile::table(&bad).is_none(), "{at}");
+    }
+}
+
+/// "Numbers equal to places below the count and 0 from there on, next number
+/// the count", whatever the count.
+#[test]
+fn the_numbers_of_version_1() {
+    for count in [0, 1, 3, 255, 256, 257, 65_535] {
+        let table = Table {
+            count,
+            next: 77,
+            ..Table::fresh()
+        };
+        let read = bookfile::table(&bookfile::bytes_as(&table, Version::One)).unwrap();
+        assert_eq!((read.count, read.next), (count, u32::from(count)));
+        for place in 0..256 {
+            let want = if place < u64::from(count) { place } else { 0 };
+            assert_eq!(read.places[place as usize][NUMBER], want, "{count}");
+        }
+    }
 }
 
 #[test]
@@ -54,32 +92,43 @@ fn where_words_stand() {
 allocate 2 cash 1 deposits 2 guarantees 3 securities 4\npledge 2 5\nmargin 2 16",
     );
     let bytes = bookfile::bytes(&Table::of(&book));
-    assert_eq!(&bytes[4..8], [0, 3, 0, 7]);
-    let client = &bytes[8 + 2 * 93..][..93];
-    assert_eq!(&client[..4], [2, 1, 0, 1]);
-    let amounts: Vec<u64> = crate::dayfile::numbers(&client[4..84]).collect();
+    assert_eq!(&bytes[4..12], [0, 3, 0, 7, 0, 0, 0, 3]);
+    let client = &bytes[12 + 2 * 95..][..95];
+    assert_eq!(&client[..6], [0, 2, 2, 1, 0, 1]);
+    let amounts: Vec<u64> = crate::dayfile::numbers(&client[6..86]).collect();
     assert_eq!(amounts, [1, 2, 3, 4, 1, 2, 3, 4, 5, 16]);
-    assert_eq!(&client[84..], [0; 9]);
+    assert_eq!(&client[86..], [0; 9]);
     // Of 4 paise of securities 3 count; the TM has nothing and is deemed what is missing.
-    let tm = &bytes[8 + 93..][..93];
-    assert_eq!(&tm[84..], [1, 0, 0, 0, 0, 0, 0, 0, 2]);
-    assert_eq!(&bytes[8 + 92..][..1], [2]);
+    let tm = &bytes[12 + 95..][..95];
+    assert_eq!(&tm[86..], [1, 0, 0, 0, 0, 0, 0, 0, 2]);
+    assert_eq!(&bytes[12 + 94..][..1], [2]);
     assert!(Table::of(&book).book().unwrap().is_sound());
 }
 
 #[test]
 fn what_is_no_book() {
     let good = fresh_bytes();
-    assert!(bookfile::table(&good[..23_815]).is_none());
+    assert!(bookfile::table(&good[..24_331]).is_none());
     assert!(bookfile::table(&[&good[..], &[0]].concat()).is_none());
-    for (at, value) in [(0, 0x4D), (1, 0), (2, 0), (3, 0), (3, 2), (9, 2), (92, 2)] {
+    for (at, value) in [
+        (0, 0x4D),
+        (1, 0),
+        (2, 0),
+        (3, 0),
+        (3, 1),
+        (3, 3),
+        (15, 2),
+        (98, 2),
+    ] {
         let mut bad = good.clone();
         bad[at] = value;
         assert!(bookfile::table(&bad).is_none(), "{at}");
     }
     let mut odd = good.clone();
-    odd[8] = 200;
-    assert_eq!(bookfile::table(&odd).unwrap().places[0][0], 200);
+    odd[8..15].fill(200);
+    let odd = bookfile::table(&odd).unwrap();
+    assert_eq!(odd.next, 0xC8C8_C8C8);
+    assert_eq!((odd.places[0][NUMBER], odd.places[0][SORT]), (0xC8C8, 200));
 }
 
 #[test]

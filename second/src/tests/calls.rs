@@ -1,8 +1,9 @@
 //! Calls from outside, each by hand from the documents.
 
+use crate::bookfile::{self, Version};
 use crate::calls::{answered, Call, Calls};
-use crate::table::{Table, MODE, NEED};
-use crate::{bookfile, story};
+use crate::story;
+use crate::table::{Table, LIVE, MODE, NEED, SORT, TM};
 
 /// The lines that a story's calls are answered with.
 fn answers(said: &str) -> Vec<String> {
@@ -99,14 +100,14 @@ fn carry_out_in_order() {
     ] {
         let want = match refusal {
             3 => format!("{names} 3 0 same"),
-            _ => format!("{names} {refusal} 0 5 {}", serial + 1),
+            _ => format!("{names} {refusal} 0 5 {} 5", serial + 1),
         };
         assert_eq!(start(&format!("carry_out {record}")), want, "{record}");
     }
     let held = "set 1 mode 1\ncarry_out unpledge 1 500";
-    assert_eq!(start(held), "9 9 1 17 0 5 10");
+    assert_eq!(start(held), "9 9 1 17 0 5 10 5");
     let blocked = "do margin 2 301\ncarry_out unpledge 1 500";
-    assert_eq!(start(blocked), "10 9 1 12 0 5 11");
+    assert_eq!(start(blocked), "10 9 1 12 0 5 11 5");
 }
 
 #[test]
@@ -114,11 +115,11 @@ fn a_full_table() {
     let openings = "do cp\n".repeat(255);
     assert_eq!(
         answer(&format!("{openings}carry_out tm")),
-        "255 1 0 9 0 256 256"
+        "255 1 0 9 0 256 256 256"
     );
     assert_eq!(
         answer(&format!("{openings}carry_out client 1")),
-        "255 2 1 8 0 256 256"
+        "255 2 1 8 0 256 256 256"
     );
     assert_eq!(
         answer(&format!("{openings}count 257\ncarry_out tm")),
@@ -126,31 +127,31 @@ fn a_full_table() {
     );
 }
 
-/// Count, serial, then each place of which a word differs, with all its words.
+/// Count, serial, next number, then each place of which a word differs, with all its words.
 #[test]
 fn the_book_that_comes_back() {
-    let row = "1 1 0 0 0 0 0 0 0 0 0";
+    let row = "5 1 1 0 0 0 0 0 0 0 0 0";
     assert_eq!(
         start("carry_out tm"),
-        format!("9 1 0 0 5 6 10 5 {row} 0 0 0 0")
+        format!("9 1 0 0 5 6 10 6 5 {row} 0 0 0 0")
     );
     assert_eq!(
         start("carry_out receive 2 securities 7"),
-        "9 4 2 0 0 5 10 2 2 1 1 300 0 0 7 300 0 0 0 0 0 0 0"
+        "9 4 2 0 0 5 10 5 2 2 2 1 1 300 0 0 7 300 0 0 0 0 0 0 0"
     );
     // The client is deemed 600, the TM 100; the TM's use is 6300 of 4500.
     assert_eq!(
         start("carry_out margin 2 900"),
-        "9 10 2 0 0 5 10 \
-         0 0 1 0 0 0 0 0 0 0 0 0 1000 0 0 100 \
-         1 1 1 0 0 0 0 0 0 0 0 0 500 0 1 600 \
-         2 2 1 1 300 0 0 0 300 0 0 0 0 900 0 0"
+        "9 10 2 0 0 5 10 5 \
+         0 0 0 1 0 0 0 0 0 0 0 0 0 1000 0 0 100 \
+         1 1 1 1 0 0 0 0 0 0 0 0 0 500 0 1 600 \
+         2 2 2 1 1 300 0 0 0 300 0 0 0 0 900 0 0"
     );
     // Nothing but the serial moves, and a margin of 0 is carried out.
-    assert_eq!(start("carry_out margin 3 0"), "9 10 3 0 0 5 10");
+    assert_eq!(start("carry_out margin 3 0"), "9 10 3 0 0 5 10 5");
     assert_eq!(
         answer("serial 65535\ncarry_out margin 0 0"),
-        "65535 10 0 0 0 1 0"
+        "65535 10 0 0 0 1 0 1"
     );
 }
 
@@ -159,15 +160,15 @@ fn the_book_that_comes_back() {
 #[test]
 fn modes_that_were_handed_over() {
     let on = "set 0 mode 1\nset 1 mode 1\n";
-    let cm = "0 0 1 0 0 0 0 0 0 0 0 0 1000 0 0 0";
-    let tm = "1 1 1 0 0 0 0 0 0 0 0 0 500 0 0 0";
+    let cm = "0 0 0 1 0 0 0 0 0 0 0 0 0 1000 0 0 0";
+    let tm = "1 1 1 1 0 0 0 0 0 0 0 0 0 500 0 0 0";
     assert_eq!(
         start(&format!("{on}carry_out margin 3 0")),
-        format!("9 10 3 0 0 5 10 {cm} {tm}")
+        format!("9 10 3 0 0 5 10 5 {cm} {tm}")
     );
     assert_eq!(
         start(&format!("{on}carry_out margin 3 1001")),
-        "9 10 3 13 0 5 10"
+        "9 10 3 13 0 5 10 5"
     );
     assert_eq!(
         start(&format!("{on}carry_out_next 0")),
@@ -177,17 +178,18 @@ fn modes_that_were_handed_over() {
     let nine = "set 1 margin 450\nsettle\n";
     assert_eq!(
         start(&format!("{nine}carry_out cp")),
-        "9 3 0 0 5 6 10 1 1 1 0 0 0 0 0 0 0 0 0 500 450 1 450 5 3 1 0 0 0 0 0 0 0 0 0 0 0 0 0"
+        "9 3 0 0 5 6 10 6 1 1 1 1 0 0 0 0 0 0 0 0 0 500 450 1 450 \
+         5 5 3 1 0 0 0 0 0 0 0 0 0 0 0 0 0"
     );
 }
 
 #[test]
 fn carry_out_next() {
     let two = "tm ; serial 3 tm";
-    let opened = "5 1 1 0 0 0 0 0 0 0 0 0 0 0 0 0";
+    let opened = "5 5 1 1 0 0 0 0 0 0 0 0 0 0 0 0 0";
     assert_eq!(
         start(&format!("carry_out_next 0 {two}")),
-        format!("9 1 0 0 5 6 6 10 {opened}")
+        format!("9 1 0 0 5 6 6 10 6 {opened}")
     );
     assert_eq!(
         start(&format!("carry_out_next 6 {two}")),
@@ -208,7 +210,7 @@ fn carry_out_next() {
     );
     assert_eq!(
         start("carry_out_next 0 raw 0E FF 0009 0001 ; zeros 65"),
-        "9 14 1 4 0 70 5 10"
+        "9 14 1 4 0 70 5 10 5"
     );
     assert_eq!(
         start(&format!("count 0\ncarry_out_next 99 {two}")),
@@ -219,18 +221,18 @@ fn carry_out_next() {
 #[test]
 fn a_day() {
     let day = |words: &str| start(&format!("day {words}"));
-    let tm = "1 1 0 0 0 0 0 0 0 0 0 0 0 0 0";
+    let tm = "5 5 1 1 0 0 0 0 0 0 0 0 0 0 0 0 0";
     assert_eq!(day("0"), "end 0 0 0 same");
     assert_eq!(day("0 raw 01"), "long 0 0 0 same");
     assert_eq!(day("1 raw 01"), "cut 0 0 0 same");
     assert_eq!(day("1 serial 3 tm"), "end 6 1 0 same");
-    assert_eq!(day("1 tm"), format!("end 6 1 1 6 10 5 {tm}"));
-    assert_eq!(day("1 tm ; raw 01"), format!("long 6 1 1 6 10 5 {tm}"));
-    assert_eq!(day("2 tm ; raw 01"), format!("cut 6 1 1 6 10 5 {tm}"));
-    assert_eq!(day("2 tm ; retire 0"), format!("end 12 2 1 6 11 5 {tm}"));
+    assert_eq!(day("1 tm"), format!("end 6 1 1 6 10 6 {tm}"));
+    assert_eq!(day("1 tm ; raw 01"), format!("long 6 1 1 6 10 6 {tm}"));
+    assert_eq!(day("2 tm ; raw 01"), format!("cut 6 1 1 6 10 6 {tm}"));
+    assert_eq!(day("2 tm ; retire 0"), format!("end 12 2 1 6 11 6 {tm}"));
     assert_eq!(
         day("18446744073709551615 tm ; retire 5"),
-        "end 12 2 2 6 11 5 1 0 0 0 0 0 0 0 0 0 0 0 0 0 0"
+        "end 12 2 2 6 11 6 5 5 1 0 0 0 0 0 0 0 0 0 0 0 0 0 0"
     );
     assert_eq!(start("set 9 need 1\nday 3 tm"), "1 0 0 0 same");
     assert_eq!(start("set 9 need 1\nday 0"), "1 0 0 0 same");
@@ -339,9 +341,12 @@ fn what_is_no_call() {
     for bad in [
         "bytes 00",
         "bytes 0A",
+        "bytes 0F",
+        "bytes 11",
         "bytes 15",
         "bytes FF\nis_sound",
         "needs room 4097",
+        "archive room 4097",
         "write tm room 4097",
         "read_at 0 zeros 65537",
         "bytes 06 FFFFFFFF",
@@ -350,7 +355,7 @@ fn what_is_no_call() {
         "byte 0 0\nis_sound",
         "byte 1 0\nis_sound",
         "byte 2 67\nis_sound",
-        "byte 3 2\nis_sound",
+        "byte 3 3\nis_sound",
         "byte 3 0\nis_sound",
     ] {
         let lines = answers(&format!("{good}{bad}\nfresh\nis_sound"));
@@ -375,6 +380,8 @@ fn cut_short() {
         "write tm room 3",
         "close_out room 3 losses 4 5",
         "needs room 3",
+        "archive room 3",
+        "version 2\narchive room 3",
     ];
     for call in calls {
         let whole = story::write(call.as_bytes()).unwrap();
@@ -394,15 +401,16 @@ fn the_largest_words() {
     let mut book = bookfile::bytes(&Table::fresh());
     book[4..].fill(255);
     for place in 0..256 {
-        let at = bookfile::PLACES + place * bookfile::PLACE;
-        book[at] = (place % 4) as u8;
-        book[at + 1] = 1;
-        book[at + 2..at + 4].copy_from_slice(&[0, (place % 7) as u8]);
-        book[at + 84] = 1;
+        let at = |word: usize| Version::Two.at(place, word).unwrap();
+        book[at(SORT)] = (place % 4) as u8;
+        book[at(LIVE)] = 1;
+        book[at(TM)..][..2].copy_from_slice(&[0, (place % 7) as u8]);
+        book[at(MODE)] = 1;
     }
     let table = bookfile::table(&book).unwrap();
     assert_eq!(table.places[9][MODE], 1);
     assert_eq!(table.places[9][NEED], u64::MAX);
+    assert_eq!((table.places[9][0], table.next), (65_535, u32::MAX));
     for count in [0, 1, 256, 257, 65_535] {
         let table = Table {
             count,
@@ -415,11 +423,13 @@ fn the_largest_words() {
             Call::CarryOutNext(table.clone(), vec![1], u64::MAX),
             Call::CloseOut(table.clone(), vec![u64::MAX], 1),
             Call::Needs(table.clone(), 0),
+            Call::Archive(table.clone(), 2),
         ] {
             call.lay(&mut bytes);
         }
-        let want = "0\n1 0 0 0 0 0 0 0\n0 0 0 1 0 18446744073709551615 same\n1 0 1\n1\n";
+        let want =
+            "0\n1 0 0 0 0 0 0 0\n0 0 0 1 0 18446744073709551615 same\n1 0 1\n1\n1 0 1 2 same\n";
         assert_eq!(String::from_utf8(answered(&bytes)).unwrap(), want);
-        assert_eq!(Calls::of(&bytes).count(), 5);
+        assert_eq!(Calls::of(&bytes).count(), 6);
     }
 }

@@ -51,7 +51,13 @@ fn sound_ones() {
 
 #[test]
 fn numbers_and_sorts() {
-    let many = of(|table| table.count = 257);
+    let counted = |count: u16| {
+        of(|table| {
+            table.count = count;
+            table.number_by_places();
+        })
+    };
+    let many = counted(257);
     assert_eq!(many[0], TooManyAccounts);
     assert_eq!(many[1..], [SecondCm; 249]);
     assert_eq!(
@@ -61,8 +67,8 @@ fn numbers_and_sorts() {
         }),
         [NoAccounts]
     );
-    assert_eq!(of(|table| table.count = 8), [SecondCm]);
-    assert_eq!(of(|table| table.count = 6), [Beyond(SORT), Beyond(TM)]);
+    assert_eq!(counted(8), [SecondCm]);
+    assert_eq!(counted(6), [Beyond(SORT), Beyond(TM)]);
     for word in 0..WORDS.len() {
         assert_eq!(of(|table| table.places[7][word] = 1), [Beyond(word)]);
         assert_eq!(of(|table| table.places[255][word] = 1), [Beyond(word)]);
@@ -165,7 +171,9 @@ fn two_checks_agree() {
         for _ in 0..50 {
             let mut bent = book.clone();
             let place = rng.below(book.count as u64 + 1).min(255) as usize;
-            match rng.below(6) {
+            match rng.below(8) {
+                6 => bent.numbers.of_rows[place] = rng.near(place as u64) as u16,
+                7 => bent.numbers.next = rng.near(book.count as u64) as u32,
                 0 => bent.rows[place].pledged = rng.near(CEILING),
                 1 => bent.rows[place].margin = rng.below(CEILING),
                 2 => bent.needs[place] = rng.near(book.needs[place]),

@@ -147,7 +147,7 @@ do pledge 0 1000\ndo revise 2 100\nset 1 mode 1\nsettle old\ntake_over\nis_sound
     assert!(after == *tables[2]);
     assert_eq!(after.places[1][MODE], 1);
     assert_eq!(answers(said)[1..], ["0", "1 same", "1"]);
-    assert!(answers(said)[0].starts_with("0 3 6 0 "));
+    assert!(answers(said)[0].starts_with("0 3 6 3 0 "));
 }
 
 /// The old rule's calls are gone.

@@ -1,6 +1,7 @@
 //! The documents' own figures, each refusal with its neighbour just allowed,
 //! and made-up days and close-outs held against the rules by the letter.
 
+mod archive;
 mod asked;
 mod bookfiles;
 mod bytes;
@@ -17,6 +18,7 @@ mod holds;
 mod margins;
 mod modes;
 mod needs;
+mod numbers;
 mod refusals;
 mod shorts;
 mod soundness;

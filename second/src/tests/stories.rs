@@ -41,6 +41,22 @@ fresh
 close_out room 4 losses 0 18446744073709551615
 close_out room 0 losses
 needs room 4096
+version 2
+count 2
+next 4294967295
+set 0 number 1
+set 1 number 65535
+set 1 sort 3
+set 255 number 7
+archive room 0
+version 1
+is_sound
+version 2
+next 65536
+set 0 number 4
+take_over
+fresh
+archive room 4096
 bytes 00FF
 ";
     let bytes = story::write(said.as_bytes()).unwrap();
@@ -54,6 +70,40 @@ fn a_record_done_is_in_the_book() {
     let bytes = story::write(done.as_bytes()).unwrap();
     assert_eq!(bytes, story::write(set.as_bytes()).unwrap());
     assert_eq!(story::read(&bytes), set);
+}
+
+/// Version 1 until a line speaks of numbers, and again when fresh.
+#[test]
+fn versions() {
+    let version = |said: &str| {
+        let bytes = story::write(format!("{said}\nis_sound").as_bytes()).unwrap();
+        (bytes[4], bytes.len())
+    };
+    let (first, second) = ((1, 23_817), (2, 24_333));
+    for said in [
+        "fresh",
+        "do cp",
+        "count 2\nserial 4",
+        "version 2\nversion 1",
+    ] {
+        assert_eq!(version(said), first, "{said}");
+    }
+    assert_eq!(version("next 7\nfresh"), first);
+    for said in [
+        "version 2",
+        "next 1",
+        "set 9 number 0",
+        "do archive",
+        "next 7\ndo tm",
+    ] {
+        assert_eq!(version(said), second, "{said}");
+    }
+    let archived = "do cp\ndo tm\ndo client 2\ndo retire 1\ndo archive\nis_sound";
+    let set = "version 2\ncount 3\nserial 4\nnext 4\nset 1 number 2\nset 1 sort 1\nset 1 live 1
+set 2 number 3\nset 2 sort 2\nset 2 live 1\nset 2 tm 1\nis_sound\n";
+    let bytes = story::write(archived.as_bytes()).unwrap();
+    assert_eq!(story::read(&bytes), set);
+    assert!(story::write(set.as_bytes()).unwrap() == bytes);
 }
 
 #[test]
@@ -83,8 +133,11 @@ fn errors_name_the_line() {
         "a book has places 0 to 255\nset 256 margin 1",
         "`256` is too large\nset 0 sort 256",
         "`65536` is too large\nserial 65536",
-        "a book has 23816 bytes\nbyte 23816 1",
+        "the book has 23816 bytes\nbyte 23816 1",
         "`retire 0` is refused with 8\ndo retire 0",
+        "a book is of version 1 or 2\nversion 3",
+        "`4294967296` is too large\nnext 4294967296",
+        "`65536` is too large\nset 0 number 65536",
         "`x` is no account\nstanding x",
         "values need ten numbers\ncarry_out values 1 2 3",
         "one whole record is expected\ncarry_out raw 01",
@@ -100,5 +153,7 @@ fn errors_name_the_line() {
     }
     assert_eq!(error("count 0\ndo tm"), "line 2: the book isn't sound");
     assert_eq!(error("byte 0 0\ndo tm"), "line 2: the book is none");
+    assert_eq!(error("byte 0 0\nnext 1"), "line 2: the book is none");
+    assert_eq!(error("next 0\ndo archive"), "line 2: the book isn't sound");
     assert_eq!(story::write(b"\xFF").unwrap_err(), "line 1: not plain text");
 }

@@ -193,8 +193,8 @@ fn loss_edges(book: &Table, losses: &[u64]) -> Vec<&'static str> {
 
 /// 12 in the form of K7: what is left against what was blocked.
 fn paisa_edge(book: &Table, record: &Values, word: &str) -> Option<&'static str> {
-    let account = usize::from(record.account);
-    let book = book.book().filter(|book| book.is_live(record.account))?;
+    let book = book.book()?;
+    let account = book.live_place(record.account)?;
     let is_paisa = record.code == RELEASE && record.amounts == [0, 0, 0, 1, 0, 0];
     let mut left = book.rows[account];
     left.allocated[3] = left.allocated[3].checked_sub(1).filter(|_| is_paisa)?;
@@ -294,7 +294,7 @@ fn book_edges(book: &Table) -> Vec<&'static str> {
     chosen(&BOOKS, &is)
 }
 
-fn chosen(names: &[&'static str], is: &[bool]) -> Vec<&'static str> {
+pub fn chosen(names: &[&'static str], is: &[bool]) -> Vec<&'static str> {
     let named = names.iter().zip(is);
     named.filter(|(_, &is)| is).map(|(&name, _)| name).collect()
 }

@@ -1,5 +1,7 @@
 //! What made-up calls aim at.
 
+mod numbers;
+
 use super::{books, breaches, desk, figures, lists, overs, pieces, records};
 use crate::calls::Call;
 use crate::dayfile::*;
@@ -56,6 +58,8 @@ pub enum Aim {
     /// The currency desk's.
     Desk(desk::Case),
     Figures(figures::Case),
+    /// K11.
+    Numbers(numbers::Aim),
 }
 
 /// The refusals of a record that is handed over as values, and 0.
@@ -84,6 +88,7 @@ impl Aim {
         aims.extend(Fault::all(Rule::Old).into_iter().map(Aim::FaultOver));
         aims.extend(Aim::without_book());
         aims.extend(Aim::with_book());
+        aims.extend(numbers::Aim::round().into_iter().map(Aim::Numbers));
         aims.extend(desk::Case::all().into_iter().map(Aim::Desk));
         aims.extend(figures::Case::all().into_iter().map(Aim::Figures));
         aims
@@ -171,6 +176,7 @@ impl Aim {
             Aim::Desk(case) => case.call(rng),
             Aim::Figures(case) => case.call(rng),
             Aim::FaultOver(fault) => Call::TakeOver(breaches::with(fault, Rule::Old, rng)),
+            Aim::Numbers(aim) => aim.call(rng),
         }
     }
 }
@@ -195,10 +201,14 @@ fn any_record(book: Table, rng: &mut Rng) -> Call {
 /// By one of the other calls that take a book, with arguments that would do
 /// for a sound one, or wouldn't.
 fn asked_elsewhere(book: Table, rng: &mut Rng) -> Call {
-    match rng.below(6) {
+    match rng.below(7) {
         0 => {
             let account = rng.near(u64::from(book.count)) as u16;
             Call::Standing(book, account)
+        }
+        6 => {
+            let room = rng.pick(&[0, 2, 3 * book.held()]);
+            Call::Archive(book, room)
         }
         1 => any_record(book, rng),
         2 => {

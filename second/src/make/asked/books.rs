@@ -1,6 +1,7 @@
 //! Books to hand over: grown by a made-up day, or put together word by word.
 
-use crate::book::{CEILING, KINDS, MOST_ACCOUNTS};
+use super::numbers::{renumber, renumber_anyhow, Gaps};
+use crate::book::{CEILING, KINDS, MOST_ACCOUNTS, MOST_NUMBERS};
 use crate::day;
 use crate::make::{make, Kind, ROUND};
 use crate::rng::Rng;
@@ -25,6 +26,7 @@ pub fn sound_by(rule: Rule, rng: &mut Rng) -> Table {
         1..=5 => grown(rule, rng),
         _ => direct(rule, rng),
     };
+    renumber_anyhow(&mut table, rng);
     if rng.one_in(3) {
         table.serial = rng.pick(&[0, 1, 255, 256, 65_534, 65_535]);
     }
@@ -77,9 +79,9 @@ pub fn direct(rule: Rule, rng: &mut Rng) -> Table {
     fill(&mut table.places[0], scale, rng);
     while u64::from(table.count) < count {
         let row = open(&table, rng);
-        let number = append(&mut table, row);
-        if table.places[number][LIVE] == 1 {
-            fill(&mut table.places[number], scale, rng);
+        let account = append(&mut table, row);
+        if table.places[account][LIVE] == 1 {
+            fill(&mut table.places[account], scale, rng);
         }
     }
     cover(&mut table, rule, rng);
@@ -87,6 +89,7 @@ pub fn direct(rule: Rule, rng: &mut Rng) -> Table {
         fall_short(&mut table, rng);
     }
     turn_modes(&mut table, rng);
+    renumber_anyhow(&mut table, rng);
     table
 }
 
@@ -109,12 +112,18 @@ pub fn row(sort: u64, live: u64, tm: u64) -> Place {
     place
 }
 
-/// The next row; its number. There must be one left.
+/// The next row, with the next number; its place. There must be one left. Where
+/// every number is given, all are given anew.
 pub fn append(table: &mut Table, row: Place) -> usize {
-    let number = table.held();
-    table.places[number] = row;
+    if table.next >= MOST_NUMBERS {
+        table.number_by_places();
+    }
+    let place = table.held();
+    table.places[place] = row;
+    table.places[place][NUMBER] = u64::from(table.next);
     table.count += 1;
-    number
+    table.next += 1;
+    place
 }
 
 fn amount(scale: u64, rng: &mut Rng) -> u64 {
@@ -141,7 +150,7 @@ fn fill(place: &mut Place, scale: u64, rng: &mut Rng) {
     place[MARGIN] = amount(scale, rng);
 }
 
-/// A number within the book of an account of this sort, if there is one.
+/// The place of an account of this sort, if there is one.
 pub fn find(table: &Table, sort: u64, live: Option<u64>, rng: &mut Rng) -> Option<usize> {
     let fits = |place: &Place| place[SORT] == sort && live.map_or(true, |live| place[LIVE] == live);
     let found: Vec<usize> = (1..table.held())
@@ -246,7 +255,7 @@ fn within(word: usize, value: u64) -> u64 {
     match word {
         LIVE | MODE => value & 1,
         SORT => value & 0xFF,
-        TM => value & 0xFFFF,
+        NUMBER | TM => value & 0xFFFF,
         _ => value,
     }
 }
@@ -256,6 +265,7 @@ pub fn garbage(rng: &mut Rng) -> Table {
     let mut table = sound(rng);
     table.count = rng.pick(&[0, 1, 2, 9, 255, 256, 257, 512, 65_535]);
     table.serial = rng.next() as u16;
+    table.next = rng.pick(&[0, 1, 256, 65_535, 65_536, 65_537, u32::MAX]);
     let wild = rng.one_in(2);
     for place in &mut table.places {
         for (word, value) in place.iter_mut().enumerate() {
@@ -271,10 +281,12 @@ pub fn garbage(rng: &mut Rng) -> Table {
     table
 }
 
-/// One word of one place, the count or the serial.
+/// One word of one place, the count, the serial or the next number.
 pub fn one_word_anew(rule: Rule, rng: &mut Rng) -> Table {
     let mut table = sound_by(rule, rng);
-    match rng.below(30) {
+    match rng.below(32) {
+        2 => table.next = rng.near(u64::from(table.next)) as u32,
+        3 => renumber(&mut table, Gaps::Everywhere, rng),
         0 => table.count = rng.near(u64::from(table.count)) as u16,
         1 => table.serial = rng.next() as u16,
         _ => {

@@ -1,5 +1,7 @@
 //! Books that aren't sound in one way alone, or in several.
 
+mod numbers;
+
 use super::books::*;
 use crate::book::{CEILING, KINDS, MOST_ACCOUNTS};
 use crate::rng::Rng;
@@ -59,6 +61,13 @@ fn breach(table: &mut Table, fault: Fault, rule: Rule, rng: &mut Rng) -> Option<
             let account = an_account(table, sort, Some(live), rng)?;
             table.places[account][MODE] = 1;
         }
+        Fault::TopHasNumber
+        | Fault::NumberTwice
+        | Fault::NumberFalls
+        | Fault::NumberIsNext
+        | Fault::NumberPastNext
+        | Fault::NextIsNothing
+        | Fault::NextPastAll => numbers::breach(table, fault, rule, rng)?,
         Fault::KeptNeed(sort, live, is_high) => {
             return kept_need(table, [sort, live], is_high, rule, rng)
         }
@@ -127,7 +136,7 @@ fn beyond(table: &mut Table, word: usize, rng: &mut Rng) -> Option<()> {
     let most = match word {
         LIVE | MODE => 1,
         SORT => 255,
-        TM => 65_535,
+        NUMBER | TM => 65_535,
         _ => u64::MAX,
     };
     table.places[place][word] = rng.pick(&[1, most]);

@@ -3,16 +3,17 @@
 
 use super::desk::good;
 use super::{any_call, books, figures};
-use crate::bookfile::{self, LENGTH, PLACE, PLACES};
+use crate::bookfile::{self, Version};
 use crate::calls::{Call, LIST_MOST, PIECE_MOST};
 use crate::dayfile::Values;
 use crate::rng::Rng;
+use crate::table::{LIVE, MODE};
 
 type Ending = (&'static str, fn(&mut Vec<u8>, &mut Rng));
 
 /// An odd number, so that inputs fed in small pieces (one in four) have every
 /// ending.
-pub const ENDINGS: [Ending; 29] = [
+pub const ENDINGS: [Ending; 31] = [
     ("the end", |_, _| {}),
     ("an unknown call", unknown),
     ("call 1 cut", |out, rng| cut(1, out, rng)),
@@ -30,6 +31,8 @@ pub const ENDINGS: [Ending; 29] = [
     ("call 12 cut", |out, rng| cut(12, out, rng)),
     ("call 13 cut", |out, rng| cut(13, out, rng)),
     ("call 14 cut", |out, rng| cut(14, out, rng)),
+    ("call 16 cut", |out, rng| cut(16, out, rng)),
+    ("a book of version 1 cut", first_version_cut),
     ("a side above 3", no_side),
     ("figures neither two nor four", no_figures),
     ("neither two nor four a client", no_each),
@@ -42,14 +45,14 @@ pub const ENDINGS: [Ending; 29] = [
         no_book(at, &[0, 0x4D, 0xFF], out, rng)
     }),
     ("a wrong version", |out, rng| {
-        no_book(3, &[0, 2, 255], out, rng)
+        no_book(3, &[0, 3, 255], out, rng)
     }),
     ("live is neither", |out, rng| {
-        let at = at_place(1, rng);
+        let at = at_place(LIVE, rng);
         no_book(at, &[2, 3, 128, 255], out, rng)
     }),
     ("a mode is neither", |out, rng| {
-        let at = at_place(84, rng);
+        let at = at_place(MODE, rng);
         no_book(at, &[2, 3, 128, 255], out, rng)
     }),
     ("a length of four billion", longest),
@@ -103,6 +106,13 @@ fn cut(number: u8, out: &mut Vec<u8>, rng: &mut Rng) {
     out.extend_from_slice(&bytes[..kept as usize]);
 }
 
+/// A call whose book is of version 1 and lacks its last byte.
+fn first_version_cut(out: &mut Vec<u8>, rng: &mut Rng) {
+    let book = bookfile::bytes_as(&books::sound(rng), Version::One);
+    out.push(1);
+    out.extend_from_slice(&book[..book.len() - 1]);
+}
+
 /// With all its bytes behind it.
 fn long_piece(out: &mut Vec<u8>, rng: &mut Rng) {
     let piece = vec![1; PIECE_MOST + 1];
@@ -117,9 +127,10 @@ fn long_piece(out: &mut Vec<u8>, rng: &mut Rng) {
 
 fn long_room(out: &mut Vec<u8>, rng: &mut Rng) {
     let room = LIST_MOST + 1;
-    let call = match rng.below(3) {
+    let call = match rng.below(4) {
         0 => Call::Write(Values::default(), room),
         1 => Call::Needs(books::sound(rng), room),
+        2 => Call::Archive(books::sound(rng), room),
         _ => Call::CloseOut(books::sound(rng), Vec::new(), room),
     };
     call.lay(out);
@@ -172,10 +183,11 @@ fn longest(out: &mut Vec<u8>, rng: &mut Rng) {
     good_calls(out, rng);
 }
 
-/// A byte of a place's own, of any place.
-fn at_place(byte: usize, rng: &mut Rng) -> usize {
+/// The byte of a word, of any place.
+fn at_place(word: usize, rng: &mut Rng) -> usize {
     let drawn = rng.below(256) as usize;
-    PLACES + PLACE * rng.pick(&[0, 1, 255, drawn]) + byte
+    let place = rng.pick(&[0, 1, 255, drawn]);
+    Version::Two.at(place, word).unwrap_or(0)
 }
 
 fn no_book(at: usize, values: &[u8], out: &mut Vec<u8>, rng: &mut Rng) {
@@ -183,7 +195,10 @@ fn no_book(at: usize, values: &[u8], out: &mut Vec<u8>, rng: &mut Rng) {
     while call.book().is_none() {
         call = any_call(rng);
     }
-    let mut book = call.book().map(bookfile::bytes).unwrap_or(vec![0; LENGTH]);
+    let mut book = call
+        .book()
+        .map(bookfile::bytes)
+        .unwrap_or(vec![0; Version::Two.length()]);
     book[at] = rng.pick(values);
     call.lay_over(out, &book);
     good_calls(out, rng);

@@ -1,6 +1,7 @@
 //! Account numbers, lists of losses and rooms.
 
 use super::books::{self, append, find, row, settle};
+use super::given::{gone, with_archive};
 use crate::book::{CEILING, MOST_ACCOUNTS};
 use crate::calls::Call;
 use crate::make::losses;
@@ -15,10 +16,11 @@ pub enum Who {
     Live(u64),
     Retired,
     NeverGiven,
+    Archived,
     PastTable,
 }
 
-pub const WHO: [Who; 14] = [
+pub const WHO: [Who; 16] = [
     Who::Cm,
     Who::Cm,
     Who::Live(TRADING),
@@ -32,34 +34,45 @@ pub const WHO: [Who; 14] = [
     Who::Retired,
     Who::NeverGiven,
     Who::NeverGiven,
+    Who::Archived,
+    Who::Archived,
     Who::PastTable,
 ];
 
 pub fn standing(who: Who, rng: &mut Rng) -> Call {
-    let mut book = books::sound(rng);
-    let held = book.held();
+    let mut book = match who {
+        Who::Archived => with_archive(rng),
+        _ => books::sound(rng),
+    };
+    let next = u64::from(book.next);
+    let given = book.places[rng.below(u64::from(book.count)) as usize][NUMBER];
     let account = match who {
         Who::Cm => 0,
-        Who::Live(sort) => find(&book, sort, Some(1), rng).unwrap_or(0),
-        Who::Retired => retired(&mut book, rng),
-        Who::NeverGiven => rng.between(held as u64, MOST_ACCOUNTS as u64) as usize,
-        Who::PastTable => {
-            let given = rng.below(held as u64) as usize;
-            rng.pick(&[256, 256 + given, 65_280 + given, 65_535])
+        Who::Live(sort) => {
+            let place = find(&book, sort, Some(1), rng).unwrap_or(0);
+            book.places[place][NUMBER]
         }
+        Who::Retired => {
+            let place = retired(&mut book, rng);
+            book.places[place][NUMBER]
+        }
+        Who::NeverGiven => rng.between(next, next + 256),
+        Who::Archived => u64::from(gone(&book, rng)),
+        Who::PastTable => rng.pick(&[256, 256 + given, 65_280 + given, 65_535]),
     };
-    Call::Standing(book, account as u16)
+    Call::Standing(book, account.min(65_535) as u16)
 }
 
 /// The CM's or any other's under a shortfall.
 pub fn standing_short(rng: &mut Rng) -> Call {
     let book = books::short(rng);
     let drawn = rng.below(u64::from(book.count));
-    let account = rng.pick(&[0, drawn]);
+    let place = rng.pick(&[0, drawn]) as usize;
+    let account = book.places[place][NUMBER];
     Call::Standing(book, account as u16)
 }
 
-/// One that is there, or a new one. A full table may have none.
+/// The place of one that is there, or of a new one. A full table may have none.
 fn retired(book: &mut Table, rng: &mut Rng) -> usize {
     let sort = rng.pick(&[TRADING, CLIENT, CP]);
     let room = book.held() < MOST_ACCOUNTS;

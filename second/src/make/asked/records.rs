@@ -158,6 +158,10 @@ pub fn any_values(rng: &mut Rng) -> Values {
 /// In range for any code, of some account.
 fn good_values(rng: &mut Rng) -> Values {
     let code = rng.between(1, u64::from(LAST_CODE)) as u8;
+    good_of(code, rng)
+}
+
+pub fn good_of(code: u8, rng: &mut Rng) -> Values {
     let mark = match code {
         RECEIVE..=RELEASE => rng.between(1, 15) as u8,
         PLEDGE | UNPLEDGE | REVALUE => 1 << PLEDGED,
