@@ -75,12 +75,12 @@ fn put_one(
 }
 
 // All retired rows, in rising number.
-pub fn put_archived(
-    sort: &[u8; 256],
-    live: &[bool; 256],
-    tm: &[u16; 256],
-    w: &[u64; 2560],
-    numbers: &[u16; 256],
+pub fn put_archived<'a>(
+    sort: &'a [u8; 256],
+    live: &'a [bool; 256],
+    tm: &'a [u16; 256],
+    w: &'a [u64; 2560],
+    numbers: &'a [u16; 256],
     count: u16,
     room: &mut [u16],
 )
