@@ -97,9 +97,7 @@ pub fn go(
                 if most <= read {
                     break Closing::Long;
                 }
-                let gone = step(
-                    sort, live, tm, w, modes, needs, numbers, excess, was, at, r,
-                );
+                let gone = step(sort, live, tm, w, modes, needs, numbers, excess, was, at, r);
                 if numbered {
                     put_line_numbers(room, read, r, gone);
                 }

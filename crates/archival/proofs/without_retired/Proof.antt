@@ -1,9 +1,9 @@
 -- `archive::without_retired` meets its contract.
 use mathlib.Core.Path.{refl}
 use borrow.Author.Needs.{needs}
-use Rattle.archive.proofs.Closing.{sound-closable, closed-table}
-use Rattle.archive.proofs.without_retired.Statement.{statement}
-use Rattle.archive.proofs.without_retired.Tie as tie
+use Rattle.archival.proofs.Closing.{sound-closable, closed-table}
+use Rattle.archival.proofs.without_retired.Statement.{statement}
+use Rattle.archival.proofs.without_retired.Tie as tie
 
 -- THE PLACES, each named once.
 abbrev sized : tie.After-numbers2 → tie.After-size2

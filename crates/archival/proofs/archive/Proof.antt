@@ -1,4 +1,4 @@
--- `archive::archive` meets its contract: 1 where the test of a sound book fails, 23 where the room is too short, and otherwise the room is filled before the gaps are closed.
+-- `archival::archive` meets its contract: 1 where the test of a sound book fails, 23 where the room is too short, and otherwise the room is filled before the gaps are closed.
 use mathlib.Core.Bool.{true}
 use mathlib.Core.Path.{_≡_, sym, ap, _∙_}
 use native.Mathlib.Omega.{arith}
@@ -12,10 +12,10 @@ use Rattle.book.specs.Facts.{Sound}
 use Rattle.book.proofs.SoundTest.{sound→}
 use Rattle.archiving.specs.Archiving.{retiredOf}
 use Rattle.archiving.proofs.Entries.{archive-length, retired-in}
-use Rattle.archive.proofs.Closing.{tm-low}
-use Rattle.archive.proofs.Answers.{not-sound, too-short, all-moved}
-use Rattle.archive.proofs.archive.Statement.{statement}
-use Rattle.archive.proofs.archive.Tie as tie
+use Rattle.archival.proofs.Closing.{tm-low}
+use Rattle.archival.proofs.Answers.{not-sound, too-short, all-moved}
+use Rattle.archival.proofs.archive.Statement.{statement}
+use Rattle.archival.proofs.archive.Tie as tie
 
 -- THE PLACES, each named once.
 abbrev start : tie.After-is-sound → tie.Start

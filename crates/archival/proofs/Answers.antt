@@ -13,8 +13,8 @@ use Rattle.table.specs.Words.{turned}
 use Rattle.book.specs.Sound.{soundB}
 use Rattle.gaps.specs.Gaps.{archived}
 use Rattle.archiving.specs.Archiving.{retiredOf, archiveOf}
-use Rattle.archive.specs.declared.Archived.{Archived}
-use Rattle.archive.specs.Archive.{archiveRefusal, archivedOf, archiveRoom}
+use Rattle.archival.specs.declared.Archived.{Archived}
+use Rattle.archival.specs.Archive.{archiveRefusal, archivedOf, archiveRoom}
 
 module _ (b : Book) (room : List ℕ) where
   -- what the call gives, and the room after it

@@ -12,7 +12,7 @@ use Rattle.table.specs.Words.{turned}
 use Rattle.book.specs.Sound.{soundB}
 use Rattle.gaps.specs.Gaps.{archived}
 use Rattle.archiving.specs.Archiving.{retiredOf, archiveOf}
-use Rattle.archive.specs.declared.Archived.{Archived}
+use Rattle.archival.specs.declared.Archived.{Archived}
 
 -- "1: the book isn't sound"; "23, the archive is too short, after 1": "An archived row is three numbers"
 abbrev pub archiveRefusals : Book → List ℕ → List Line

@@ -2,8 +2,8 @@
 use mathlib.Core.Path.{sym, ap}
 use borrow.Author.Needs.{needs}
 use Rattle.table.proofs.Turning.{back-and-over}
-use Rattle.archive.proofs.refused.Statement.{statement}
-use Rattle.archive.proofs.refused.Tie as tie
+use Rattle.archival.proofs.refused.Statement.{statement}
+use Rattle.archival.proofs.refused.Tie as tie
 
 sizes-requires : tie.Need-sizes-requires
 sizes-requires c κs = search needs

@@ -3,7 +3,7 @@ ghost use mathlib.Core.Path.{_≡_};
 ghost use Rattle.table.specs.Words.{turned, turnedBack};
 ghost use Rattle.book.specs.Facts.{Sound};
 ghost use Rattle.gaps.specs.Gaps.{archived};
-ghost use Rattle.archive.specs.Archive.{archivedOf, archiveRoom};
+ghost use Rattle.archival.specs.Archive.{archivedOf, archiveRoom};
 use archiving::put_archived;
 use archiving::retired;
 use gaps::close_gaps;
