@@ -1,8 +1,9 @@
 -- Document 02, K11: "Numbers are kept with their rows". A record names its account by number; the table of refusals and what a record does go by the row
 -- that the number names.
 use Prim.Native.Nat.{ℕ}
+use Rattle.rows.specs.declared.Row.{Row}
 use Rattle.rows.specs.declared.Book.{Book}
-use Rattle.rows.specs.Rows.{placeOf}
+use Rattle.rows.specs.Rows.{rowAt, placeOf}
 use Rattle.dayfile.specs.declared.Record.{Record}
 use Rattle.rules.specs.declared.Change.{Change}
 use Rattle.rules.specs.Refusals.{refusalOf}
@@ -15,6 +16,10 @@ naming account r = record { code = r .code; named = r .named; serial = r .serial
 -- the record with its account told by the place of the row that its number names
 abbrev pub placed : Book → Record → Record
 placed b r = naming (placeOf b (r .account)) r
+
+-- the row that its number names
+abbrev pub rowNamed : Book → Record → Row
+rowNamed b r = rowAt b (placeOf b (r .account))
 
 -- the refusal of a record at a book, or 0
 abbrev pub verdictOf : Book → Record → ℕ
