@@ -36,7 +36,15 @@ module _ (keep : ℕ → Bool) where
   pub place-lt : (i j : ℕ) → keep i ≡ true → i < j → placeAfter keep i < placeAfter keep j
   place-lt i j e l = omega (arith, place-on i e, place-le (suc i) j (omega arith))
 
-  -- and none moves up
+  -- a lower place is a row's before it
+  pub place-order : (i j : ℕ) → placeAfter keep i < placeAfter keep j → i < j
+  place-order i j l = by (decLt i j)
+    where
+      by : Dec (i < j) → i < j
+      by (yes m) = m
+      by (no m) = absurd (omega (arith, place-le j i (omega arith)))
+
+  -- none moves up
   pub place-most : (i : ℕ) → placeAfter keep i ≤ i
   unfolding placeAfter
   place-most i = omega (arith, sum-most i 1 (λ j. only (keep j) 1) (λ j l. only-most (keep j) 1))

@@ -19,7 +19,7 @@ use Rattle.rows.proofs.KeptNeeds.{kept-CM, kept-none}
 use Rattle.book.specs.Facts.{Numbered, SoundRows, Sound, MayBeOn}
 use Rattle.book.proofs.Settled.{sound-rows, with-rest}
 use Rattle.gaps.specs.Gaps.{placeAfter, movedRow, keptOf, archived}
-use Rattle.gaps.proofs.Places.{at-place, place-none, place-le, place-lt, place-most}
+use Rattle.gaps.proofs.Places.{at-place, place-none, place-order, place-lt, place-most}
 use Rattle.gaps.proofs.Passing.{kept-held}
 use Rattle.gaps.proofs.ClosedUp.{closed-size, closed-at, closed-beyond}
 use Rattle.thinned.proofs.Dropped.{Dropped, needTM-kept, needCM-kept}
@@ -77,11 +77,7 @@ module _ (b : Book) (s : Sound b) where
 
   -- "keeping the others' order"
   in-order : {i j : ℕ} (x : There i) (y : There j) → i < j → x .row < y .row
-  in-order x y l = by (decLt (x .row) (y .row))
-    where
-      by : Dec (x .row < y .row) → x .row < y .row
-      by (yes z) = z
-      by (no z) = absurd (omega (arith, x .place, y .place, place-le keep (y .row) (x .row) (omega arith)))
+  in-order x y l = place-order keep (x .row) (y .row) (omega (arith, x .place, y .place))
 
   all-live : (j : ℕ) → j < c .count → rowAt c j .live ≡ true
   all-live j l = let a = there j l in ap (λ r. r .live) (a .is) ∙ kept-live (a .row) (a .below) (a .kept)
