@@ -10,5 +10,6 @@ pub mod Archived
 pub mod Numbers
 pub mod Answers
 pub mod Standings
+pub mod Accounts
 pub mod NeverTwice
 pub mod Archive
