@@ -6,7 +6,9 @@ use Prim.Native.Nat.{ℕ, zero, suc, _+_, _*_, _≤_, _<_}
 use native.Mathlib.Numerals.{add-one}
 use native.Mathlib.Omega.{arith}
 use lib.Dec.{eqb}
-use lib.ListN.{length, getD, length-append}
+use native.Mathlib.Decide.{ℕ-discrete}
+use lib.ListN.{length, getD, length-append, List·getD-append}
+use lib.Seq.{getD-append-add}
 use Rattle.sums.specs.Sum.{sum, only}
 use Rattle.sums.specs.Choice.{pick}
 use Rattle.sums.proofs.Sums.{sum-eq}
@@ -17,7 +19,7 @@ use Rattle.rows.specs.Rows.{rowAt, numberAt}
 use Rattle.table.specs.Words.{Marks, bookFrom}
 use Rattle.table.proofs.Gathered.{row-in}
 use Rattle.gaps.specs.Gaps.{placeAfter, keptTo}
-use Rattle.gaps.proofs.Places.{place-le}
+use Rattle.gaps.proofs.Places.{place-le, place-lt}
 use Rattle.archiving.specs.Archiving.{isRetired, retiredOf, archivedRow, archiveOf}
 use Rattle.archiving.specs.Inner.{entryOf}
 
@@ -55,6 +57,31 @@ module _ (b : Book) where
   unfolding placeAfter sum
   entry-fits i l =
       omega (arith, entries-length i, entry-length i, archive-length, place-le (isRetired b) (suc i) (b .count) (omega arith))
+
+  -- how many entries stand before a row's: "in rising number"
+  before : (n : ℕ) → length (entries n) ≡ 3 * placeAfter (isRetired b) n
+  unfolding placeAfter
+  before n = entries-length n
+
+  entry-in : (n i : ℕ) → i < n → isRetired b i ≡ true → (k : ℕ) → k < 3
+      → getD (entries n) (3 * placeAfter (isRetired b) i + k) 0 ≡ getD (archivedRow b i) k 0
+  unfolding keptTo
+  entry-in zero i l e k m = absurd (omega arith)
+  entry-in (suc n) i l e k m = by (ℕ-discrete i n) (λ q. entry-in n i q e k m)
+    where
+      by : Dec (i ≡ n) → (i < n → getD (entries n) (3 * placeAfter (isRetired b) i + k) 0 ≡ getD (archivedRow b i) k 0)
+          → getD (entries n ++ entryOf b n) (3 * placeAfter (isRetired b) i + k) 0 ≡ getD (archivedRow b i) k 0
+      by (yes q) r =
+          ap (λ x. getD (entries n ++ entryOf b n) (x + k) 0) (ap (λ x. 3 * placeAfter (isRetired b) x) q ∙ sym (before n))
+          ∙ getD-append-add (entries n) (entryOf b n) k 0 ∙ ap (λ x. getD x k 0) (pick-yes (isRetired b n) _ _ (sym (ap (isRetired b) q) ∙ e))
+          ∙ ap (λ x. getD (archivedRow b x) k 0) (sym q)
+      by (no q) r =
+          List·getD-append (entries n) (entryOf b n) 0 _ (omega (arith, before n, place-lt (isRetired b) i n e (omega arith))) ∙ r (omega arith)
+
+  -- THE LAW: each retired row's three numbers stand behind those of the retired rows before it
+  pub entry-at : (i : ℕ) → i < b .count → isRetired b i ≡ true → (k : ℕ) → k < 3
+      → getD (archiveOf b) (3 * placeAfter (isRetired b) i + k) 0 ≡ getD (archivedRow b i) k 0
+  entry-at i l e k m = entry-in (b .count) i l e k m
 
   module _ (i : ℕ) {r : Row} (e : rowAt b i ≡ r) where
     pub live-entry : r .live ≡ true → entryOf b i ≡ []

@@ -18,6 +18,7 @@ pub mod SoundAfter
 pub mod SoundInPlace
 pub mod NumbersTest
 pub mod NumbersPut
+pub mod PlaceNumbers
 pub mod SoundTest
 pub mod StandingRefusals
 pub mod NeedsAnswers

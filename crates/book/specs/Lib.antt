@@ -1,4 +1,5 @@
 pub mod Sound
+pub mod Placed
 pub mod Asked
 pub mod NeedsListed
 pub mod Evening

@@ -6,9 +6,8 @@ use crate::call::none;
 use crate::changed::one_if;
 use crate::rooms::numbers;
 use crate::rooms::put_line;
-use crate::taken::AFTER_BOOK;
 use crate::taken::LIST;
-use crate::taken::number4;
+use crate::taken::length4;
 use book::Figures;
 use book::Table;
 use numbers::number2;
@@ -16,19 +15,19 @@ use text::put_number;
 use text::put_spaced;
 
 pub(crate) fn is_sound(table: Table, room: &mut [u8]) -> Told
-    requires { ⌜ 87000 ≤ length (now room) ⌝ }
-    ensures { λ t. ⌜ (t .size ≤ 23817) × (t .text ≤ length (now (room .exit))) ⌝ }
+    requires { ⌜ 178000 ≤ length (now room) ⌝ }
+    ensures { λ t. ⌜ (t .size ≤ 0) × (t .text ≤ length (now (room .exit))) ⌝ }
 {
     let sound = book::is_sound(table);
     Told {
         is_call: true,
-        size: AFTER_BOOK,
+        size: 0,
         text: put_number(room, 0, one_if(sound), b'\n'),
     }
 }
 
 fn put_figures(room: &mut [u8], f: Figures) -> usize
-    requires { ⌜ 87000 ≤ length (now room) ⌝ }
+    requires { ⌜ 178000 ≤ length (now room) ⌝ }
     ensures { λ n. ⌜ n ≤ length (now (room .exit)) ⌝ }
 {
     let list = [
@@ -45,23 +44,23 @@ fn put_figures(room: &mut [u8], f: Figures) -> usize
 }
 
 pub(crate) fn standing(bytes: &[u8], table: Table, room: &mut [u8]) -> Told
-    requires { ⌜ 87000 ≤ length (now room) ⌝ }
+    requires { ⌜ 178000 ≤ length (now room) ⌝ }
     ensures { λ t. ⌜ (t .size ≤ length (now (bytes .entry))) × (t .text ≤ length (now (room .exit))) ⌝ }
 {
-    if bytes.len() < AFTER_BOOK + 2 {
+    if bytes.len() < 2 {
         return none();
     }
-    let figures = book::standing(table, number2(bytes, AFTER_BOOK));
+    let figures = book::standing(table, number2(bytes, 0));
     Told {
         is_call: true,
-        size: AFTER_BOOK + 2,
+        size: 2,
         text: put_figures(room, figures),
     }
 }
 
 // Asks for all needs with a room of n, and puts the line.
 fn put_needs(room: &mut [u8], table: Table, n: usize) -> usize
-    requires { ⌜ (n ≤ 4096) × (87000 ≤ length (now room)) ⌝ }
+    requires { ⌜ (n ≤ 4096) × (178000 ≤ length (now room)) ⌝ }
     ensures { λ after. ⌜ after ≤ length (now (room .exit)) ⌝ }
 {
     let end = n + 2;
@@ -72,19 +71,19 @@ fn put_needs(room: &mut [u8], table: Table, n: usize) -> usize
 }
 
 pub(crate) fn needs(bytes: &[u8], table: Table, room: &mut [u8]) -> Told
-    requires { ⌜ 87000 ≤ length (now room) ⌝ }
+    requires { ⌜ 178000 ≤ length (now room) ⌝ }
     ensures { λ t. ⌜ (t .size ≤ length (now (bytes .entry))) × (t .text ≤ length (now (room .exit))) ⌝ }
 {
-    if bytes.len() < AFTER_BOOK + 4 {
+    if bytes.len() < 4 {
         return none();
     }
-    let n = number4(bytes, AFTER_BOOK);
+    let n = length4(bytes, 0);
     if LIST < n {
         return none();
     }
     Told {
         is_call: true,
-        size: AFTER_BOOK + 4,
+        size: 4,
         text: put_needs(room, table, n),
     }
 }

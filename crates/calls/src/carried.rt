@@ -4,9 +4,8 @@ ghost use lib.ListN.{length};
 use crate::call::Told;
 use crate::call::none;
 use crate::changed::put_book;
-use crate::taken::AFTER_BOOK;
 use crate::taken::PIECE;
-use crate::taken::number4;
+use crate::taken::length4;
 use crate::taken::record;
 use desk::Answer;
 use desk::Outcome;
@@ -51,7 +50,7 @@ fn put_answer(room: &mut [u8], a: Answer) -> usize
 
 // Carries out a record handed over as values, and puts the line.
 fn put_carried(room: &mut [u8], before: Table, r: Record) -> usize
-    requires { ⌜ 87000 ≤ length (now room) ⌝ }
+    requires { ⌜ 178000 ≤ length (now room) ⌝ }
     ensures { λ n. ⌜ n ≤ length (now (room .exit)) ⌝ }
 {
     let done = desk::carry_out(before, r);
@@ -62,23 +61,23 @@ fn put_carried(room: &mut [u8], before: Table, r: Record) -> usize
 }
 
 pub(crate) fn carry_out(bytes: &[u8], table: Table, room: &mut [u8]) -> Told
-    requires { ⌜ 87000 ≤ length (now room) ⌝ }
+    requires { ⌜ 178000 ≤ length (now room) ⌝ }
     ensures { λ t. ⌜ (t .size ≤ length (now (bytes .entry))) × (t .text ≤ length (now (room .exit))) ⌝ }
 {
-    if bytes.len() < AFTER_BOOK + 54 {
+    if bytes.len() < 54 {
         return none();
     }
-    let r = record(bytes, AFTER_BOOK);
+    let r = record(bytes, 0);
     Told {
         is_call: true,
-        size: AFTER_BOOK + 54,
+        size: 54,
         text: put_carried(room, table, r),
     }
 }
 
 // Carries out the record at a place of a piece, and puts the line.
 fn put_next(room: &mut [u8], before: Table, piece: &[u8], place: usize) -> usize
-    requires { ⌜ 87000 ≤ length (now room) ⌝ }
+    requires { ⌜ 178000 ≤ length (now room) ⌝ }
     ensures { λ n. ⌜ n ≤ length (now (room .exit)) ⌝ }
 {
     let next = desk::carry_out_next(before, piece, place);
@@ -103,7 +102,7 @@ fn put_word(room: &mut [u8], word: Closing) -> usize
 
 // Carries out the records of a piece, and puts the line.
 fn put_day(room: &mut [u8], before: Table, piece: &[u8], most: u64) -> usize
-    requires { ⌜ 87000 ≤ length (now room) ⌝ }
+    requires { ⌜ 178000 ≤ length (now room) ⌝ }
     ensures { λ n. ⌜ n ≤ length (now (room .exit)) ⌝ }
 {
     let ended = run::day(before, piece, most);
@@ -116,7 +115,7 @@ fn put_day(room: &mut [u8], before: Table, piece: &[u8], most: u64) -> usize
 }
 
 fn put_either(room: &mut [u8], call: u8, t: Table, piece: &[u8], number: u64) -> usize
-    requires { ⌜ 87000 ≤ length (now room) ⌝ }
+    requires { ⌜ 178000 ≤ length (now room) ⌝ }
     ensures { λ n. ⌜ n ≤ length (now (room .exit)) ⌝ }
 {
     if call == 4 {
@@ -127,15 +126,15 @@ fn put_either(room: &mut [u8], call: u8, t: Table, piece: &[u8], number: u64) ->
 }
 
 // Calls 4 and 5: a piece, and a place or a number.
-pub(crate) fn of_piece(bytes: &[u8], table: Table, room: &mut [u8]) -> Told
-    requires { ⌜ (1 ≤ length (now bytes)) × (87000 ≤ length (now room)) ⌝ }
+pub(crate) fn of_piece(call: u8, bytes: &[u8], table: Table, room: &mut [u8]) -> Told
+    requires { ⌜ 178000 ≤ length (now room) ⌝ }
     ensures { λ t. ⌜ (t .size ≤ length (now (bytes .entry))) × (t .text ≤ length (now (room .exit))) ⌝ }
 {
-    let from = AFTER_BOOK + 4;
+    let from: usize = 4;
     if bytes.len() < from {
         return none();
     }
-    let n = number4(bytes, AFTER_BOOK);
+    let n = length4(bytes, 0);
     if PIECE < n {
         return none();
     }
@@ -147,21 +146,21 @@ pub(crate) fn of_piece(bytes: &[u8], table: Table, room: &mut [u8]) -> Told
     Told {
         is_call: true,
         size: to + 8,
-        text: put_either(room, bytes[0], table, &bytes[from..to], number),
+        text: put_either(room, call, table, &bytes[from..to], number),
     }
 }
 
 // Takes a book over to the rule of K7, and puts the line.
 pub(crate) fn take_over(before: Table, room: &mut [u8]) -> Told
-    requires { ⌜ 87000 ≤ length (now room) ⌝ }
-    ensures { λ t. ⌜ (t .size ≤ 23817) × (t .text ≤ length (now (room .exit))) ⌝ }
+    requires { ⌜ 178000 ≤ length (now room) ⌝ }
+    ensures { λ t. ⌜ (t .size ≤ 0) × (t .text ≤ length (now (room .exit))) ⌝ }
 {
     let taken = book::take_over(before);
     let after = taken.table;
     let at = put_number(room, 0, taken.refusal as u64, b' ');
     Told {
         is_call: true,
-        size: AFTER_BOOK,
+        size: 0,
         text: put_book(room, at, before, after),
     }
 }

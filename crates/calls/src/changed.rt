@@ -30,8 +30,8 @@ fn amounts_differ(a: &[u64; 2560], b: &[u64; 2560], i: usize) -> bool
 }
 
 // Puts the ten amounts of account i.
-fn put_amounts(list: &mut [u64; 4098], n: usize, i: usize, w: &[u64; 2560])
-    requires { ⌜ (i < 256) × (n + 10 ≤ 4098) ⌝ }
+fn put_amounts(list: &mut [u64; 4355], n: usize, i: usize, w: &[u64; 2560])
+    requires { ⌜ (i < 256) × (n + 10 ≤ 4355) ⌝ }
 {
     let mut k: usize = 0;
     while k < 10 {
@@ -40,12 +40,13 @@ fn put_amounts(list: &mut [u64; 4098], n: usize, i: usize, w: &[u64; 2560])
     }
 }
 
-// Puts place i and its fifteen words in the file's order, unless it is as it was, and gives the place after them.
+// Puts place i and its sixteen words in the file's order, unless it is as it was, and gives the place after them.
 fn put_place(
-    list: &mut [u64; 4098],
+    list: &mut [u64; 4355],
     n: usize,
     i: usize,
     changed: bool,
+    number: u16,
     sort: u8,
     live: bool,
     tm: u16,
@@ -53,41 +54,56 @@ fn put_place(
     need: u64,
     w: &[u64; 2560],
 ) -> usize
-    requires { ⌜ (i < 256) × (n + 16 ≤ 4098) ⌝ }
-    ensures { λ after. ⌜ (n ≤ after) × (after ≤ n + 16) ⌝ }
+    requires { ⌜ (i < 256) × (n + 17 ≤ 4355) ⌝ }
+    ensures { λ after. ⌜ (n ≤ after) × (after ≤ n + 17) ⌝ }
 {
     if !changed {
         return n;
     }
     list[n] = i as u64;
-    list[n + 1] = sort as u64;
-    list[n + 2] = one_if(live);
-    list[n + 3] = tm as u64;
-    put_amounts(list, n + 4, i, w);
-    list[n + 14] = one_if(mode);
-    list[n + 15] = need;
-    n + 16
+    list[n + 1] = number as u64;
+    list[n + 2] = sort as u64;
+    list[n + 3] = one_if(live);
+    list[n + 4] = tm as u64;
+    put_amounts(list, n + 5, i, w);
+    list[n + 15] = one_if(mode);
+    list[n + 16] = need;
+    n + 17
 }
 
-// "its count, its serial and, for each of the 256 places of which any word differs, in rising order, the place and all
-// its fifteen words in the file's order"
-fn put_changes(list: &mut [u64; 4098], a: Table, b: Table) -> usize
-    ensures { λ n. ⌜ (2 ≤ n) × (n ≤ 4098) ⌝ }
+// "its count, its serial (from K11 on: and its next number) and, for each of the 256 places of which any word differs, in
+// rising order, the place and all its .. sixteen words in the file's order"
+fn put_changes(list: &mut [u64; 4355], a: Table, b: Table) -> usize
+    ensures { λ n. ⌜ (3 ≤ n) × (n ≤ 4355) ⌝ }
 {
     list[0] = b.count as u64;
     list[1] = b.serial as u64;
-    let mut n: usize = 2;
+    list[2] = b.next as u64;
+    let mut n: usize = 3;
     let mut i: usize = 0;
     while i < 256 {
+        let number = b.numbers[i];
         let sort = b.sort[i];
         let live = b.live[i];
         let tm = b.tm[i];
         let mode = b.modes[i];
         let need = b.needs[i];
         let marks = (a.sort[i] != sort) | differ(a.live[i], live) | (a.tm[i] != tm);
-        let kept = differ(a.modes[i], mode) | (a.needs[i] != need);
+        let kept = differ(a.modes[i], mode) | (a.needs[i] != need) | (a.numbers[i] != number);
         let changed = marks | kept | amounts_differ(&a.amounts, &b.amounts, i);
-        n = put_place(list, n, i, changed, sort, live, tm, mode, need, &b.amounts);
+        n = put_place(
+            list,
+            n,
+            i,
+            changed,
+            number,
+            sort,
+            live,
+            tm,
+            mode,
+            need,
+            &b.amounts,
+        );
         i += 1;
     }
     n
@@ -95,13 +111,15 @@ fn put_changes(list: &mut [u64; 4098], a: Table, b: Table) -> usize
 
 // Puts the line's last part, at most 86,058 bytes.
 pub(crate) fn put_book(room: &mut [u8], at: usize, before: Table, after: Table) -> usize
-    requires { ⌜ at + 86058 ≤ length (now room) ⌝ }
+    requires { ⌜ at + 91455 ≤ length (now room) ⌝ }
     ensures { λ n. ⌜ n ≤ length (now (room .exit)) ⌝ }
 {
     let mut list = [0u64; LINE];
     let n = put_changes(&mut list, before, after);
-    let marks = (before.count == after.count) & (before.serial == after.serial);
-    if marks & (n == 2) {
+    let marks = (before.count == after.count)
+        & (before.serial == after.serial)
+        & (before.next == after.next);
+    if marks & (n == 3) {
         return put_text(room, at, b"same\n");
     }
     put_line(room, at, list, 0, n)

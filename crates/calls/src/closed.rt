@@ -5,15 +5,14 @@ use crate::call::Told;
 use crate::call::none;
 use crate::rooms::numbers;
 use crate::rooms::put_line;
-use crate::taken::AFTER_BOOK;
 use crate::taken::LIST;
+use crate::taken::length4;
 use crate::taken::list;
-use crate::taken::number4;
 use closeout::Table;
 
 // Closes out a book with losses and a room of n, and puts the line.
 fn put_closed(room: &mut [u8], t: Table, losses: &[u64], n: usize) -> usize
-    requires { ⌜ (n ≤ 4096) × (87000 ≤ length (now room)) ⌝ }
+    requires { ⌜ (n ≤ 4096) × (178000 ≤ length (now room)) ⌝ }
     ensures { λ after. ⌜ after ≤ length (now (room .exit)) ⌝ }
 {
     let end = n + 2;
@@ -35,7 +34,7 @@ pub(crate) struct Asked {
 
 // The lengths of a list and a room behind it, each within its limit and all its bytes there; 0 throughout where that isn't so.
 pub(crate) fn lengths(bytes: &[u8], at: usize) -> Asked
-    requires { ⌜ at ≤ 23_817 ⌝ }
+    requires { ⌜ at ≤ 2 ⌝ }
     ensures { λ a. ⌜ (a .count ≤ 4096) × (a .from + 8 * a .count ≤ length (now (bytes .entry))) × (a .room ≤ 4096) × (a .end ≤ length (now (bytes .entry))) ⌝ }
 {
     let nothing = Asked {
@@ -49,7 +48,7 @@ pub(crate) fn lengths(bytes: &[u8], at: usize) -> Asked
     if bytes.len() < from {
         return nothing;
     }
-    let count = number4(bytes, at);
+    let count = length4(bytes, at);
     if LIST < count {
         return nothing;
     }
@@ -57,7 +56,7 @@ pub(crate) fn lengths(bytes: &[u8], at: usize) -> Asked
     if bytes.len() < to + 4 {
         return nothing;
     }
-    let room = number4(bytes, to);
+    let room = length4(bytes, to);
     if LIST < room {
         return nothing;
     }
@@ -71,10 +70,10 @@ pub(crate) fn lengths(bytes: &[u8], at: usize) -> Asked
 }
 
 pub(crate) fn close_out(bytes: &[u8], table: Table, room: &mut [u8]) -> Told
-    requires { ⌜ 87000 ≤ length (now room) ⌝ }
+    requires { ⌜ 178000 ≤ length (now room) ⌝ }
     ensures { λ t. ⌜ (t .size ≤ length (now (bytes .entry))) × (t .text ≤ length (now (room .exit))) ⌝ }
 {
-    let asked = lengths(bytes, AFTER_BOOK);
+    let asked = lengths(bytes, 0);
     if !asked.is_call {
         return none();
     }

@@ -10,7 +10,7 @@ use crate::margins::put_made;
 use crate::rooms::numbers;
 use crate::rooms::put_line;
 use crate::taken::LIST;
-use crate::taken::number4;
+use crate::taken::length4;
 use currency::Made;
 use exposure::Exposure;
 use exposure::lists::Form;
@@ -37,7 +37,7 @@ fn count_at(bytes: &[u8], at: usize) -> usize
     if bytes.len() - at < 4 {
         return 0;
     }
-    let n = number4(bytes, at);
+    let n = length4(bytes, at);
     if 4 < n {
         return 0;
     }
@@ -72,7 +72,7 @@ fn exposure_of(bytes: &[u8], at: usize, n: usize) -> Exposure
 }
 
 fn put_exposure(room: &mut [u8], e: Exposure) -> usize
-    requires { ⌜ 87000 ≤ length (now room) ⌝ }
+    requires { ⌜ 178000 ≤ length (now room) ⌝ }
     ensures { λ n. ⌜ n ≤ length (now (room .exit)) ⌝ }
 {
     let list = [e.refusal as u64, e.amount];
@@ -80,7 +80,7 @@ fn put_exposure(room: &mut [u8], e: Exposure) -> usize
 }
 
 pub(crate) fn one_client(bytes: &[u8], room: &mut [u8]) -> Told
-    requires { ⌜ (1 ≤ length (now bytes)) × (87000 ≤ length (now room)) ⌝ }
+    requires { ⌜ (1 ≤ length (now bytes)) × (178000 ≤ length (now room)) ⌝ }
     ensures { λ t. ⌜ (t .size ≤ length (now (bytes .entry))) × (t .text ≤ length (now (room .exit))) ⌝ }
 {
     let n = count_at(bytes, 1);
@@ -117,7 +117,7 @@ fn joined(bytes: &[u8], n: usize, at: usize, count: usize) -> Made
 }
 
 pub(crate) fn margin(bytes: &[u8], room: &mut [u8]) -> Told
-    requires { ⌜ 87000 ≤ length (now room) ⌝ }
+    requires { ⌜ 178000 ≤ length (now room) ⌝ }
     ensures { λ t. ⌜ (t .size ≤ length (now (bytes .entry))) × (t .text ≤ length (now (room .exit))) ⌝ }
 {
     let n = count_of(bytes);
@@ -159,7 +159,7 @@ fn list(bytes: &[u8], at: usize, n: usize) -> [i64; LIST]
 
 // Asks with a room of n, and puts the line.
 fn put_all(room: &mut [u8], form: Form, figures: &[i64], n: usize) -> usize
-    requires { ⌜ (n ≤ 4096) × (87000 ≤ length (now room)) ⌝ }
+    requires { ⌜ (n ≤ 4096) × (178000 ≤ length (now room)) ⌝ }
     ensures { λ after. ⌜ after ≤ length (now (room .exit)) ⌝ }
 {
     let end = n + 2;
@@ -170,7 +170,7 @@ fn put_all(room: &mut [u8], form: Form, figures: &[i64], n: usize) -> usize
 }
 
 fn of_form(bytes: &[u8], form: Form, room: &mut [u8]) -> Told
-    requires { ⌜ 87000 ≤ length (now room) ⌝ }
+    requires { ⌜ 178000 ≤ length (now room) ⌝ }
     ensures { λ t. ⌜ (t .size ≤ length (now (bytes .entry))) × (t .text ≤ length (now (room .exit))) ⌝ }
 {
     let asked = lengths(bytes, 2);
@@ -187,7 +187,7 @@ fn of_form(bytes: &[u8], form: Form, room: &mut [u8]) -> Told
 }
 
 pub(crate) fn clients(bytes: &[u8], room: &mut [u8]) -> Told
-    requires { ⌜ 87000 ≤ length (now room) ⌝ }
+    requires { ⌜ 178000 ≤ length (now room) ⌝ }
     ensures { λ t. ⌜ (t .size ≤ length (now (bytes .entry))) × (t .text ≤ length (now (room .exit))) ⌝ }
 {
     if bytes.len() < 2 {

@@ -8,9 +8,9 @@ use text::put_number;
 use text::put_text;
 
 // Twice as much as the longest line takes, and more.
-const ROOM: usize = 196_608;
+const ROOM: usize = 393_216;
 
-const HALF: usize = 98_304;
+const HALF: usize = 196_608;
 
 // How many bytes are left to write, and whether a write failed.
 pub(crate) struct Wrote {
@@ -19,7 +19,7 @@ pub(crate) struct Wrote {
 }
 
 pub(crate) fn blank() -> [u8; ROOM]
-    ensures { λ r. ⌜ length r ≡ 196608 ⌝ }
+    ensures { λ r. ⌜ length r ≡ 393216 ⌝ }
 {
     [0; ROOM]
 }
@@ -33,7 +33,7 @@ pub(crate) fn write(room: &[u8], put: usize) -> Moved
 // Writes the lines once they fill more than half of the room.
 pub(crate) fn written(room: &[u8], put: usize) -> Wrote
     requires { ⌜ put ≤ length (now room) ⌝ }
-    ensures { λ w. ⌜ w .left ≤ 98304 ⌝ }
+    ensures { λ w. ⌜ w .left ≤ 196608 ⌝ }
 {
     if put <= HALF {
         return Wrote {

@@ -3,6 +3,7 @@
 use held::more;
 use lines::written;
 
+mod archived;
 mod asked;
 mod call;
 mod carried;

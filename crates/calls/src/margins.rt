@@ -5,7 +5,7 @@ ghost use lib.ListN.{length};
 use crate::call::Told;
 use crate::call::none;
 use crate::taken::LIST;
-use crate::taken::number4;
+use crate::taken::length4;
 use currency::MOST;
 use currency::Made;
 use currency::Position;
@@ -82,7 +82,7 @@ pub(crate) fn count_of(bytes: &[u8]) -> usize
     if bytes.len() < FROM {
         return no;
     }
-    let n = number4(bytes, 13);
+    let n = length4(bytes, 13);
     if LIST < n {
         return no;
     }
@@ -108,7 +108,7 @@ fn made_of(bytes: &[u8], n: usize) -> Made
 }
 
 fn put_record(room: &mut [u8], r: Record) -> usize
-    requires { ⌜ 87000 ≤ length (now room) ⌝ }
+    requires { ⌜ 178000 ≤ length (now room) ⌝ }
     ensures { λ n. ⌜ n ≤ length (now (room .exit)) ⌝ }
 {
     let kinds = r.kinds;
@@ -129,7 +129,7 @@ fn put_record(room: &mut [u8], r: Record) -> usize
 }
 
 pub(crate) fn put_made(room: &mut [u8], made: Made) -> usize
-    requires { ⌜ 87000 ≤ length (now room) ⌝ }
+    requires { ⌜ 178000 ≤ length (now room) ⌝ }
     ensures { λ n. ⌜ n ≤ length (now (room .exit)) ⌝ }
 {
     match made {
@@ -139,7 +139,7 @@ pub(crate) fn put_made(room: &mut [u8], made: Made) -> usize
 }
 
 pub(crate) fn margin(bytes: &[u8], room: &mut [u8]) -> Told
-    requires { ⌜ 87000 ≤ length (now room) ⌝ }
+    requires { ⌜ 178000 ≤ length (now room) ⌝ }
     ensures { λ t. ⌜ (t .size ≤ length (now (bytes .entry))) × (t .text ≤ length (now (room .exit))) ⌝ }
 {
     let n = count_of(bytes);

@@ -6,7 +6,7 @@ use crate::call::none;
 use crate::rooms;
 use crate::taken::LIST;
 use crate::taken::PIECE;
-use crate::taken::number4;
+use crate::taken::length4;
 use crate::taken::record;
 use dayfile::Read;
 use dayfile::Record;
@@ -17,7 +17,7 @@ use text::put_spaced;
 use text::put_text;
 
 fn put_record(room: &mut [u8], r: Record, next: usize) -> usize
-    requires { ⌜ 87000 ≤ length (now room) ⌝ }
+    requires { ⌜ 178000 ≤ length (now room) ⌝ }
     ensures { λ n. ⌜ n ≤ length (now (room .exit)) ⌝ }
 {
     let kinds = r.kinds;
@@ -46,7 +46,7 @@ fn put_bad_record(
     code: u8,
     account: u16,
 ) -> usize
-    requires { ⌜ 87000 ≤ length (now room) ⌝ }
+    requires { ⌜ 178000 ≤ length (now room) ⌝ }
     ensures { λ n. ⌜ n ≤ length (now (room .exit)) ⌝ }
 {
     let list = [
@@ -60,7 +60,7 @@ fn put_bad_record(
 }
 
 fn put_read(room: &mut [u8], read: Read) -> usize
-    requires { ⌜ 87000 ≤ length (now room) ⌝ }
+    requires { ⌜ 178000 ≤ length (now room) ⌝ }
     ensures { λ n. ⌜ n ≤ length (now (room .exit)) ⌝ }
 {
     match read {
@@ -78,13 +78,13 @@ fn put_read(room: &mut [u8], read: Read) -> usize
 }
 
 pub(crate) fn read_at(bytes: &[u8], room: &mut [u8]) -> Told
-    requires { ⌜ 87000 ≤ length (now room) ⌝ }
+    requires { ⌜ 178000 ≤ length (now room) ⌝ }
     ensures { λ t. ⌜ (t .size ≤ length (now (bytes .entry))) × (t .text ≤ length (now (room .exit))) ⌝ }
 {
     if bytes.len() < 13 {
         return none();
     }
-    let n = number4(bytes, 1);
+    let n = length4(bytes, 1);
     if PIECE < n {
         return none();
     }
@@ -116,7 +116,7 @@ fn length_of(wrote: Wrote) -> u64 {
 }
 
 fn put_written(room: &mut [u8], r: Record, n: usize) -> usize
-    requires { ⌜ (n ≤ 4096) × (87000 ≤ length (now room)) ⌝ }
+    requires { ⌜ (n ≤ 4096) × (178000 ≤ length (now room)) ⌝ }
     ensures { λ after. ⌜ after ≤ length (now (room .exit)) ⌝ }
 {
     let mut bytes = rooms::bytes(n);
@@ -129,13 +129,13 @@ fn put_written(room: &mut [u8], r: Record, n: usize) -> usize
 }
 
 pub(crate) fn write(bytes: &[u8], room: &mut [u8]) -> Told
-    requires { ⌜ 87000 ≤ length (now room) ⌝ }
+    requires { ⌜ 178000 ≤ length (now room) ⌝ }
     ensures { λ t. ⌜ (t .size ≤ length (now (bytes .entry))) × (t .text ≤ length (now (room .exit))) ⌝ }
 {
     if bytes.len() < 59 {
         return none();
     }
-    let n = number4(bytes, 55);
+    let n = length4(bytes, 55);
     if LIST < n {
         return none();
     }

@@ -1,16 +1,17 @@
 // Lent rooms as they are beforehand: "place i (from 0) of a lent room holds i + 1 beforehand, in rooms of bytes modulo
-// 256". A line's numbers are gathered in one list: the room's from place 2 on, those in front of it before that.
+// 256", in the archive's of numbers of 2. A line's numbers are gathered in one list: the room's from place 2 on, those in front of it before that.
 ghost use mathlib.Core.Path.{_≡_};
 ghost use Prim.Native.Nat.{_+_, _≤_, _<_};
 ghost use lib.ListN.{length};
 use crate::taken::LIST;
 use text::put_spaced;
 
-pub(crate) const LINE: usize = 4_098;
+// The most numbers of a part of a line: count, serial, next number, and seventeen for each of 256 places.
+pub(crate) const LINE: usize = 4_355;
 
 pub(crate) fn numbers(n: usize) -> [u64; LINE]
     requires { ⌜ n ≤ 4096 ⌝ }
-    ensures { λ r. ⌜ length r ≡ 4098 ⌝ }
+    ensures { λ r. ⌜ length r ≡ 4355 ⌝ }
 {
     let mut line = [0u64; LINE];
     let mut i: usize = 2;
@@ -34,6 +35,19 @@ pub(crate) fn bytes(n: usize) -> [u8; LIST]
     room
 }
 
+pub(crate) fn words(n: usize) -> [u16; LIST]
+    requires { ⌜ n ≤ 4096 ⌝ }
+    ensures { λ r. ⌜ length r ≡ 4096 ⌝ }
+{
+    let mut room = [0u16; LIST];
+    let mut i: usize = 0;
+    while i < n {
+        room[i] = (i + 1) as u16;
+        i += 1;
+    }
+    room
+}
+
 fn wide(x: u8) -> u64 {
     x as u64
 }
@@ -41,12 +55,30 @@ fn wide(x: u8) -> u64 {
 // The first n bytes of a room as numbers of a line.
 pub(crate) fn widened(room: [u8; LIST], n: usize) -> [u64; LINE]
     requires { ⌜ n ≤ 4096 ⌝ }
-    ensures { λ r. ⌜ length r ≡ 4098 ⌝ }
+    ensures { λ r. ⌜ length r ≡ 4355 ⌝ }
 {
     let mut line = [0u64; LINE];
     let mut i: usize = 0;
     while i < n {
         line[i + 2] = wide(room[i]);
+        i += 1;
+    }
+    line
+}
+
+fn wide2(x: u16) -> u64 {
+    x as u64
+}
+
+// The first n words of a room as numbers of a line.
+pub(crate) fn widened_words(room: [u16; LIST], n: usize) -> [u64; LINE]
+    requires { ⌜ n ≤ 4096 ⌝ }
+    ensures { λ r. ⌜ length r ≡ 4355 ⌝ }
+{
+    let mut line = [0u64; LINE];
+    let mut i: usize = 0;
+    while i < n {
+        line[i + 2] = wide2(room[i]);
         i += 1;
     }
     line
@@ -60,7 +92,7 @@ pub(crate) fn put_line(
     from: usize,
     end: usize,
 ) -> usize
-    requires { ⌜ (from < end) × (end ≤ 4098) × (at + 86058 ≤ length (now room)) ⌝ }
+    requires { ⌜ (from < end) × (end ≤ 4355) × (at + 91455 ≤ length (now room)) ⌝ }
     ensures { λ after. ⌜ after ≤ length (now (room .exit)) ⌝ }
 {
     put_spaced(room, at, &line[from..end])

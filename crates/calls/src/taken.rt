@@ -5,10 +5,8 @@ ghost use lib.ListN.{length};
 use dayfile::Kinds;
 use dayfile::Record;
 use numbers::number2;
+use numbers::number4;
 use numbers::number8;
-
-// Where the arguments after a book begin: the call's byte and the book's 23,816 stand in front.
-pub(crate) const AFTER_BOOK: usize = 23_817;
 
 // The most bytes of a piece, and the most elements of a list or a room.
 pub(crate) const PIECE: usize = 65_536;
@@ -16,10 +14,10 @@ pub(crate) const PIECE: usize = 65_536;
 pub(crate) const LIST: usize = 4_096;
 
 // A length.
-pub(crate) fn number4(bytes: &[u8], at: usize) -> usize
+pub(crate) fn length4(bytes: &[u8], at: usize) -> usize
     requires { ⌜ at + 4 ≤ length (now bytes) ⌝ }
 {
-    number2(bytes, at) as usize * 65536 + number2(bytes, at + 2) as usize
+    number4(bytes, at) as usize
 }
 
 fn kinds(bytes: &[u8], at: usize) -> Kinds

@@ -12,10 +12,8 @@ use Rattle.sums.proofs.Sums.{all-at}
 use Rattle.sums.proofs.Choices.{and-split}
 use Rattle.sums.proofs.Tables.{first-here, first-later}
 use Rattle.rows.specs.declared.Book.{Book}
-use Rattle.rows.specs.Rows.{ceiling, rowAt, view, withSerial, withModes}
+use Rattle.rows.specs.Rows.{ceiling, rowAt, view}
 use Rattle.book.specs.Sound.{soundB}
-use Rattle.book.specs.Facts.{Sound}
-use Rattle.book.proofs.SoundTest.{sound←}
 use Rattle.closeout.specs.declared.Closed.{Closed}
 use Rattle.closeout.specs.Columns.{four, rowsTo, total}
 use Rattle.closeout.specs.Closing.{lossAt, goodLoss, goodLosses, noTotal, closeOutRefusal, closedOf, roomOf}
@@ -60,9 +58,3 @@ module _ (b : Book) (losses room : List ℕ) where
 pub losses-small : (b : Book) (losses : List ℕ) → goodLosses b losses ≡ true → (i : ℕ) → i < b .count → lossAt losses i ≤ ceiling
 losses-small b losses e i m =
     leb-true _ _ (and-split (leb (lossAt losses i) ceiling) _ (all-at (b .count) (λ k. goodLoss (rowAt b k) (lossAt losses k)) e i m) .0)
-
--- of a sound book the close-out looks neither at the serial nor at modes
-pub serial-and-modes-aside : (b : Book) (n : ℕ) (modes : List Bool) (losses room : List ℕ) → soundB b ≡ true → Sound (withSerial (withModes b modes) n)
-    → (closedOf (withSerial (withModes b modes) n) losses room ≡ closedOf b losses room) × (roomOf (withSerial (withModes b modes) n) losses room ≡ roomOf b losses room)
-unfolding closedOf roomOf closeOutRefusal
-serial-and-modes-aside b n modes losses room s t = let u = sound← (withSerial (withModes b modes) n) t in (rw (s, u), rw (s, u))

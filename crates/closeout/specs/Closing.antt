@@ -14,7 +14,7 @@ use Rattle.book.specs.Sound.{soundB}
 use Rattle.closeout.specs.declared.Closed.{Closed}
 use Rattle.closeout.specs.Columns.{four, rowsTo, total}
 
--- "one loss for each account (retired ones too)": account i's
+-- "one loss for each account (retired ones too)"; document 02, K11: "Losses in a close-out are listed by row held.": row i's
 abbrev pub lossAt : List ℕ → ℕ → ℕ
 lossAt losses i = getD losses i 0
 

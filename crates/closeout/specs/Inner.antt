@@ -10,7 +10,9 @@ use Rattle.rows.specs.declared.Account.{Account}
 use Rattle.rows.specs.declared.Book.{Book}
 use Rattle.rows.specs.View.{View, freeOf}
 use Rattle.rows.specs.Rows.{ceiling}
+use Rattle.table.specs.Words.{Marks, bookFrom}
 use Rattle.book.specs.Facts.{Sound}
+use Rattle.book.specs.Placed.{placeNumbers}
 use Rattle.closeout.specs.declared.pays.Paid.{Paid}
 use Rattle.closeout.specs.declared.pays.Both.{Both}
 use Rattle.closeout.specs.declared.pays.Purses.{Purses}
@@ -102,6 +104,10 @@ putAt room at amounts = take at room ++ amounts ++ drop (at + 4) room
 -- account i's loss is good, where it is known who is live
 abbrev pub goodIn : List Bool → List ℕ → ℕ → Bool
 goodIn live losses i = leb (lossAt losses i) ceiling && (getD live i false || eqb (lossAt losses i) 0)
+
+-- a book by its rows and kept needs: neither its serial nor its modes nor its numbers are looked at, and here each number is its place
+abbrev pub heldBook : ℕ → Marks → List ℕ → List ℕ → Book
+heldBook count m w needs = bookFrom count 0 m w [] needs count (placeNumbers count)
 
 -- the checks have passed
 pub record Checked (b : Book) (losses room : List ℕ) : Type 0 where

@@ -1,13 +1,12 @@
 // The close-out: who pays what when positions are closed out. The book stays as it is.
 ghost use mathlib.Core.Path.{_≡_};
-ghost use mathlib.Core.List.{[]};
 ghost use Prim.Native.Nat.{_≤_};
 ghost use lib.ListN.{length};
 ghost use Rattle.sums.specs.Sum.{all};
 ghost use Rattle.book.specs.Facts.{Sound};
-ghost use Rattle.table.specs.Words.{marksFrom, bookFrom, turnedBack};
+ghost use Rattle.table.specs.Words.{marksFrom, turnedBack};
 ghost use Rattle.closeout.specs.Closing.{noTotal, closedOf, roomOf};
-ghost use Rattle.closeout.specs.Inner.{goodIn};
+ghost use Rattle.closeout.specs.Inner.{goodIn, heldBook};
 use book::sound::table_sound;
 pub use rows::CEILING;
 pub use table::Table;
@@ -44,7 +43,7 @@ fn refused(n: u8) -> Closed
     }
 }
 
-// At the arrays of a sound book, in their places: neither the serial nor modes are looked at.
+// At the arrays of a sound book, in their places: neither the serial nor modes nor numbers are looked at.
 fn close_out_at<'a>(
     sort: &'a [u8; 256],
     live: &'a [bool; 256],
@@ -55,9 +54,9 @@ fn close_out_at<'a>(
     losses: &[u64],
     room: &mut [u64],
 ) -> Closed
-    requires { ⌜ Sound (bookFrom count 0 (marksFrom (now sort) (now live) (now tm)) (now w) [] (now needs)) ⌝ }
-    ensures { λ x. ⌜ x ≡ closedOf (bookFrom count 0 (marksFrom (now (sort .entry)) (now (live .entry)) (now (tm .entry))) (now (w .entry)) [] (now (needs .entry))) (now (losses .entry)) (now (room .entry)) ⌝ }
-    ensures { λ _. ⌜ now (room .exit) ≡ roomOf (bookFrom count 0 (marksFrom (now (sort .entry)) (now (live .entry)) (now (tm .entry))) (now (w .entry)) [] (now (needs .entry))) (now (losses .entry)) (now (room .entry)) ⌝ }
+    requires { ⌜ Sound (heldBook count (marksFrom (now sort) (now live) (now tm)) (now w) (now needs)) ⌝ }
+    ensures { λ x. ⌜ x ≡ closedOf (heldBook count (marksFrom (now (sort .entry)) (now (live .entry)) (now (tm .entry))) (now (w .entry)) (now (needs .entry))) (now (losses .entry)) (now (room .entry)) ⌝ }
+    ensures { λ _. ⌜ now (room .exit) ≡ roomOf (heldBook count (marksFrom (now (sort .entry)) (now (live .entry)) (now (tm .entry))) (now (w .entry)) (now (needs .entry))) (now (losses .entry)) (now (room .entry)) ⌝ }
 {
     let n = count as usize;
     if losses.len() != n {
@@ -81,6 +80,7 @@ pub fn close_out(t: Table, losses: &[u64], room: &mut [u64]) -> Closed
     ensures rows { λ _. ⌜ now (room .exit) ≡ roomOf (turnedBack t) (now (losses .entry)) (now (room .entry)) ⌝ }
 {
     let count = t.count;
+    let numbers = t.numbers;
     if !table_sound(
         &t.sort,
         &t.live,
@@ -88,7 +88,9 @@ pub fn close_out(t: Table, losses: &[u64], room: &mut [u64]) -> Closed
         &t.amounts,
         &t.modes,
         &t.needs,
+        numbers,
         count,
+        t.next,
     ) {
         return refused(1);
     }

@@ -1,14 +1,13 @@
 // What each account pays, in one rising pass over both rounds: own collateral, the TM's, the CM's, and what is left uncovered.
 ghost use mathlib.Core.Path.{_≡_};
-ghost use mathlib.Core.List.{[]};
 ghost use Prim.Native.Nat.{_+_, _≤_, min};
 ghost use lib.ListN.{length};
 ghost use Rattle.rows.specs.Rows.{accountOf, view};
 ghost use Rattle.rows.specs.Facts.{InRange};
-ghost use Rattle.table.specs.Words.{marksFrom, bookFrom};
+ghost use Rattle.table.specs.Words.{marksFrom};
 ghost use Rattle.closeout.specs.Columns.{four, rowsTo, total};
 ghost use Rattle.closeout.specs.Closing.{lossAt};
-ghost use Rattle.closeout.specs.Inner.{paidBy, roundsBy, afterOwn, fourOf, putAt, Checked};
+ghost use Rattle.closeout.specs.Inner.{paidBy, roundsBy, afterOwn, fourOf, putAt, heldBook, Checked};
 use rows::Row;
 use rows::deemed::free_with;
 use rows::deemed::less;
@@ -128,8 +127,8 @@ pub(crate) fn fill<'a>(
     losses: &[u64],
     room: &mut [u64],
 ) -> u64
-    requires { ⌜ Checked (bookFrom count 0 (marksFrom (now sort) (now live) (now tm)) (now w) [] (now needs)) (now losses) (now room) ⌝ }
-    ensures { λ x. ⌜ (now (room .exit) ≡ rowsTo (four (view (bookFrom count 0 (marksFrom (now (sort .entry)) (now (live .entry)) (now (tm .entry))) (now (w .entry)) [] (now (needs .entry)))) (lossAt (now (losses .entry)))) count) × (x ≡ total (view (bookFrom count 0 (marksFrom (now (sort .entry)) (now (live .entry)) (now (tm .entry))) (now (w .entry)) [] (now (needs .entry)))) (lossAt (now (losses .entry)))) ⌝ }
+    requires { ⌜ Checked (heldBook count (marksFrom (now sort) (now live) (now tm)) (now w) (now needs)) (now losses) (now room) ⌝ }
+    ensures { λ x. ⌜ (now (room .exit) ≡ rowsTo (four (view (heldBook count (marksFrom (now (sort .entry)) (now (live .entry)) (now (tm .entry))) (now (w .entry)) (now (needs .entry)))) (lossAt (now (losses .entry)))) count) × (x ≡ total (view (heldBook count (marksFrom (now (sort .entry)) (now (live .entry)) (now (tm .entry))) (now (w .entry)) (now (needs .entry)))) (lossAt (now (losses .entry)))) ⌝ }
 {
     let mut left = zeros();
     let mut free = zeros();

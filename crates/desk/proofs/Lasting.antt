@@ -5,12 +5,12 @@ use Prim.Native.Nat.{ℕ, zero, suc, _+_, _≤_, _<_}
 use native.Mathlib.Omega.{arith}
 use native.Mathlib.Decide.{ℕ-discrete, decLe}
 use lib.Dec.{leb, eqb}
-use lib.ListN.{length}
+use lib.Seq.{getD-set-other}
 use borrow.Author.Tests.{leb-false}
 use Rattle.sums.specs.Choice.{pick}
 use Rattle.sums.proofs.Choices.{test-clash, or-fails}
 use Rattle.rows.specs.declared.Book.{Book}
-use Rattle.rows.specs.Rows.{places, rowAt, openedRow}
+use Rattle.rows.specs.Rows.{places, rowAt, numberAt, openedRow}
 use Rattle.rows.proofs.RowPut.{row-other, opened-below}
 use Rattle.dayfile.specs.declared.Record.{Record}
 use Rattle.rules.specs.declared.Change.{Change}
@@ -84,6 +84,20 @@ module _ (b : Book) (r : Record) where
       by : (n : ℕ) → verdictOf b r ≡ n → (b .count ≤ stepOf b r .book .count) × (b .next ≤ stepOf b r .book .next)
       by zero e = rw (passed-book e) (passing (isOpening r))
       by (suc n) e = let k = refusal-keeps (omega (arith, e)) in (omega (arith, k .1), omega (arith, k .2))
+
+  -- K11, "Numbers are kept with their rows": no record changes one that was there
+  pub numbers-stay : (i : ℕ) → i < b .count → numberAt (stepOf b r .book) i ≡ numberAt b i
+  unfolding after pick
+  numbers-stay i l = by (verdictOf b r) refl (decLe (verdictOf b r) 3)
+    where
+      passing : (t : Bool) → numberAt (after t) i ≡ numberAt b i
+      passing true = getD-set-other (b .numbers) (b .count) i (b .next) 0 (λ q. omega arith)
+      passing false = refl
+
+      by : (n : ℕ) → verdictOf b r ≡ n → Dec (verdictOf b r ≤ 3) → numberAt (stepOf b r .book) i ≡ numberAt b i
+      by zero e d = ap (λ x. numberAt x i) (passed-book e) ∙ passing (isOpening r)
+      by (suc n) e (yes q) = ap (λ x. numberAt x i) (early-refusal b r (omega (arith, e)) q)
+      by (suc n) e (no q) = ap (λ x. numberAt x i) (later-refusal b r (omega arith))
 
   -- "The next opening takes the next number."
   pub opened-next : (n : ℕ) → stepOf b r .answer .outcome ≡ Opened n → (n ≡ b .next) × (stepOf b r .book .next ≡ n + 1)

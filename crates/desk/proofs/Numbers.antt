@@ -16,12 +16,12 @@ use Rattle.dayfile.specs.Reading.{foundAt}
 use Rattle.rules.specs.declared.Change.the-variants.{Put, Open}
 use Rattle.rules.specs.Refusals.{isOpening, namedRow}
 use Rattle.rules.specs.Effects.{amended}
-use Rattle.rules.specs.Numbered.{placed, verdictOf}
+use Rattle.rules.specs.Numbered.{placed, verdictOf, givenOf}
 use Rattle.desk.specs.declared.Outcome.the-variants.{Refused}
 use Rattle.desk.specs.declared.Carried.{Carried}
 use Rattle.desk.specs.declared.CarriedNext.{CarriedNext}
 use Rattle.desk.specs.Answers.{refusalIn, givenIn, nobody, ofRecord, answerOf}
-use Rattle.desk.specs.Steps.{stepOf, onFound, nextOf, givenOf, refusalFound, givenFound, nextRefusal, nextGiven}
+use Rattle.desk.specs.Steps.{stepOf, onFound, nextOf, refusalFound, givenFound, nextRefusal, nextGiven}
 use Rattle.desk.specs.Over.{overDone, overNext}
 use Rattle.desk.proofs.Effect.{refused-as, passed-as, answer-number}
 

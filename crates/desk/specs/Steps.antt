@@ -1,8 +1,7 @@
 -- Carrying out a record handed over as values, and the next one of a piece of the day file.
 use mathlib.Core.List.{List}
 use Prim.Native.Nat.{ℕ}
-use Rattle.sums.specs.Choice.{pick, unlessRefused}
-use Rattle.sums.specs.Sum.{only}
+use Rattle.sums.specs.Choice.{pick}
 use Rattle.rows.specs.declared.Book.{Book}
 use Rattle.rows.specs.Rows.{placeOf}
 use Rattle.book.specs.Sound.{soundB}
@@ -14,9 +13,8 @@ use Rattle.desk.specs.declared.Outcome.the-variants.{Refused, End}
 use Rattle.desk.specs.declared.Done.{Done}
 use Rattle.desk.specs.declared.Next.{Next}
 use Rattle.rules.specs.declared.Change.{Change}
-use Rattle.rules.specs.Refusals.{isOpening}
 use Rattle.rules.specs.Effects.{bookAfter}
-use Rattle.rules.specs.Numbered.{verdictOf, actOf}
+use Rattle.rules.specs.Numbered.{verdictOf, givenOf, actOf}
 use Rattle.desk.specs.Answers.{nobody, answerOf}
 
 -- the answer and the book after a change that the record makes
@@ -39,12 +37,7 @@ onFound b at (Whole r next) = record { answer = stepOf b r .answer; book = stepO
 unfoldable pub nextOf : Book → List ℕ → ℕ → Next
 nextOf b s at = pick (soundB b) (onFound b at (foundAt s at)) (record { answer = nobody (Refused 1); book = b; place = at })
 
--- Document 01's numbers of an answer (`refusalIn`, `givenIn`). For a record the refusal is the table's, and the number given is that of an opening carried out: "The next opening
--- takes the next number."
-abbrev pub givenOf : Book → Record → ℕ
-givenOf b r = unlessRefused (verdictOf b r) (only (isOpening r) (b .next)) (λ n. 0)
-
--- for what stands at a place of a piece
+-- Document 01's numbers of an answer (`refusalIn`, `givenIn`) are for a record `verdictOf` and `givenOf`. For what stands at a place of a piece:
 abbrev pub refusalFound : Book → Found → ℕ
 refusalFound b NoBytes = numberFound NoBytes
 refusalFound b TooFew = numberFound TooFew

@@ -1,9 +1,9 @@
 // The desk: a record is carried out or refused.
 ghost use mathlib.Core.Path.{_≡_};
 ghost use Rattle.book.specs.Facts.{Sound};
-ghost use Rattle.rules.specs.Numbered.{verdictOf};
+ghost use Rattle.rules.specs.Numbered.{verdictOf, givenOf};
 ghost use Rattle.desk.specs.Answers.{refusalIn, givenIn, nobody};
-ghost use Rattle.desk.specs.Steps.{stepOf, nextOf, givenOf, nextRefusal, nextGiven};
+ghost use Rattle.desk.specs.Steps.{stepOf, nextOf, nextRefusal, nextGiven};
 ghost use Rattle.desk.specs.Over.{overDone, overNext};
 ghost use Rattle.desk.specs.Inner.{outcomeBy};
 ghost use Rattle.table.specs.Words.{turned, turnedBack};

@@ -2,3 +2,4 @@ pub mod Places
 pub mod Closing
 pub mod Sliding
 pub mod Passing
+pub mod ClosedUp

@@ -36,7 +36,15 @@ module _ (keep : ℕ → Bool) where
   pub place-lt : (i j : ℕ) → keep i ≡ true → i < j → placeAfter keep i < placeAfter keep j
   place-lt i j e l = omega (arith, place-on i e, place-le (suc i) j (omega arith))
 
-  -- and none moves up
+  -- a lower place is a row's before it
+  pub place-order : (i j : ℕ) → placeAfter keep i < placeAfter keep j → i < j
+  place-order i j l = by (decLt i j)
+    where
+      by : Dec (i < j) → i < j
+      by (yes m) = m
+      by (no m) = absurd (omega (arith, place-le j i (omega arith)))
+
+  -- none moves up
   pub place-most : (i : ℕ) → placeAfter keep i ≤ i
   unfolding placeAfter
   place-most i = omega (arith, sum-most i 1 (λ j. only (keep j) 1) (λ j l. only-most (keep j) 1))
@@ -48,3 +56,22 @@ module _ (keep : ℕ → Bool) where
       by : Dec (a < b) → ⊥
       by (yes m) = omega (arith, place-lt a b ka m)
       by (no m) = omega (arith, place-lt b a kb (omega arith))
+
+-- every place below is a kept row's
+pub record At (keep : ℕ → Bool) (n j : ℕ) : Type 0 where
+  pub row : ℕ
+  pub below : row < n
+  pub kept : keep row ≡ true
+  pub place : placeAfter keep row ≡ j
+
+pub at-place : (keep : ℕ → Bool) (n j : ℕ) → j < placeAfter keep n → At keep n j
+at-place keep zero j l = absurd (omega (arith, place-none keep))
+at-place keep (suc n) j l = by (keep n) refl (decLt j (placeAfter keep n)) (λ m. at-place keep n j m)
+  where
+    up : At keep n j → At keep (suc n) j
+    up a = record { row = a .row; below = omega (arith, a .below); kept = a .kept; place = a .place }
+
+    by : (t : Bool) → keep n ≡ t → Dec (j < placeAfter keep n) → (j < placeAfter keep n → At keep n j) → At keep (suc n) j
+    by t e (yes m) r = up (r m)
+    by true e (no m) r = record { row = n; below = omega arith; kept = e; place = omega (arith, place-on keep n e) }
+    by false e (no m) r = absurd (omega (arith, place-off keep n e))

@@ -12,12 +12,18 @@ pub fn number2(piece: &[u8], place: usize) -> u16
     piece[place] as u16 * 256 + piece[place + 1] as u16
 }
 
+pub fn number4(piece: &[u8], place: usize) -> u32
+    requires { ⌜ place + 4 ≤ length (now piece) ⌝ }
+    ensures { λ r. ⌜ r ≡ number 4 (drop place (now (piece .entry))) ⌝ }
+{
+    number2(piece, place) as u32 * 65536 + number2(piece, place + 2) as u32
+}
+
 pub fn number8(piece: &[u8], place: usize) -> u64
     requires { ⌜ place + 8 ≤ length (now piece) ⌝ }
     ensures { λ r. ⌜ r ≡ number 8 (drop place (now (piece .entry))) ⌝ }
 {
-    (number2(piece, place) as u64 * 281474976710656 + number2(piece, place + 2) as u64 * 4294967296)
-        + (number2(piece, place + 4) as u64 * 65536 + number2(piece, place + 6) as u64)
+    number4(piece, place) as u64 * 4294967296 + number4(piece, place + 4) as u64
 }
 
 pub fn put2(room: &mut [u8], place: usize, x: u16)
@@ -28,7 +34,7 @@ pub fn put2(room: &mut [u8], place: usize, x: u16)
     room[place + 1] = (x % 256) as u8;
 }
 
-fn put4(room: &mut [u8], place: usize, x: u32)
+pub fn put4(room: &mut [u8], place: usize, x: u32)
     requires { ⌜ place + 4 ≤ length (now room) ⌝ }
     ensures { λ _. ⌜ now (room .exit) ≡ sets (now (room .entry)) place (bytesOf 4 x) ⌝ }
 {

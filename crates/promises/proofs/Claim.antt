@@ -4,13 +4,13 @@ use mathlib.Core.List.{List, [], _∷_, _++_, map}
 use mathlib.Core.Path.{_≡_, refl, sym, ap, _∙_}
 use Prim.Native.Nat.{ℕ}
 use lib.Count.{ones, onesIn}
-use Rattle.sums.specs.Sum.{sum, all}
+use Rattle.sums.specs.Sum.{sum, all, any, least}
 use Rattle.sums.specs.Choice.{pick}
 use Rattle.sums.specs.Listed.{listTo}
 use Rattle.sums.specs.Table.{first}
 use Rattle.numbers.specs.Bytes.{number}
 use Rattle.rows.specs.View.{needTM, needCM, need, blocked, deemed}
-use Rattle.rows.specs.Rows.{counted, freshBook, hasLiveClient, needAt, view}
+use Rattle.rows.specs.Rows.{placeAmong, counted, freshBook, hasLiveClient, needAt, view}
 use Rattle.rows.specs.Modes.{useTM, useCM, useOf, modeAfter, looked}
 use Rattle.rows.specs.KeptNeeds.{needsAfresh}
 use Rattle.book.specs.NeedsListed.{allNeeds}
@@ -108,7 +108,7 @@ unfolding casesByTheRules casesQuickly
 same-cases i = map (λ c. same (c .asked) i) cases
 
 computed : casesQuickly ≡ expected
-unfolding casesQuickly quickly counted cases expected quickAll changeBy amended refusalBy first pick sum all needTM needCM need hasLiveClient freshBook faultOf foundAt foundFrom recordOf number got past ones onesIn rowsTo four paid₁ part₂ ownColumn tmColumn cmColumn uncovered fromTM askedOfCM fromCM unpaid looked listTo useOf useTM useCM modeAfter allNeeds needsAfresh madeOf marginRefusal firstFault faultIn rates rateOf sumOf charges chargeOf intradayOf
+unfolding casesQuickly quickly counted cases expected quickAll placeAmong least any changeBy amended refusalBy first pick sum all needTM needCM need hasLiveClient freshBook faultOf foundAt foundFrom recordOf number got past ones onesIn rowsTo four paid₁ part₂ ownColumn tmColumn cmColumn uncovered fromTM askedOfCM fromCM unpaid looked listTo useOf useTM useCM modeAfter allNeeds needsAfresh madeOf marginRefusal firstFault faultIn rates rateOf sumOf charges chargeOf intradayOf
 computed = refl
 
 -- document 01's figures, Annexure 5's, K3's list, K7's tenth, K9's charges and K10's clients, by the rules

@@ -9,7 +9,7 @@ use Prim.Native.Nat.{ℕ, zero, suc, _+_, _≤_, _<_}
 use lib.ListN.{length, getD}
 use Rattle.sums.specs.Choice.{unlessRefused}
 use Rattle.rows.specs.declared.Book.{Book}
-use Rattle.rows.specs.Rows.{rowAt, modeAt, view}
+use Rattle.rows.specs.Rows.{placeOf, rowAt, modeAt, view}
 use Rattle.book.specs.Sound.{soundB}
 use Rattle.book.specs.Asked.{standingRefusals, standingRefusal, noFigures, figuresOf, standingOf}
 use Rattle.book.specs.NeedsListed.{needsRefusals, needsRefusal, allNeeds, needsRoom}
@@ -23,8 +23,8 @@ use Rattle.dayfile.specs.Written.{writerRefusals, writerRefusal, wroteOf, roomA
 use Rattle.dayfile.proofs.Numbers.{found-number, read-number}
 use Rattle.dayfile.proofs.Answers.{wrote-refusal, refused-writer-leaves-room as writer-leaves}
 use Rattle.dayfile.proofs.Places.{cut-at, at-cut}
-use Rattle.rules.specs.Refusals.{refusalOf}
 use Rattle.rules.specs.Effects.{movedOn}
+use Rattle.rules.specs.Numbered.{verdictOf}
 use Rattle.desk.specs.declared.Outcome.the-variants.{Refused, End}
 use Rattle.desk.specs.Answers.{refusalIn, nobody}
 use Rattle.desk.specs.Steps.{stepOf, nextOf}
@@ -42,24 +42,24 @@ use Rattle.promises.specs.InOrder.{InOrder}
 use Rattle.promises.proofs.Exactly.{in-order}
 
 -- The answer to a record names the number of document 01's table (which number, and when: `given-exactly-when` of DemandTwo).
-pub answer-names-the-number : (b : Book) (r : Record) → refusalIn (stepOf b r .answer .outcome) ≡ refusalOf b r
+pub answer-names-the-number : (b : Book) (r : Record) → refusalIn (stepOf b r .answer .outcome) ≡ verdictOf b r
 answer-names-the-number = answer-number
 
 -- That number is 0 to 14, or 17 (K5): 15 and 16 are the writer's and the close-out's.
-pub a-number-of-the-table : (b : Book) (r : Record) → (refusalOf b r ≤ 14) ⊎ (refusalOf b r ≡ 17)
+pub a-number-of-the-table : (b : Book) (r : Record) → (verdictOf b r ≤ 14) ⊎ (verdictOf b r ≡ 17)
 a-number-of-the-table = number-of-table
 
--- A refused record changes no amount and no account.
-pub a-refusal-changes-no-amount : (b : Book) (r : Record) → 0 < refusalOf b r
-    → ((i : ℕ) → rowAt (stepOf b r .book) i ≡ rowAt b i) × (stepOf b r .book .count ≡ b .count)
+-- A refused record changes no amount and no account, and gives no number.
+pub a-refusal-changes-no-amount : (b : Book) (r : Record) → 0 < verdictOf b r
+    → ((i : ℕ) → rowAt (stepOf b r .book) i ≡ rowAt b i) × (stepOf b r .book .count ≡ b .count) × (stepOf b r .book .next ≡ b .next)
 a-refusal-changes-no-amount = refusal-keeps
 
 -- Refusals 1 and 3 change nothing at all.
-pub refusals-up-to-3-change-nothing : (b : Book) (r : Record) → 0 < refusalOf b r → refusalOf b r ≤ 3 → stepOf b r .book ≡ b
+pub refusals-up-to-3-change-nothing : (b : Book) (r : Record) → 0 < verdictOf b r → verdictOf b r ≤ 3 → stepOf b r .book ≡ b
 refusals-up-to-3-change-nothing = early-refusal
 
 -- Refusals 4 to 14 and 17 move the serial on by one and change nothing else.
-pub refusals-from-4-move-the-serial : (b : Book) (r : Record) → 3 < refusalOf b r → stepOf b r .book ≡ movedOn b
+pub refusals-from-4-move-the-serial : (b : Book) (r : Record) → 3 < verdictOf b r → stepOf b r .book ≡ movedOn b
 refusals-from-4-move-the-serial = later-refusal
 
 -- From a place of a file:
@@ -120,7 +120,7 @@ standing-names-the-number = standing-number
 -- A refused standing has all five figures 0, and shows the mode off.
 pub refused-standing-is-zero : (b : Book) (account n : ℕ) → standingRefusal b account ≡ suc n → standingOf b account ≡ noFigures (suc n)
 unfolding standingOf
-refused-standing-is-zero b account n e = ap (λ k. unlessRefused k (figuresOf (view b) (modeAt b account) account) noFigures) e
+refused-standing-is-zero b account n e = ap (λ k. unlessRefused k (figuresOf (view b) (modeAt b (placeOf b account)) (placeOf b account)) noFigures) e
 
 -- The list of needs leaves its room untouched where it refuses.
 pub refused-needs-leave-room : (b : Book) (room : List ℕ) (n : ℕ) → needsRefusal b room ≡ suc n → needsRoom b room ≡ room

@@ -15,7 +15,7 @@ use Rattle.numbers.specs.Bytes.{Bytes}
 use Rattle.rows.specs.declared.Row.{Row}
 use Rattle.rows.specs.declared.Book.{Book}
 use Rattle.rows.specs.View.{View, isTM, isCP, isClientOf, ofClients, members, ownDeemed, deemedTM, needTM, needCM, need, blocked, deemed}
-use Rattle.rows.specs.Rows.{placeOf, rowAt, openedRow, withLive, withReceived, withAllocated, withPledged, withMargin, plusKinds, lessKinds, view}
+use Rattle.rows.specs.Rows.{numberAt, placeOf, rowAt, openedRow, withLive, withReceived, withAllocated, withPledged, withMargin, plusKinds, lessKinds, view}
 use Rattle.rows.specs.KeptNeeds.{settled}
 use Rattle.book.specs.Sound.{soundB}
 use Rattle.rows.proofs.BySort.{need-client, need-CP, need-TM, need-CM, deemed-client, deemed-TM, deemed-CP, client-sort}
@@ -29,15 +29,16 @@ use Rattle.dayfile.specs.Records.{faultOf}
 use Rattle.dayfile.specs.Reading.{foundAt, readAt}
 use Rattle.dayfile.specs.Written.{writtenOf, wroteOf, roomAfter}
 use Rattle.dayfile.proofs.RoundTrip.{read-written, file-reads, reads-once, room-reads, written-read, written-once, read-file}
-use Rattle.rules.specs.Refusals.{namedRow, refusals, refusalOf}
+use Rattle.rules.specs.Refusals.{refusals}
 use Rattle.rules.specs.Effects.{effectOf, changedBy}
+use Rattle.rules.specs.Numbered.{placed, rowNamed, verdictOf}
 use Rattle.rules.proofs.Amending.{by-receive, by-hand-back, by-allocate, by-release, by-pledge, by-unpledge, by-margin, by-retire, by-set-pledged, by-set-margin}
 use Rattle.desk.specs.declared.Outcome.the-variants.{Opened}
 use Rattle.desk.specs.Answers.{carriedIn}
 use Rattle.desk.specs.Steps.{doneBy, stepOf, nextOf}
 use Rattle.desk.proofs.Effect.{given-exactly, exactly-given, carried-exactly, exactly-carried, passed-as}
 use Rattle.desk.proofs.ModesAfter.{carried-book}
-use Rattle.desk.proofs.Lasting.{others-stay, retired-stays, count-stays, opened-next}
+use Rattle.desk.proofs.Lasting.{numbers-stay, others-stay, retired-stays, count-stays, opened-next}
 use Rattle.desk.proofs.Rows.{named-after, new-after, opened-keeps, sort-stays}
 use Rattle.records.specs.Runs.{runOf, ranOf}
 use Rattle.records.specs.LineNumbers.{answersOf, carriedOf}
@@ -100,89 +101,89 @@ module _ (v : View) where
 
 module _ (b : Book) (r : Record) where
   -- Each refusal is given exactly when its test holds and no earlier one does.
-  pub given-exactly-when : (k : ℕ) → 0 < k → (refusalOf b r ≡ k → Given k (refusals b r)) × (Given k (refusals b r) → refusalOf b r ≡ k)
+  pub given-exactly-when : (k : ℕ) → 0 < k → (verdictOf b r ≡ k → Given k (refusals b (placed b r))) × (Given k (refusals b (placed b r)) → verdictOf b r ≡ k)
   given-exactly-when k p = (exactly-given b r k p, given-exactly b r k)
 
   -- A record is carried out exactly when no test holds.
-  pub carried-out-exactly-when : (refusalOf b r ≡ 0 → NoneHolds (refusals b r)) × (NoneHolds (refusals b r) → refusalOf b r ≡ 0)
+  pub carried-out-exactly-when : (verdictOf b r ≡ 0 → NoneHolds (refusals b (placed b r))) × (NoneHolds (refusals b (placed b r)) → verdictOf b r ≡ 0)
   carried-out-exactly-when = (carried-exactly b r, exactly-carried b r)
 
   -- What a record that is carried out does: the row named is put anew or one is opened, the serial moves on, every mode is looked at, and needs are brought
   -- up to date.
-  pub carried-out-does : refusalOf b r ≡ 0 → stepOf b r ≡ doneBy b r (effectOf (namedRow b r) (placeOf b (r .account)) r)
+  pub carried-out-does : verdictOf b r ≡ 0 → stepOf b r ≡ doneBy b r (effectOf (rowNamed b r) (placeOf b (r .account)) (placed b r))
   carried-out-does = passed-as b r
 
   -- It changes one row, the serial, modes and kept needs, no more (and an opening the number of accounts): the book after it is `changedBy`, which says
   -- the row and the serial, with its modes looked at and its needs worked out afresh (`settled`).
-  pub one-row-the-serial-modes-and-needs : refusalOf b r ≡ 0
-      → stepOf b r .book ≡ settled (changedBy b (placeOf b (r .account)) (effectOf (namedRow b r) (placeOf b (r .account)) r))
+  pub one-row-the-serial-modes-and-needs : verdictOf b r ≡ 0
+      → stepOf b r .book ≡ settled (changedBy b (placeOf b (r .account)) (effectOf (rowNamed b r) (placeOf b (r .account)) (placed b r)))
   one-row-the-serial-modes-and-needs = carried-book b r
 
 -- Code by code, what a record that is carried out does. `row` is the row of the account named before it, `after i` is account i's
 -- row then; the row named is the same but for what is said to be put anew.
-module _ (b : Book) (r : Record) (carried : refusalOf b r ≡ 0) where
+module _ (b : Book) (r : Record) (carried : verdictOf b r ≡ 0) where
   abbrev row : Row
-  row = namedRow b r
+  row = rowNamed b r
 
   abbrev after : ℕ → Row
   after = rowAt (stepOf b r .book)
 
   -- 1, open TM: the next number's row is a TM's, live, with all amounts 0 (the account named is 0, the CM).
-  pub opens-a-TM : r .code ≡ 1 → after (b .count) ≡ openedRow 1 (r .account)
-  opens-a-TM e = new-after b r carried (rw e) ∙ ap (λ n. openedRow n (r .account)) e
+  pub opens-a-TM : r .code ≡ 1 → after (b .count) ≡ openedRow 1 (placeOf b (r .account))
+  opens-a-TM e = new-after b r carried (rw e) ∙ ap (λ n. openedRow n (placeOf b (r .account))) e
 
   -- 2, open client: it is a client's, under the TM named, live, with all amounts 0.
-  pub opens-a-client : r .code ≡ 2 → after (b .count) ≡ openedRow 2 (r .account)
-  opens-a-client e = new-after b r carried (rw e) ∙ ap (λ n. openedRow n (r .account)) e
+  pub opens-a-client : r .code ≡ 2 → after (b .count) ≡ openedRow 2 (placeOf b (r .account))
+  opens-a-client e = new-after b r carried (rw e) ∙ ap (λ n. openedRow n (placeOf b (r .account))) e
 
   -- 3, open CP: it is a CP's, live, with all amounts 0 (the account named is 0, the CM).
-  pub opens-a-CP : r .code ≡ 3 → after (b .count) ≡ openedRow 3 (r .account)
-  opens-a-CP e = new-after b r carried (rw e) ∙ ap (λ n. openedRow n (r .account)) e
+  pub opens-a-CP : r .code ≡ 3 → after (b .count) ≡ openedRow 3 (placeOf b (r .account))
+  opens-a-CP e = new-after b r carried (rw e) ∙ ap (λ n. openedRow n (placeOf b (r .account))) e
 
   -- 4, receive: the record's amounts are added to received, kind by kind.
-  pub receive-adds : r .code ≡ 4 → after (r .account) ≡ withReceived row (plusKinds (row .received) (r .kinds))
-  receive-adds e = named-after b r carried (rw e) ∙ by-receive row r e
+  pub receive-adds : r .code ≡ 4 → after (placeOf b (r .account)) ≡ withReceived row (plusKinds (row .received) (r .kinds))
+  receive-adds e = named-after b r carried (rw e) ∙ by-receive row (placed b r) e
 
   -- 5, hand back: they are taken from received, kind by kind.
-  pub hand-back-takes : r .code ≡ 5 → after (r .account) ≡ withReceived row (lessKinds (row .received) (r .kinds))
-  hand-back-takes e = named-after b r carried (rw e) ∙ by-hand-back row r e
+  pub hand-back-takes : r .code ≡ 5 → after (placeOf b (r .account)) ≡ withReceived row (lessKinds (row .received) (r .kinds))
+  hand-back-takes e = named-after b r carried (rw e) ∙ by-hand-back row (placed b r) e
 
   -- 6, allocate: they are added to allocated, kind by kind.
-  pub allocate-adds : r .code ≡ 6 → after (r .account) ≡ withAllocated row (plusKinds (row .allocated) (r .kinds))
-  allocate-adds e = named-after b r carried (rw e) ∙ by-allocate row r e
+  pub allocate-adds : r .code ≡ 6 → after (placeOf b (r .account)) ≡ withAllocated row (plusKinds (row .allocated) (r .kinds))
+  allocate-adds e = named-after b r carried (rw e) ∙ by-allocate row (placed b r) e
 
   -- 7, release: they are taken from allocated, kind by kind.
-  pub release-takes : r .code ≡ 7 → after (r .account) ≡ withAllocated row (lessKinds (row .allocated) (r .kinds))
-  release-takes e = named-after b r carried (rw e) ∙ by-release row r e
+  pub release-takes : r .code ≡ 7 → after (placeOf b (r .account)) ≡ withAllocated row (lessKinds (row .allocated) (r .kinds))
+  release-takes e = named-after b r carried (rw e) ∙ by-release row (placed b r) e
 
   -- 8, pledge: the value is added to pledged.
-  pub pledge-adds : r .code ≡ 8 → after (r .account) ≡ withPledged row (row .pledged + r .pledged)
-  pledge-adds e = named-after b r carried (rw e) ∙ by-pledge row r e
+  pub pledge-adds : r .code ≡ 8 → after (placeOf b (r .account)) ≡ withPledged row (row .pledged + r .pledged)
+  pledge-adds e = named-after b r carried (rw e) ∙ by-pledge row (placed b r) e
 
   -- 9, unpledge: the value is taken from pledged.
-  pub unpledge-takes : r .code ≡ 9 → after (r .account) ≡ withPledged row (row .pledged - r .pledged)
-  unpledge-takes e = named-after b r carried (rw e) ∙ by-unpledge row r e
+  pub unpledge-takes : r .code ≡ 9 → after (placeOf b (r .account)) ≡ withPledged row (row .pledged - r .pledged)
+  unpledge-takes e = named-after b r carried (rw e) ∙ by-unpledge row (placed b r) e
 
   -- 10, set margin: the margin is the record's.
-  pub margin-is-set : r .code ≡ 10 → after (r .account) ≡ withMargin row (r .margin)
-  margin-is-set e = named-after b r carried (rw e) ∙ by-margin row r e
+  pub margin-is-set : r .code ≡ 10 → after (placeOf b (r .account)) ≡ withMargin row (r .margin)
+  margin-is-set e = named-after b r carried (rw e) ∙ by-margin row (placed b r) e
 
   -- 11, retire: the account is no longer live, and the rest of its row stays.
-  pub retire-retires : r .code ≡ 11 → after (r .account) ≡ withLive row false
-  retire-retires e = named-after b r carried (rw e) ∙ by-retire row r e
+  pub retire-retires : r .code ≡ 11 → after (placeOf b (r .account)) ≡ withLive row false
+  retire-retires e = named-after b r carried (rw e) ∙ by-retire row (placed b r) e
 
   -- 12 (K8): pledged is the record's. The whole book after 12 and after 13: PricesMove.
-  pub pledged-is-set : r .code ≡ 12 → after (r .account) ≡ withPledged row (r .pledged)
-  pledged-is-set e = named-after b r carried (rw e) ∙ by-set-pledged row r e
+  pub pledged-is-set : r .code ≡ 12 → after (placeOf b (r .account)) ≡ withPledged row (r .pledged)
+  pledged-is-set e = named-after b r carried (rw e) ∙ by-set-pledged row (placed b r) e
 
   -- 13 (K8): the margin is the record's.
-  pub margin-is-set-anew : r .code ≡ 13 → after (r .account) ≡ withMargin row (r .margin)
-  margin-is-set-anew e = named-after b r carried (rw e) ∙ by-set-margin row r e
+  pub margin-is-set-anew : r .code ≡ 13 → after (placeOf b (r .account)) ≡ withMargin row (r .margin)
+  margin-is-set-anew e = named-after b r carried (rw e) ∙ by-set-margin row (placed b r) e
 
 -- Accounts, their numbers and their rows last.
 module _ (b : Book) (r : Record) where
   -- No other account's row changes.
-  pub others-keep-their-rows : (i : ℕ) → i < b .count → (i ≡ r .account → ⊥) → rowAt (stepOf b r .book) i ≡ rowAt b i
+  pub others-keep-their-rows : (i : ℕ) → i < b .count → (i ≡ placeOf b (r .account) → ⊥) → rowAt (stepOf b r .book) i ≡ rowAt b i
   others-keep-their-rows = others-stay b r
 
   -- No record changes an account's sort, or whose client it is.
@@ -194,19 +195,26 @@ module _ (b : Book) (r : Record) where
   pub retired-keeps-its-row : (i : ℕ) → i < b .count → rowAt b i .live ≡ false → rowAt (stepOf b r .book) i ≡ rowAt b i
   retired-keeps-its-row = retired-stays b r
 
-  -- An opening gives the next number, and the number of accounts goes up by one, ..
-  pub opening-gives-the-next : (n : ℕ) → stepOf b r .answer .outcome ≡ Opened n → (n ≡ b .count) × (stepOf b r .book .count ≡ n + 1)
+  -- K11, "Numbers are kept with their rows": no record changes the number of a row that was there.
+  pub numbers-stay-with-their-rows : (i : ℕ) → i < b .count → numberAt (stepOf b r .book) i ≡ numberAt b i
+  numbers-stay-with-their-rows = numbers-stay b r
+
+  -- An opening gives the next number, which goes up by one, ..
+  pub opening-gives-the-next : (n : ℕ) → stepOf b r .answer .outcome ≡ Opened n → (n ≡ b .next) × (stepOf b r .book .next ≡ n + 1)
   opening-gives-the-next = opened-next b r
 
   -- .. and it changes the row of no account that was there, the one named included.
   pub an-opening-keeps-every-row : (n : ℕ) → stepOf b r .answer .outcome ≡ Opened n → (i : ℕ) → i < b .count → rowAt (stepOf b r .book) i ≡ rowAt b i
   an-opening-keeps-every-row = opened-keeps b r
 
--- No account goes away: whatever records follow, the number of accounts never falls.
-pub no-account-goes-away : (b : Book) (rs : List Record) → b .count ≤ afterAll b rs .count
+-- No account goes away: whatever records follow, neither the number of rows nor the next number ever falls. (What an archiving moves: Archive.)
+pub no-account-goes-away : (b : Book) (rs : List Record) → (b .count ≤ afterAll b rs .count) × (b .next ≤ afterAll b rs .next)
 unfolding afterAll
-no-account-goes-away b [] = omega arith
-no-account-goes-away b (r ∷ rs) = omega (arith, count-stays b r, no-account-goes-away (stepOf b r .book) rs)
+no-account-goes-away b [] = (omega arith, omega arith)
+no-account-goes-away b (r ∷ rs) =
+    let one = count-stays b r in
+    let rest = no-account-goes-away (stepOf b r .book) rs in
+    (omega (arith, one .0, rest .0), omega (arith, one .1, rest .1))
 
 -- Retired is for good: whatever records follow, a retired account's row stays as it was.
 pub retired-for-good : (b : Book) (rs : List Record) (i : ℕ) → i < b .count → rowAt b i .live ≡ false → rowAt (afterAll b rs) i ≡ rowAt b i
@@ -214,13 +222,13 @@ unfolding afterAll
 retired-for-good b [] i l dead = refl
 retired-for-good b (r ∷ rs) i l dead =
     let e = retired-stays b r i l dead in
-    retired-for-good (stepOf b r .book) rs i (omega (arith, count-stays b r)) (ap (λ x. x .live) e ∙ dead) ∙ e
+    retired-for-good (stepOf b r .book) rs i (omega (arith, count-stays b r .0)) (ap (λ x. x .live) e ∙ dead) ∙ e
 
 -- So no number is given twice: whatever records follow an opening, a later opening gives a higher number.
 pub no-number-twice : (b : Book) (r : Record) (n : ℕ) → stepOf b r .answer .outcome ≡ Opened n → (rs : List Record) (q : Record) (m : ℕ)
     → stepOf (afterAll (stepOf b r .book) rs) q .answer .outcome ≡ Opened m → n < m
 no-number-twice b r n e rs q m f =
-    omega (arith, opened-next b r n e .1, no-account-goes-away (stepOf b r .book) rs, opened-next (afterAll (stepOf b r .book) rs) q m f .0)
+    omega (arith, opened-next b r n e .1, no-account-goes-away (stepOf b r .book) rs .1, opened-next (afterAll (stepOf b r .book) rs) q m f .0)
 
 -- Carrying out a piece of the day file: both counts are of the answers to its records, one answer for each record read, ..
 pub counts-are-of-the-answers : (b : Book) (piece : List ℕ) (most : ℕ) → soundB b ≡ true

@@ -18,6 +18,8 @@ pub mod Quick
 pub mod Exactly
 pub mod Positions
 pub mod Claim
+pub mod ArchivedRuns
+pub mod Archive
 pub mod PieceByPiece
 pub mod TwoDays
 pub mod BookFile

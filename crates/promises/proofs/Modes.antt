@@ -16,7 +16,7 @@ use Rattle.sums.proofs.Choices.{test-clash, and-left}
 use Rattle.sums.proofs.Lists.{getD-same}
 use Rattle.rows.specs.declared.Book.{Book}
 use Rattle.rows.specs.View.{View, needTM, needCM, need, deemed}
-use Rattle.rows.specs.Rows.{rowAt, modeAt, view, freshBook, withModes, withNeeds, isLive}
+use Rattle.rows.specs.Rows.{placeOf, rowAt, modeAt, view, freshBook, withModes, withNeeds, isLive}
 use Rattle.rows.specs.Modes.{ownExcess, useTM, excessTM, useCM, useOf, modeAfter, lookAt, looked}
 use Rattle.rows.specs.KeptNeeds.{needsAfresh, settled}
 use Rattle.rows.specs.Inner.{inTenths}
@@ -28,10 +28,11 @@ use Rattle.book.specs.Asked.{standingRefusal, noFigures, figuresOf, standingOf}
 use Rattle.book.proofs.SoundTest.{sound→}
 use Rattle.book.proofs.StandingRefusals.{unsound-refused, dead-refused, standing-number}
 use Rattle.dayfile.specs.declared.Record.{Record}
-use Rattle.rules.specs.Refusals.{namedRow, refusalOf}
+use Rattle.rules.specs.Refusals.{refusalOf}
 use Rattle.rules.specs.Effects.{changeOf, movedOn, bookAfter}
 use Rattle.rules.specs.declared.Change.{Change}
 use Rattle.rules.specs.declared.Change.the-variants.{Refuse, Put, Open}
+use Rattle.rules.specs.Numbered.{placed, rowNamed, verdictOf, actOf}
 use Rattle.rules.proofs.ModesAside.{same-verdict, same-but-17, same-change}
 use Rattle.desk.specs.Answers.{answerOf}
 use Rattle.desk.specs.Steps.{stepOf}
@@ -77,16 +78,16 @@ fresh-book-is-looked-at = refl
 
 module _ (b : Book) (r : Record) where
   -- "It is looked at after every record carried out.": the mode after is told by the figures after the record and the mode before it.
-  pub looked-at-after-every-record : refusalOf b r ≡ 0 → (i : ℕ) → i < 256
+  pub looked-at-after-every-record : verdictOf b r ≡ 0 → (i : ℕ) → i < 256
       → modeAt (stepOf b r .book) i ≡ lookAt (view (stepOf b r .book)) (b .modes) i
   looked-at-after-every-record = mode-after b r
 
   -- A refusal doesn't look: the modes stay.
-  pub a-refusal-changes-no-mode : 0 < refusalOf b r → stepOf b r .book .modes ≡ b .modes
+  pub a-refusal-changes-no-mode : 0 < verdictOf b r → stepOf b r .book .modes ≡ b .modes
   a-refusal-changes-no-mode = modes-stay b r
 
   -- After any record carried out the book has been looked at: a look at its own figures changes nothing.
-  pub then-it-has-been-looked-at : refusalOf b r ≡ 0 → settled (stepOf b r .book) ≡ stepOf b r .book
+  pub then-it-has-been-looked-at : verdictOf b r ≡ 0 → settled (stepOf b r .book) ≡ stepOf b r .book
   then-it-has-been-looked-at = looked-after b r
 
   -- A book that has been looked at is so after every record, refused ones too.
@@ -95,7 +96,7 @@ module _ (b : Book) (r : Record) where
 
   -- "a record may change modes besides its row": where the modes are those that a look leaves, those of the account named, its TM (0, the CM, for any
   -- account but a client) and the CM, and no other.
-  pub no-other-mode-changes : looked (view b) (b .modes) ≡ b .modes → (i : ℕ) → (i ≡ r .account → ⊥) → (i ≡ namedRow b r .tm → ⊥) → (i ≡ 0 → ⊥)
+  pub no-other-mode-changes : looked (view b) (b .modes) ≡ b .modes → (i : ℕ) → (i ≡ placeOf b (r .account) → ⊥) → (i ≡ rowNamed b r .tm → ⊥) → (i ≡ 0 → ⊥)
       → modeAt (stepOf b r .book) i ≡ modeAt b i
   no-other-mode-changes = others-stay-in b r
 
@@ -129,8 +130,8 @@ module _ (b : Book) (modes : List Bool) (s : soundB b ≡ true) (t : soundB (wit
   unfolding standingOf
   same-figures account = rw (standing-refusal account) (by (standingRefusal b account))
     where
-      by : (n : ℕ) → allButMode (unlessRefused n (figuresOf (view b) (getD modes account false) account) noFigures)
-          ≡ allButMode (unlessRefused n (figuresOf (view b) (modeAt b account) account) noFigures)
+      by : (n : ℕ) → allButMode (unlessRefused n (figuresOf (view b) (getD modes (placeOf b account) false) (placeOf b account)) noFigures)
+          ≡ allButMode (unlessRefused n (figuresOf (view b) (modeAt b (placeOf b account)) (placeOf b account)) noFigures)
       by zero = refl
       by (suc n) = refl
 
@@ -141,28 +142,28 @@ module _ (b : Book) (modes : List Bool) (s : soundB b ≡ true) (t : soundB (wit
   same-close-out losses room = (rw (s, t), rw (s, t))
 
   -- .. and each record's refusal, K5's 17 excepted: it is the same where neither is 17, ..
-  pub same-verdict-but-17 : (r : Record) → (refusalOf (withModes b modes) r ≡ 17 → ⊥) → (refusalOf b r ≡ 17 → ⊥) → refusalOf (withModes b modes) r ≡ refusalOf b r
-  same-verdict-but-17 r = same-but-17 b modes (sound→ b s) (sound→ (withModes b modes) t) r
+  pub same-verdict-but-17 : (r : Record) → (verdictOf (withModes b modes) r ≡ 17 → ⊥) → (verdictOf b r ≡ 17 → ⊥) → verdictOf (withModes b modes) r ≡ verdictOf b r
+  same-verdict-but-17 r = same-but-17 b modes (sound→ b s) (sound→ (withModes b modes) t) (placed b r)
 
   -- .. and where the account named has the same mode in both: no other account's is asked for.
-  pub only-the-named-account's-mode : (r : Record) → getD modes (r .account) false ≡ modeAt b (r .account) → refusalOf (withModes b modes) r ≡ refusalOf b r
-  only-the-named-account's-mode r = same-verdict b modes (sound→ b s) (sound→ (withModes b modes) t) r
+  pub only-the-named-account's-mode : (r : Record) → getD modes (placeOf b (r .account)) false ≡ modeAt b (placeOf b (r .account)) → verdictOf (withModes b modes) r ≡ verdictOf b r
+  only-the-named-account's-mode r = same-verdict b modes (sound→ b s) (sound→ (withModes b modes) t) (placed b r)
 
   -- Where the refusal is the same so are the effect and the answer, and the books after the record differ in their modes alone.
-  pub same-but-for-modes : (r : Record) → refusalOf (withModes b modes) r ≡ refusalOf b r
-      → (changeOf (withModes b modes) r ≡ changeOf b r)
+  pub same-but-for-modes : (r : Record) → verdictOf (withModes b modes) r ≡ verdictOf b r
+      → (actOf (withModes b modes) r ≡ actOf b r)
       × (stepOf (withModes b modes) r .answer ≡ stepOf b r .answer)
       × (stepOf (withModes b modes) r .book ≡ withModes (stepOf b r .book) (stepOf (withModes b modes) r .book .modes))
   unfolding stepOf pick
   same-but-for-modes r same =
-      let e = same-change b modes (sound→ b s) (sound→ (withModes b modes) t) r same in
-      (e, ap (answerOf (b .count) r) e, rw e (by (changeOf b r)))
+      let e = same-change b modes (sound→ b s) (sound→ (withModes b modes) t) (placed b r) same in
+      (e, ap (answerOf (b .next) r) e, rw e (by (actOf b r)))
     where
       refusing : (x : Bool) (c : Book) → pick x (withModes b modes) (withModes c modes) ≡ withModes (pick x b c) (pick x (withModes b modes) (withModes c modes) .modes)
       refusing true c = refl
       refusing false c = refl
 
-      by : (c : Change) → bookAfter (withModes b modes) (r .account) c ≡ withModes (bookAfter b (r .account) c) (bookAfter (withModes b modes) (r .account) c .modes)
+      by : (c : Change) → bookAfter (withModes b modes) (placeOf b (r .account)) c ≡ withModes (bookAfter b (placeOf b (r .account)) c) (bookAfter (withModes b modes) (placeOf b (r .account)) c .modes)
       by (Refuse n) = refusing (leb n 3) (movedOn b)
       by (Put x) = refl
       by (Open x) = refl
@@ -187,37 +188,37 @@ any-other-is-off b s i l n gone = by (modeAt b i) refl
 -- "Mode is .. shown in a standing":
 module _ (b : Book) (account : ℕ) where
   -- one that isn't refused shows the account's mode, ..
-  pub a-standing-shows-the-mode : standingOf b account .refusal ≡ 0 → standingOf b account .mode ≡ modeAt b account
+  pub a-standing-shows-the-mode : standingOf b account .refusal ≡ 0 → standingOf b account .mode ≡ modeAt b (placeOf b account)
   unfolding standingOf
   a-standing-shows-the-mode e =
-      ap (λ n. unlessRefused n (figuresOf (view b) (modeAt b account) account) noFigures .mode) (sym (standing-number b account) ∙ e)
+      ap (λ n. unlessRefused n (figuresOf (view b) (modeAt b (placeOf b account)) (placeOf b account)) noFigures .mode) (sym (standing-number b account) ∙ e)
 
   -- .. one that is refused shows off, ..
   pub a-refused-standing-shows-off : 0 < standingOf b account .refusal → standingOf b account .mode ≡ false
   unfolding standingOf
   a-refused-standing-shows-off = by (standingRefusal b account)
     where
-      by : (n : ℕ) → 0 < unlessRefused n (figuresOf (view b) (modeAt b account) account) noFigures .refusal
-          → unlessRefused n (figuresOf (view b) (modeAt b account) account) noFigures .mode ≡ false
+      by : (n : ℕ) → 0 < unlessRefused n (figuresOf (view b) (modeAt b (placeOf b account)) (placeOf b account)) noFigures .refusal
+          → unlessRefused n (figuresOf (view b) (modeAt b (placeOf b account)) (placeOf b account)) noFigures .mode ≡ false
       by zero p = absurd (omega arith)
       by (suc n) p = refl
 
   -- .. and a client's (sort 2) or CP's (sort 3) shows off.
-  pub a-client's-or-CP's-standing-shows-off : (rowAt b account .sort ≡ 2) ⊎ (rowAt b account .sort ≡ 3) → standingOf b account .mode ≡ false
-  a-client's-or-CP's-standing-shows-off c = by (ℕ-discrete (standingOf b account .refusal) 0) (soundB b) refl (isLive b account) refl
+  pub a-client's-or-CP's-standing-shows-off : (rowAt b (placeOf b account) .sort ≡ 2) ⊎ (rowAt b (placeOf b account) .sort ≡ 3) → standingOf b account .mode ≡ false
+  a-client's-or-CP's-standing-shows-off c = by (ℕ-discrete (standingOf b account .refusal) 0) (soundB b) refl (isLive b (placeOf b account)) refl
     where
-      no-TM : (rowAt b account .sort ≡ 2) ⊎ (rowAt b account .sort ≡ 3) → rowAt b account .sort ≡ 1 → ⊥
+      no-TM : (rowAt b (placeOf b account) .sort ≡ 2) ⊎ (rowAt b (placeOf b account) .sort ≡ 3) → rowAt b (placeOf b account) .sort ≡ 1 → ⊥
       no-TM (inl e) q = omega arith
       no-TM (inr e) q = omega arith
 
-      by : Dec (standingOf b account .refusal ≡ 0) → (x : Bool) → soundB b ≡ x → (y : Bool) → isLive b account ≡ y → standingOf b account .mode ≡ false
+      by : Dec (standingOf b account .refusal ≡ 0) → (x : Bool) → soundB b ≡ x → (y : Bool) → isLive b (placeOf b account) ≡ y → standingOf b account .mode ≡ false
       by (no e) x p y q = a-refused-standing-shows-off (omega arith)
       by (yes e) false p y q = absurd (omega (arith, standing-number b account, unsound-refused b account p))
       by (yes e) true p false q = absurd (omega (arith, standing-number b account, dead-refused b account p q))
       by (yes e) true p true q =
           a-standing-shows-the-mode e
-          ∙ any-other-is-off b p account (omega (arith, ltb-true account (b .count) (and-left _ _ q), sound→ b p .most)) (top c) (λ one. absurd (no-TM c one))
+          ∙ any-other-is-off b p (placeOf b account) (omega (arith, ltb-true (placeOf b account) (b .count) (and-left _ _ q), sound→ b p .most)) (top c) (λ one. absurd (no-TM c one))
         where
-          top : (rowAt b account .sort ≡ 2) ⊎ (rowAt b account .sort ≡ 3) → account ≡ 0 → ⊥
+          top : (rowAt b (placeOf b account) .sort ≡ 2) ⊎ (rowAt b (placeOf b account) .sort ≡ 3) → placeOf b account ≡ 0 → ⊥
           top (inl k) z = omega (arith, sound→ b p .shaped .top, ap (λ j. rowAt b j .sort) z)
           top (inr k) z = omega (arith, sound→ b p .shaped .top, ap (λ j. rowAt b j .sort) z)

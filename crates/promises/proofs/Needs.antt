@@ -32,6 +32,7 @@ use Rattle.dayfile.specs.declared.Record.{Record}
 use Rattle.rules.specs.Refusals.{isOpening, namedRow, refusals, refusalOf}
 use Rattle.rules.specs.Effects.{amended, effectOf, movedOn, changedBy, bookAfter}
 use Rattle.rules.specs.declared.Change.the-variants.{Put, Open}
+use Rattle.rules.specs.Numbered.{placed, rowNamed, verdictOf}
 use Rattle.desk.specs.declared.Outcome.the-variants.{Refused}
 use Rattle.desk.specs.Answers.{nobody}
 use Rattle.desk.specs.Steps.{stepOf, nextOf}
@@ -81,13 +82,13 @@ module _ (b : Book) (i : ℕ) (l : i < 256) (wrong : needAt b i ≡ keptNeed (vi
 
   -- .. to a record handed over as values and to one from a place of a file, and as the closing word of a day.
   pub a-wrong-need-refuses-records : (r : Record) (piece : List ℕ) (place most : ℕ)
-      → (refusalOf b r ≡ 1)
+      → (verdictOf b r ≡ 1)
       × (nextOf b piece place ≡ record { answer = nobody (Refused 1); book = b; place = place })
       × (ranOf b piece most ≡ endedWith Unsound b 0 0 0)
   unfolding refusalOf
   a-wrong-need-refuses-records r piece place most =
       let e = a-wrong-need-is-not-sound in
-      (first-here 1 (not (soundB b)) (drop 1 (refusals b r)) (ap not e), sym (unsound-next b piece place e), sym (ran-unsound b piece most e))
+      (first-here 1 (not (soundB b)) (drop 1 (refusals b (placed b r))) (ap not e), sym (unsound-next b piece place e), sym (ran-unsound b piece most e))
 
 -- a book after a look and with needs worked out is another one's but for modes and kept needs
 but-for-both : (c d : Book) → c ≡ settled d → c ≡ withNeeds (withModes d (c .modes)) (c .needs)
@@ -96,28 +97,28 @@ but-for-both c d e = e ∙ sym (ap (λ q. withNeeds (withModes d (q .modes)) (q 
 -- "Keep every TM's and the CM's need beside the rows and bring it up to date":
 module _ (b : Book) (r : Record) where
   -- after a record carried out the kept needs are those worked out afresh, ..
-  pub worked-out-afresh : refusalOf b r ≡ 0 → stepOf b r .book .needs ≡ needsAfresh (view (stepOf b r .book))
+  pub worked-out-afresh : verdictOf b r ≡ 0 → stepOf b r .book .needs ≡ needsAfresh (view (stepOf b r .book))
   worked-out-afresh = needs-after b r
 
   -- .. and a refusal leaves them.
-  pub a-refusal-changes-no-kept-need : 0 < refusalOf b r → stepOf b r .book .needs ≡ b .needs
+  pub a-refusal-changes-no-kept-need : 0 < verdictOf b r → stepOf b r .book .needs ≡ b .needs
   a-refusal-changes-no-kept-need = needs-stay b r
 
   -- "from the one row that changed": of a sound book's those of the account named, its TM (0, the CM, for any account but a client) and the CM
   -- may move, and no other. What the code puts at these three is `steps.Looks.neededSince`; that it is the same, `rules.Moves.put-needs`.
-  pub no-other-need-moves : soundB b ≡ true → (i : ℕ) → i < 256 → (i ≡ r .account → ⊥) → (i ≡ namedRow b r .tm → ⊥) → (i ≡ 0 → ⊥)
+  pub no-other-need-moves : soundB b ≡ true → (i : ℕ) → i < 256 → (i ≡ placeOf b (r .account) → ⊥) → (i ≡ rowNamed b r .tm → ⊥) → (i ≡ 0 → ⊥)
       → needAt (stepOf b r .book) i ≡ needAt b i
   no-other-need-moves s = other-needs-stay b r (sound→ b s)
 
   -- "a record may also change kept needs": a record carried out that is no opening changes one row, the serial, modes and kept needs, no more;
-  pub no-more-than-one-row : refusalOf b r ≡ 0 → isOpening r ≡ false
-      → stepOf b r .book ≡ withNeeds (withModes (movedOn (withRow b (placeOf b (r .account)) (amended (namedRow b r) r))) (stepOf b r .book .modes)) (stepOf b r .book .needs)
+  pub no-more-than-one-row : verdictOf b r ≡ 0 → isOpening r ≡ false
+      → stepOf b r .book ≡ withNeeds (withModes (movedOn (withRow b (placeOf b (r .account)) (amended (rowNamed b r) (placed b r)))) (stepOf b r .book .modes)) (stepOf b r .book .needs)
   no-more-than-one-row e o =
-      but-for-both (stepOf b r .book) (movedOn (withRow b (placeOf b (r .account)) (amended (namedRow b r) r)))
+      but-for-both (stepOf b r .book) (movedOn (withRow b (placeOf b (r .account)) (amended (rowNamed b r) (placed b r))))
       (carried-book b r e ∙ ap (λ c. settled (changedBy b (placeOf b (r .account)) c)) (pick-no (isOpening r) _ _ o))
 
   -- an opening also the number of accounts.
-  pub no-more-than-one-row-opened : refusalOf b r ≡ 0 → isOpening r ≡ true
+  pub no-more-than-one-row-opened : verdictOf b r ≡ 0 → isOpening r ≡ true
       → stepOf b r .book ≡ withNeeds (withModes (movedOn (withNew b (openedRow (r .code) (placeOf b (r .account))))) (stepOf b r .book .modes)) (stepOf b r .book .needs)
   no-more-than-one-row-opened e o =
       but-for-both (stepOf b r .book) (movedOn (withNew b (openedRow (r .code) (placeOf b (r .account)))))
@@ -130,12 +131,12 @@ every-sequence-keeps-them rs = sym (ap (λ b. b .needs) (every-sequence-is-looke
 -- "Other answers stay": only 1 looks at what is kept. With any list in the place of the kept needs the same are ..
 module _ (b : Book) (needs : List ℕ) where
   -- .. the lines of the table for a record after 1, ..
-  pub same-lines-after-1 : (r : Record) → drop 1 (refusals (withNeeds b needs) r) ≡ drop 1 (refusals b r)
+  pub same-lines-after-1 : (r : Record) → drop 1 (refusals (withNeeds b needs) (placed (withNeeds b needs) r)) ≡ drop 1 (refusals b (placed b r))
   unfolding hasLiveClient
   same-lines-after-1 r = refl
 
   -- .. a record's effect, ..
-  pub same-effect : (r : Record) → effectOf (namedRow (withNeeds b needs) r) (placeOf (withNeeds b needs) (r .account)) r ≡ effectOf (namedRow b r) (placeOf b (r .account)) r
+  pub same-effect : (r : Record) → effectOf (rowNamed (withNeeds b needs) r) (placeOf (withNeeds b needs) (r .account)) (placed (withNeeds b needs) r) ≡ effectOf (rowNamed b r) (placeOf b (r .account)) (placed b r)
   same-effect r = refl
 
   -- .. the book after a row is put anew, ..

@@ -10,11 +10,11 @@ use borrow.Author.Tests.{eqb-true}
 use Rattle.sums.proofs.Choices.{and-split, or-split}
 use Rattle.rows.specs.declared.Rule.the-variants.{New}
 use Rattle.rows.specs.declared.Book.{Book}
-use Rattle.rows.specs.Rows.{rowAt, modeAt, collateral}
+use Rattle.rows.specs.Rows.{placeOf, rowAt, modeAt, collateral}
 use Rattle.rows.proofs.Counted.{counted-rises}
 use Rattle.book.proofs.SoundTest.{sound→}
 use Rattle.dayfile.specs.declared.Record.{Record}
-use Rattle.rules.specs.Refusals.{namedRow, refusalOf}
+use Rattle.rules.specs.Numbered.{placed, rowNamed, verdictOf}
 use Rattle.rules.proofs.HeldByMode.{held-by-17, sound-at-17, given-at-17}
 use Rattle.desk.specs.Steps.{stepOf}
 use Rattle.desk.proofs.Lasting.{count-stays}
@@ -24,24 +24,24 @@ use Rattle.promises.specs.Sequences.{afterAll, EachCode, OnBeforeEach, N
 
 -- 17 is given for release (7) and unpledge (9) alone, from the account of the CM (0) or of a live TM (sort 1) whose mode is on before the record; so hand
 -- back never meets it.
-pub seventeen-only-for : (b : Book) (r : Record) → refusalOf b r ≡ 17
-    → ((r .code ≡ 7) ⊎ (r .code ≡ 9)) × (modeAt b (r .account) ≡ true) × ((r .account ≡ 0) ⊎ ((namedRow b r .sort ≡ 1) × (namedRow b r .live ≡ true)))
+pub seventeen-only-for : (b : Book) (r : Record) → verdictOf b r ≡ 17
+    → ((r .code ≡ 7) ⊎ (r .code ≡ 9)) × (modeAt b (placeOf b (r .account)) ≡ true) × ((placeOf b (r .account) ≡ 0) ⊎ ((rowNamed b r .sort ≡ 1) × (rowNamed b r .live ≡ true)))
 seventeen-only-for b r e =
-    let held = and-split (eqb (r .code) 7 || eqb (r .code) 9) (modeAt b (r .account)) (held-by-17 b r e) in
-    (which (or-split (eqb (r .code) 7) (eqb (r .code) 9) (held .0)), held .1, only-a-live-TM-or-the-CM b (sound-at-17 b r e) (r .account) (omega (arith, given-at-17 b r e, sound→ b (sound-at-17 b r e) .most)) (held .1))
+    let held = and-split (eqb (r .code) 7 || eqb (r .code) 9) (modeAt b (placeOf b (r .account))) (held-by-17 b (placed b r) e) in
+    (which (or-split (eqb (r .code) 7) (eqb (r .code) 9) (held .0)), held .1, only-a-live-TM-or-the-CM b (sound-at-17 b (placed b r) e) (placeOf b (r .account)) (omega (arith, given-at-17 b (placed b r) e, sound→ b (sound-at-17 b (placed b r) e) .most)) (held .1))
   where
     which : (eqb (r .code) 7 ≡ true) ⊎ (eqb (r .code) 9 ≡ true) → (r .code ≡ 7) ⊎ (r .code ≡ 9)
     which (inl q) = inl (eqb-true (r .code) 7 q)
     which (inr q) = inr (eqb-true (r .code) 9 q)
 
 -- "Clients' own releases go on: their money isn't the member's.": a record that names a client (sort 2) or a CP (sort 3) never meets 17.
-pub clients'-and-CPs'-never-meet-17 : (b : Book) (r : Record) → (namedRow b r .sort ≡ 2) ⊎ (namedRow b r .sort ≡ 3) → refusalOf b r ≡ 17 → ⊥
+pub clients'-and-CPs'-never-meet-17 : (b : Book) (r : Record) → (rowNamed b r .sort ≡ 2) ⊎ (rowNamed b r .sort ≡ 3) → verdictOf b r ≡ 17 → ⊥
 clients'-and-CPs'-never-meet-17 b r c e = by c (seventeen-only-for b r e .2)
   where
-    top : r .account ≡ 0 → namedRow b r .sort ≡ 0
-    top z = ap (λ i. rowAt b i .sort) z ∙ sound→ b (sound-at-17 b r e) .shaped .top
+    top : placeOf b (r .account) ≡ 0 → rowNamed b r .sort ≡ 0
+    top z = ap (λ i. rowAt b i .sort) z ∙ sound→ b (sound-at-17 b (placed b r) e) .shaped .top
 
-    by : (namedRow b r .sort ≡ 2) ⊎ (namedRow b r .sort ≡ 3) → (r .account ≡ 0) ⊎ ((namedRow b r .sort ≡ 1) × (namedRow b r .live ≡ true)) → ⊥
+    by : (rowNamed b r .sort ≡ 2) ⊎ (rowNamed b r .sort ≡ 3) → (placeOf b (r .account) ≡ 0) ⊎ ((rowNamed b r .sort ≡ 1) × (rowNamed b r .live ≡ true)) → ⊥
     by (inl q) (inl z) = omega (arith, q, top z)
     by (inl q) (inr z) = omega (arith, q, z .0)
     by (inr q) (inl z) = omega (arith, q, top z)

@@ -13,7 +13,8 @@ use Rattle.book.specs.Sound.{soundB}
 use Rattle.book.specs.Facts.{Sound}
 use Rattle.book.proofs.SoundTest.{sound←}
 use Rattle.dayfile.specs.declared.Record.{Record}
-use Rattle.rules.specs.Refusals.{namedRow, besideOf}
+use Rattle.rules.specs.Refusals.{besideOf}
+use Rattle.rules.specs.Numbered.{placed, rowNamed}
 use Rattle.rules.proofs.WhatIsBeside.{IsBeside, changeBy, beside-is, change-beside}
 use Rattle.records.proofs.SoundRun.{step-sound}
 use Rattle.desk.specs.declared.Done.{Done}
@@ -24,11 +25,11 @@ use Rattle.closeout.specs.Closing.{lossAt, noTotal, closeOutRefusals, closeOutR
 use Rattle.promises.specs.Sequences.{afterAll}
 
 abbrev pub quickStep : Book → Record → Done
-quickStep b r = doneBy b r (changeBy (namedRow b r) (b .count) (b .serial) (besideOf b r) r)
+quickStep b r = doneBy b r (changeBy (rowNamed b r) (b .count) (b .next) (b .serial) (besideOf b (placed b r)) (placed b r))
 
 pub quick-step : (b : Book) (r : Record) → Sound b → stepOf b r ≡ quickStep b r
 unfolding stepOf
-quick-step b r s = ap (doneBy b r) (sym (change-beside b s r (besideOf b r) (beside-is b r)))
+quick-step b r s = ap (doneBy b r) (sym (change-beside b s (placed b r) (besideOf b (placed b r)) (beside-is b (placed b r))))
 
 pub all-sound : (b : Book) (rs : List Record) → Sound b → Sound (afterAll b rs)
 unfolding afterAll

@@ -13,6 +13,7 @@ use Rattle.book.specs.Sound.{soundB}
 use Rattle.book.specs.Asked.{shortfall}
 use Rattle.book.proofs.SoundTest.{sound→}
 use Rattle.dayfile.specs.declared.Record.{Record}
+use Rattle.rules.specs.Numbered.{placed}
 use Rattle.rules.proofs.Shortfalls.{record-shortfall}
 use Rattle.desk.specs.Steps.{stepOf}
 use Rattle.desk.proofs.Doing.{unsound-step}
@@ -24,7 +25,7 @@ unfolding stepOf
 only-12-and-13-raise-it b r n₁₂ n₁₃ = by (soundB b) refl
   where
     sound : soundB b ≡ true → shortfall (view (stepOf b r .book)) ≤ shortfall (view b)
-    sound e = record-shortfall b r (sound→ b e) n₁₂ n₁₃
+    sound e = record-shortfall b (placed b r) (sound→ b e) n₁₂ n₁₃
 
     by : (t : Bool) → soundB b ≡ t → shortfall (view (stepOf b r .book)) ≤ shortfall (view b)
     by true e = sound e

@@ -9,6 +9,7 @@ use Rattle.rows.specs.declared.Book.{Book}
 use Rattle.rows.specs.Rows.{view}
 use Rattle.dayfile.specs.declared.Record.{Record}
 use Rattle.rules.specs.Refusals.{needPasses, newMargin, refusals}
+use Rattle.rules.specs.Numbered.{placed}
 
 -- a table with another test at a number
 abbrev pub withTest : ℕ → Bool → List Line → List Line
@@ -17,4 +18,4 @@ withTest n t (l ∷ rest) = (l .number when pick (eqb (l .number) n) t (l .test)
 
 -- as `refusals`, but "13: after the new margin the CM's need would pass its collateral"
 abbrev pub asBefore : Book → Record → List Line
-asBefore b r = withTest 13 (eqb (r .code) 10 && needPasses (view (newMargin b r))) (refusals b r)
+asBefore b r = withTest 13 (eqb (r .code) 10 && needPasses (view (newMargin b (placed b r)))) (refusals b (placed b r))

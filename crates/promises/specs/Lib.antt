@@ -8,3 +8,4 @@ pub mod InOrder
 pub mod PricesMove
 pub mod Standings
 pub mod ReaderSays
+pub mod Archivings

@@ -5,10 +5,11 @@ use mathlib.Core.Path.{_≡_}
 use Prim.Native.Nat.{_≤_}
 use Rattle.sums.specs.Table.{Line, _when_}
 use Rattle.rows.specs.declared.Book.{Book}
-use Rattle.rows.specs.Rows.{isLive}
+use Rattle.rows.specs.Rows.{placeOf, isLive}
 use Rattle.book.specs.Sound.{soundB}
 use Rattle.dayfile.specs.declared.Record.{Record}
-use Rattle.rules.specs.Refusals.{namedRow, before8}
+use Rattle.rules.specs.Refusals.{before8}
+use Rattle.rules.specs.Numbered.{rowNamed}
 
 -- the records that no want of cover refuses
 pub data WhateverTheCover (b : Book) (r : Record) : Type 0 where
@@ -17,8 +18,8 @@ pub data WhateverTheCover (b : Book) (r : Record) : Type 0 where
   -- code 13 (bit 5) sets a margin"
   setsMargin : r .code ≡ 13 → WhateverTheCover b r
   -- "A margin under code 10 that doesn't rise is carried out even while there is a shortfall."
-  doesn'tRise : r .code ≡ 10 → r .margin ≤ namedRow b r .margin → WhateverTheCover b r
+  doesn'tRise : r .code ≡ 10 → r .margin ≤ rowNamed b r .margin → WhateverTheCover b r
 
 -- the table's lines before 8: 1 asks that the kept needs are right, not that they are covered, and 3 to 7 ask for no need and no collateral
 abbrev pub linesBefore8 : Book → Record → List Line
-linesBefore8 b r = (1 when not (soundB b)) ∷ before8 (isLive b (r .account)) (b .serial) r
+linesBefore8 b r = (1 when not (soundB b)) ∷ before8 (isLive b (placeOf b (r .account))) (b .serial) r

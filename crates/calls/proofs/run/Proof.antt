@@ -8,7 +8,7 @@ use Rattle.calls.proofs.run.Statement.{statement}
 use Rattle.calls.proofs.run.Tie as tie
 
 abbrev Inv-loop : tie.InvT-loop
-Inv-loop space₀ room₀ at₀ end₀ ended₀ put₀ answered₀ space room at end ended put answered = (at ≤ end) × (end ≤ length space) × (length space ≡ 262144) × (put ≤ 98304) × (length room ≡ 196608)
+Inv-loop space₀ room₀ at₀ end₀ ended₀ put₀ answered₀ space room at end ended put answered = (at ≤ end) × (end ≤ length space) × (length space ≡ 262144) × (put ≤ 196608) × (length room ≡ 393216)
 
 abbrev μ-loop : tie.MeasureT-loop
 μ-loop space₀ room₀ at₀ end₀ ended₀ put₀ answered₀ space room at end ended put answered = 18446744073709551615 - answered

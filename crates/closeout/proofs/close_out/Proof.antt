@@ -1,18 +1,14 @@
 -- `closeout::close_out` meets its contract.
 use borrow.Author.Tests.{not-true, not-false}
 use mathlib.Core.Bool.{true}
-use mathlib.Core.List.{List, []}
 use mathlib.Core.Path.{_≡_, refl, sym, _∙_}
 use borrow.Author.Needs.{needs}
-use Rattle.table.specs.declared.Table.{Table}
-use Rattle.table.specs.Words.{marksOf, bookFrom, turnedBack}
+use Rattle.table.specs.Words.{marksOf, turnedBack}
 use Rattle.book.specs.Sound.{soundB}
-use Rattle.book.specs.Facts.{Sound}
-use Rattle.book.proofs.Settled.{all-off}
-use Rattle.book.proofs.SoundAfter.{serial-sound}
 use Rattle.book.proofs.SoundTest.{sound→}
 use Rattle.book.proofs.SoundInPlace.{sound-serial}
-use Rattle.closeout.proofs.Answers.{refused-sound, answer-by-refusal, serial-and-modes-aside}
+use Rattle.closeout.proofs.Answers.{refused-sound, answer-by-refusal}
+use Rattle.closeout.proofs.HeldRows.{held-sound, held-same}
 use Rattle.closeout.proofs.close_out.Statement.{statement}
 use Rattle.closeout.proofs.close_out.Tie as tie
 
@@ -21,7 +17,7 @@ table-sound-requires c κs = search needs
 
 -- where the call begins
 abbrev start : tie.After-table-sound → tie.Start
-start c = c .before .before .before .before .before .before .before .before .before .before
+start c = c .before .before .before .before .before .before .before .before .before .before .before
 
 tested : (c : tie.After-table-sound) → c .table-sound .result ≡ soundB (turnedBack (start c .args .t1))
 tested c =
@@ -39,12 +35,8 @@ returns c =
 holds : (c : tie.Else1) → soundB (turnedBack (start (c .before) .args .t1)) ≡ true
 holds c = sym (tested (c .before)) ∙ not-false _ (c .if1 .left)
 
--- it is sound with no mode on, and whatever its serial
-quiet : (t : Table) → Sound (turnedBack t) → Sound (bookFrom (t .count) 0 (marksOf t) (t .amounts) [] (t .needs))
-quiet t s = serial-sound _ 0 (all-off (turnedBack t) s)
-
 close-out-at-requires : tie.Need-close-out-at-requires
-close-out-at-requires c κs = let e = c .before .before .before .before .before .before .before in quiet (start (e .before) .args .t1) (sound→ _ (holds e))
+close-out-at-requires c κs = let e = c .before .before .before .before .before .before .before in held-sound (turnedBack (start (e .before) .args .t1)) (sound→ _ (holds e))
 
 same-length : tie.Need-same-length
 same-length c = search needs
@@ -55,7 +47,7 @@ returns-2 c =
     let e = done .before .before .before .before .before .before .before .before in
     let a = start (e .before) .args in
     let t = a .t1 in
-    let same = serial-and-modes-aside (turnedBack t) 0 [] (a .losses .now) (a .room .now) (holds e) (quiet t (sound→ _ (holds e))) in
+    let same = held-same (turnedBack t) (a .losses .now) (a .room .now) (holds e) in
     (done .close-out-at .ensures .0 ∙ same .0, done .close-out-at .ensures .1 ∙ same .1)
 
 pub close-out-spec : {M : Type 1} → statement M

@@ -1,7 +1,7 @@
 -- `closeout::close_out_at` meets its contract: each test says which refusal is the first.
 use mathlib.Core.Path.{_≡_, refl, sym, _∙_, ap}
 use mathlib.Core.Bool.{true}
-use mathlib.Core.List.{List, []}
+use mathlib.Core.List.{List}
 use Prim.Native.Nat.{ℕ, _*_}
 use native.Mathlib.Omega.{arith}
 use lib.Dec.{eqb}
@@ -10,12 +10,12 @@ use borrow.Author.Tests.{eq-eqb, ne-eqb, not-true, not-false}
 use Rattle.sums.proofs.Sums.{all-eq}
 use Rattle.rows.specs.declared.Book.{Book}
 use Rattle.rows.specs.Rows.{rowAt}
-use Rattle.table.specs.Words.{marksFrom, bookFrom}
+use Rattle.table.specs.Words.{marksFrom}
 use Rattle.table.proofs.Gathered.{row-in}
 use Rattle.book.specs.Sound.{soundB}
 use Rattle.book.proofs.SoundTest.{sound→, sound←}
 use Rattle.closeout.specs.Closing.{lossAt, goodLoss, goodLosses}
-use Rattle.closeout.specs.Inner.{goodIn}
+use Rattle.closeout.specs.Inner.{goodIn, heldBook}
 use Rattle.closeout.proofs.Answers.{refused-losses, refused-room, refused-loss, none-refused, answer-by-refusal, losses-small}
 use borrow.Author.Needs.{needs}
 use Rattle.closeout.proofs.close_out_at.Statement.{statement}
@@ -26,7 +26,7 @@ abbrev In : Type 0
 In = tie.After-slice-known
 
 abbrev Bk : In → Book
-Bk c = let a = c .before .before .args in bookFrom (a .count) 0 (marksFrom (a .sort .now) (a .live .now) (a .tm .now)) (a .w .now) [] (a .needs .now)
+Bk c = let a = c .before .before .args in heldBook (a .count) (marksFrom (a .sort .now) (a .live .now) (a .tm .now)) (a .w .now) (a .needs .now)
 
 abbrev Ls : In → List ℕ
 Ls c = c .before .before .args .losses .now

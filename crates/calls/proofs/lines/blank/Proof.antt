@@ -5,7 +5,7 @@ use Rattle.calls.proofs.lines.blank.Statement.{statement}
 use Rattle.calls.proofs.lines.blank.Tie as tie
 
 returns : tie.Need-returns
-returns c = length-replicate {A = ℕ} 196608 0
+returns c = length-replicate {A = ℕ} 393216 0
 
 pub blank-spec : {M : Type 1} → statement M
 blank-spec = tie.close (tie.spec returns)

@@ -7,7 +7,7 @@ use Rattle.calls.proofs.rooms.numbers.Statement.{statement}
 use Rattle.calls.proofs.rooms.numbers.Tie as tie
 
 abbrev Inv-loop : tie.InvT-loop
-Inv-loop n line₀ i₀ line i = (2 ≤ i) × (i ≤ n + 2) × (length line ≡ 4098)
+Inv-loop n line₀ i₀ line i = (2 ≤ i) × (i ≤ n + 2) × (length line ≡ 4355)
 
 abbrev μ-loop : tie.MeasureT-loop
 μ-loop n line₀ i₀ line i = n + 2 - i

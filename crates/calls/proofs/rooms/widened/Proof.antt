@@ -7,7 +7,7 @@ use Rattle.calls.proofs.rooms.widened.Statement.{statement}
 use Rattle.calls.proofs.rooms.widened.Tie as tie
 
 abbrev Inv-loop : tie.InvT-loop
-Inv-loop n room line₀ i₀ line i = (i ≤ n) × (length line ≡ 4098)
+Inv-loop n room line₀ i₀ line i = (i ≤ n) × (length line ≡ 4355)
 
 abbrev μ-loop : tie.MeasureT-loop
 μ-loop n room line₀ i₀ line i = n - i

@@ -1,6 +1,6 @@
 -- `closeout::pays::fill` meets its contract. The invariant: the pass stands at account i.
 use mathlib.Core.Path.{_≡_, sym, ap, subst, _∙_}
-use mathlib.Core.List.{List, []}
+use mathlib.Core.List.{List}
 use Prim.Native.Nat.{ℕ, _+_, _-_, _≤_, _<_}
 use native.Mathlib.Omega.{arith}
 use lib.ListN.{length, getD, set}
@@ -8,10 +8,10 @@ use borrow.Author.Needs.{needs}
 use Rattle.rows.specs.declared.Row.{Row}
 use Rattle.rows.specs.declared.Book.{Book}
 use Rattle.rows.specs.Rows.{rowAt, accountOf}
-use Rattle.table.specs.Words.{marksFrom, bookFrom}
+use Rattle.table.specs.Words.{marksFrom}
 use Rattle.table.proofs.Gathered.{row-in}
 use Rattle.closeout.specs.declared.pays.Both.{Both}
-use Rattle.closeout.specs.Inner.{roundsBy, afterOwn, Checked}
+use Rattle.closeout.specs.Inner.{roundsBy, afterOwn, heldBook, Checked}
 use Rattle.closeout.proofs.DeemedUnder.{need-kept, under-kept}
 use Rattle.closeout.proofs.Pass.{Passed, pass-start, pass-finish, sum-fits, tm-has, tm-has₂, cm-has, cm-has₂, named-low, pass-turn}
 use Rattle.closeout.proofs.pays.fill.Statement.{statement}
@@ -19,7 +19,7 @@ use Rattle.closeout.proofs.pays.fill.Tie as tie
 
 abbrev Inv-loop : tie.InvT-loop
 Inv-loop sort live tm w needs count losses room₀ left₀ free₀ cm₀ cm-free₀ uncovered₀ n i₀ room left free cm cm-free unpaid i =
-    Passed (bookFrom count 0 (marksFrom sort live tm) w [] needs) losses room₀ room left free cm cm-free unpaid i × (i ≤ count)
+    Passed (heldBook count (marksFrom sort live tm) w needs) losses room₀ room left free cm cm-free unpaid i × (i ≤ count)
 
 abbrev μ-loop : tie.MeasureT-loop
 μ-loop sort live tm w needs count losses room₀ left₀ free₀ cm₀ cm-free₀ uncovered₀ n i₀ room left free cm cm-free unpaid i =
@@ -34,7 +34,7 @@ called c = c .before .before .before .before .before .before .before .before .be
 
 -- the book that the arrays are, as far as the pass looks at it
 abbrev bookOf : tie.Start Inv-loop μ-loop → Book
-bookOf s = let a = s .args in bookFrom (a .count) 0 (marksFrom (a .sort .now) (a .live .now) (a .tm .now)) (a .w .now) [] (a .needs .now)
+bookOf s = let a = s .args in heldBook (a .count) (marksFrom (a .sort .now) (a .live .now) (a .tm .now)) (a .w .now) (a .needs .now)
 
 abbrev Bk : Turn → Book
 Bk c = bookOf (called c)

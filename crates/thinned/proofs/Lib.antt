@@ -1,0 +1,15 @@
+pub mod KeptSums
+pub mod Dropped
+pub mod DroppedPut
+pub mod Thinned
+pub mod Verdicts
+pub mod Putting
+pub mod Looking
+pub mod Steps
+pub mod Archived
+pub mod Numbers
+pub mod Answers
+pub mod Standings
+pub mod Accounts
+pub mod NeverTwice
+pub mod Archive
