@@ -1,9 +1,8 @@
--- `bookfile::reading::is_marked` meets its contract.
-use mathlib.Core.Path.{refl}
+-- `bookfile::tested::is_marked` meets its contract.
 use Rattle.sums.specs.Sum.{all}
 use borrow.Author.Needs.{needs}
-use Rattle.bookfile.proofs.reading.is_marked.Statement.{statement}
-use Rattle.bookfile.proofs.reading.is_marked.Tie as tie
+use Rattle.bookfile.proofs.tested.is_marked.Statement.{statement}
+use Rattle.bookfile.proofs.tested.is_marked.Tie as tie
 
 shared-slice-read-result : tie.Need-shared-slice-read-result
 shared-slice-read-result c = search needs
@@ -17,9 +16,12 @@ shared-slice-read-result-3 c = search needs
 shared-slice-read-result-4 : tie.Need-shared-slice-read-result-4
 shared-slice-read-result-4 c = search needs
 
+version-byte-requires : tie.Need-version-byte-requires
+version-byte-requires c κs = search needs
+
 returns : tie.Need-returns
 unfolding all
-returns c = refl
+returns c = rw (c .version-byte .ensures)
 
 pub is-marked-spec : {M : Type 1} → statement M
 is-marked-spec =
@@ -29,4 +31,5 @@ is-marked-spec =
     shared-slice-read-result-2
     shared-slice-read-result-3
     shared-slice-read-result-4
+    version-byte-requires
     returns)

@@ -1,21 +1,25 @@
--- `bookfile::reading::needs` meets its contract.
-use Prim.Native.Nat.{_+_, _-_}
+-- `bookfile::listed::amounts` meets its contract.
+use mathlib.Core.Path.{ap, _∙_}
+use Prim.Native.Nat.{_+_, _-_, _*_, _/_, _%_}
 use native.Mathlib.Omega.{arith}
 use lib.ListN.{drop}
 use Rattle.numbers.specs.Bytes.{number}
-use Rattle.bookfile.specs.Reading.{placeAt}
+use Rattle.bookfile.specs.Versions.{sortAt}
 use Rattle.bookfile.proofs.Filling.{Filled, filled-none, filled-more, filled-all}
-use Rattle.bookfile.proofs.reading.needs.Statement.{statement}
-use Rattle.bookfile.proofs.reading.needs.Tie as tie
+use Rattle.bookfile.proofs.listed.amounts.Statement.{statement}
+use Rattle.bookfile.proofs.listed.amounts.Tie as tie
 
 abbrev Inv-loop : tie.InvT-loop
-Inv-loop piece list₀ i₀ list i = Filled (λ j. number 8 (drop (placeAt j + 85) piece)) 0 256 list i
+Inv-loop v piece list₀ n₀ list n = Filled (λ j. number 8 (drop (sortAt v (j % 256) + (4 + 8 * (j / 256))) piece)) 0 2560 list n
 
 abbrev μ-loop : tie.MeasureT-loop
-μ-loop piece list₀ i₀ list i = 256 - i
+μ-loop v piece list₀ n₀ list n = 2560 - n
 
 loop-holds : tie.Need-loop-holds Inv-loop μ-loop
-loop-holds c = filled-none _ 0 256
+loop-holds c = filled-none _ 0 2560
+
+sort-at-requires : tie.Need-sort-at-requires Inv-loop μ-loop
+sort-at-requires c κs = omega arith
 
 mul-number8 : tie.Need-mul-number8 Inv-loop μ-loop
 mul-number8 c = omega arith
@@ -35,32 +39,35 @@ mul-list c = omega arith
 array-write-list : tie.Need-array-write-list Inv-loop μ-loop
 array-write-list c = omega arith
 
-add-i : tie.Need-add-i Inv-loop μ-loop
-add-i c = omega arith
+add-n : tie.Need-add-n Inv-loop μ-loop
+add-n c = omega arith
 
 loop-less : tie.Need-loop-less Inv-loop μ-loop
 loop-less c = omega arith
 
 loop-again : tie.Need-loop-again Inv-loop μ-loop
-loop-again c = filled-more _ 0 256 _ _ _ (c .before .before .loop .inv) (omega arith) (c .number8 .ensures)
+loop-again c =
+    let piece = c .before .before .before .before .before .args .piece .now in
+    filled-more _ 0 2560 _ _ _ (c .before .before .before .loop .inv) (omega arith) (c .number8 .ensures ∙ ap (λ k. number 8 (drop (k + (4 + 8 * (c .before .before .before .loop .n / 256))) piece)) (c .before .sort-at .ensures .0))
 
 returns : tie.Need-returns Inv-loop μ-loop
-returns c = filled-all _ 0 256 _ _ (c .before .loop .inv) (c .loop-test .left)
+returns c = filled-all _ 0 2560 _ _ (c .before .loop .inv) (c .loop-test .left)
 
-pub needs-spec : {M : Type 1} → statement M
-needs-spec =
+pub amounts-spec : {M : Type 1} → statement M
+amounts-spec =
     tie.close
     (tie.spec
     Inv-loop
     μ-loop
     loop-holds
+    sort-at-requires
     mul-number8
     add-number8
     add-number8-2
     number8-requires
     mul-list
     array-write-list
-    add-i
+    add-n
     loop-less
     loop-again
     returns)

@@ -1,30 +1,28 @@
--- `bookfile::reading::tms` meets its contract.
+-- `bookfile::listed::tms` meets its contract.
+use mathlib.Core.Path.{ap, _∙_}
 use Prim.Native.Nat.{_+_, _-_}
 use native.Mathlib.Omega.{arith}
 use lib.ListN.{drop}
 use Rattle.numbers.specs.Bytes.{number}
-use Rattle.bookfile.specs.Reading.{placeAt}
+use Rattle.bookfile.specs.Versions.{sortAt}
 use Rattle.bookfile.proofs.Filling.{Filled, filled-none, filled-more, filled-all}
-use Rattle.bookfile.proofs.reading.tms.Statement.{statement}
-use Rattle.bookfile.proofs.reading.tms.Tie as tie
+use Rattle.bookfile.proofs.listed.tms.Statement.{statement}
+use Rattle.bookfile.proofs.listed.tms.Tie as tie
 
 abbrev Inv-loop : tie.InvT-loop
-Inv-loop piece list₀ i₀ list i = Filled (λ j. number 2 (drop (placeAt j + 2) piece)) 0 256 list i
+Inv-loop v piece list₀ i₀ list i = Filled (λ j. number 2 (drop (sortAt v j + 2) piece)) 0 256 list i
 
 abbrev μ-loop : tie.MeasureT-loop
-μ-loop piece list₀ i₀ list i = 256 - i
+μ-loop v piece list₀ i₀ list i = 256 - i
 
 loop-holds : tie.Need-loop-holds Inv-loop μ-loop
 loop-holds c = filled-none _ 0 256
 
-mul-number2 : tie.Need-mul-number2 Inv-loop μ-loop
-mul-number2 c = omega arith
+sort-at-requires : tie.Need-sort-at-requires Inv-loop μ-loop
+sort-at-requires c κs = omega arith
 
 add-number2 : tie.Need-add-number2 Inv-loop μ-loop
 add-number2 c = omega arith
-
-add-number2-2 : tie.Need-add-number2-2 Inv-loop μ-loop
-add-number2-2 c = omega arith
 
 number2-requires : tie.Need-number2-requires Inv-loop μ-loop
 number2-requires c κs = omega arith
@@ -42,7 +40,9 @@ loop-less : tie.Need-loop-less Inv-loop μ-loop
 loop-less c = omega arith
 
 loop-again : tie.Need-loop-again Inv-loop μ-loop
-loop-again c = filled-more _ 0 256 _ _ _ (c .before .before .loop .inv) (omega arith) (c .number2 .ensures)
+loop-again c =
+    let piece = c .before .before .before .before .before .args .piece .now in
+    filled-more _ 0 256 _ _ _ (c .before .before .before .loop .inv) (omega arith) (c .number2 .ensures ∙ ap (λ k. number 2 (drop (k + 2) piece)) (c .before .sort-at .ensures .0))
 
 returns : tie.Need-returns Inv-loop μ-loop
 returns c = filled-all _ 0 256 _ _ (c .before .loop .inv) (c .loop-test .left)
@@ -54,9 +54,8 @@ tms-spec =
     Inv-loop
     μ-loop
     loop-holds
-    mul-number2
+    sort-at-requires
     add-number2
-    add-number2-2
     number2-requires
     mul-list
     array-write-list

@@ -1,30 +1,28 @@
--- `bookfile::reading::yeses` meets its contract.
+-- `bookfile::listed::yeses` meets its contract.
 use mathlib.Core.Bool.{false}
-use mathlib.Core.Path.{refl}
+use mathlib.Core.Path.{ap}
 use Prim.Native.Nat.{_+_, _-_}
 use native.Mathlib.Omega.{arith}
-use Rattle.bookfile.specs.Reading.{placeAt, yesAt}
+use Rattle.bookfile.specs.Versions.{sortAt}
+use Rattle.bookfile.specs.Reading.{yesAt}
 use Rattle.bookfile.proofs.Filling.{Filled, filled-none, filled-more, filled-all}
-use Rattle.bookfile.proofs.reading.yeses.Statement.{statement}
-use Rattle.bookfile.proofs.reading.yeses.Tie as tie
+use Rattle.bookfile.proofs.listed.yeses.Statement.{statement}
+use Rattle.bookfile.proofs.listed.yeses.Tie as tie
 
 abbrev Inv-loop : tie.InvT-loop
-Inv-loop piece offset list₀ i₀ list i = Filled (λ j. yesAt piece (placeAt j + offset)) false 256 list i
+Inv-loop v piece offset list₀ i₀ list i = Filled (λ j. yesAt piece (sortAt v j + offset)) false 256 list i
 
 abbrev μ-loop : tie.MeasureT-loop
-μ-loop piece offset list₀ i₀ list i = 256 - i
+μ-loop v piece offset list₀ i₀ list i = 256 - i
 
 loop-holds : tie.Need-loop-holds Inv-loop μ-loop
 loop-holds c = filled-none _ false 256
 
-mul-list : tie.Need-mul-list Inv-loop μ-loop
-mul-list c = omega arith
+sort-at-requires : tie.Need-sort-at-requires Inv-loop μ-loop
+sort-at-requires c κs = omega arith
 
 add-list : tie.Need-add-list Inv-loop μ-loop
 add-list c = omega arith
-
-add-list-2 : tie.Need-add-list-2 Inv-loop μ-loop
-add-list-2 c = omega arith
 
 shared-slice-read-list : tie.Need-shared-slice-read-list Inv-loop μ-loop
 shared-slice-read-list c = omega arith
@@ -39,7 +37,9 @@ loop-less : tie.Need-loop-less Inv-loop μ-loop
 loop-less c = omega arith
 
 loop-again : tie.Need-loop-again Inv-loop μ-loop
-loop-again c = filled-more _ false 256 _ _ _ (c .before .before .loop .inv) (omega arith) refl
+loop-again c =
+    let piece = c .before .before .before .before .before .args .piece .now in
+    filled-more _ false 256 _ _ _ (c .before .before .before .loop .inv) (omega arith) (ap (λ k. yesAt piece (k + c .before .before .before .before .before .args .offset)) (c .before .sort-at .ensures .0))
 
 returns : tie.Need-returns Inv-loop μ-loop
 returns c = filled-all _ false 256 _ _ (c .before .loop .inv) (c .loop-test .left)
@@ -51,9 +51,8 @@ yeses-spec =
     Inv-loop
     μ-loop
     loop-holds
-    mul-list
+    sort-at-requires
     add-list
-    add-list-2
     shared-slice-read-list
     array-write-list
     add-i
