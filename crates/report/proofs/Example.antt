@@ -1,4 +1,4 @@
--- Lines byte by byte: `2 client live 1 3 6 3 3 0 off 0`, `1 tm live 0 3 6 3 3 0 on 0`, `0 cm live 0 3 7 3 4 0 off 4`, `3 9`, `total 7` and `refused 1`.
+-- Lines byte by byte: `7 client live 5 3 6 3 3 0 off 0`, whose TM is at place 1, `1 tm live 0 3 6 3 3 0 on 0`, `0 cm live 0 3 7 3 4 0 off 4`, `3 9`, `total 7` and `refused 1`.
 use mathlib.Core.Bool.{true, false}
 use mathlib.Core.List.{[], _∷_}
 use mathlib.Core.Path.{_≡_}
@@ -8,25 +8,25 @@ use Rattle.text.specs.Numbers.{spaced, andSpaces}
 use Rattle.text.proofs.Digits.{decimal-one}
 use Rattle.report.specs.Reports.{standingLine, needLine, totalWord, refusedWord, wordLine}
 
-pub client-line : standingLine 2 (openedRow 2 1) (record { refusal = 0; collateral = 3; need = 6; blocked = 3; deemed = 3; free = 0; mode = false; shortfall = 0 })
-    ≡ 50 ∷ 32 ∷ 99 ∷ 108 ∷ 105 ∷ 101 ∷ 110 ∷ 116 ∷ 32 ∷ 108 ∷ 105 ∷ 118 ∷ 101 ∷ 32 ∷ 49 ∷ 32 ∷ 51 ∷ 32 ∷ 54 ∷ 32 ∷ 51 ∷ 32 ∷ 51 ∷ 32 ∷ 48 ∷ 32 ∷ 111 ∷ 102 ∷ 102 ∷ 32 ∷ 48 ∷ 10 ∷ []
+pub client-line : standingLine 7 (openedRow 2 1) 5 (record { refusal = 0; collateral = 3; need = 6; blocked = 3; deemed = 3; free = 0; mode = false; shortfall = 0 })
+    ≡ 55 ∷ 32 ∷ 99 ∷ 108 ∷ 105 ∷ 101 ∷ 110 ∷ 116 ∷ 32 ∷ 108 ∷ 105 ∷ 118 ∷ 101 ∷ 32 ∷ 53 ∷ 32 ∷ 51 ∷ 32 ∷ 54 ∷ 32 ∷ 51 ∷ 32 ∷ 51 ∷ 32 ∷ 48 ∷ 32 ∷ 111 ∷ 102 ∷ 102 ∷ 32 ∷ 48 ∷ 10 ∷ []
 unfolding standingLine andSpaces
 client-line =
     rw (
-      decimal-one 2 (omega arith),
-      decimal-one 1 (omega arith),
+      decimal-one 7 (omega arith),
+      decimal-one 5 (omega arith),
       decimal-one 3 (omega arith),
       decimal-one 6 (omega arith),
       decimal-one 0 (omega arith),
     )
 
-pub warned-line : standingLine 1 (openedRow 1 0) (record { refusal = 0; collateral = 3; need = 6; blocked = 3; deemed = 3; free = 0; mode = true; shortfall = 0 })
+pub warned-line : standingLine 1 (openedRow 1 0) 0 (record { refusal = 0; collateral = 3; need = 6; blocked = 3; deemed = 3; free = 0; mode = true; shortfall = 0 })
     ≡ 49 ∷ 32 ∷ 116 ∷ 109 ∷ 32 ∷ 108 ∷ 105 ∷ 118 ∷ 101 ∷ 32 ∷ 48 ∷ 32 ∷ 51 ∷ 32 ∷ 54 ∷ 32 ∷ 51 ∷ 32 ∷ 51 ∷ 32 ∷ 48 ∷ 32 ∷ 111 ∷ 110 ∷ 32 ∷ 48 ∷ 10 ∷ []
 unfolding standingLine andSpaces
 warned-line =
     rw (decimal-one 1 (omega arith), decimal-one 0 (omega arith), decimal-one 3 (omega arith), decimal-one 6 (omega arith))
 
-pub short-line : standingLine 0 (openedRow 0 0) (record { refusal = 0; collateral = 3; need = 7; blocked = 3; deemed = 4; free = 0; mode = false; shortfall = 4 })
+pub short-line : standingLine 0 (openedRow 0 0) 0 (record { refusal = 0; collateral = 3; need = 7; blocked = 3; deemed = 4; free = 0; mode = false; shortfall = 4 })
     ≡ 48 ∷ 32 ∷ 99 ∷ 109 ∷ 32 ∷ 108 ∷ 105 ∷ 118 ∷ 101 ∷ 32 ∷ 48 ∷ 32 ∷ 51 ∷ 32 ∷ 55 ∷ 32 ∷ 51 ∷ 32 ∷ 52 ∷ 32 ∷ 48 ∷ 32 ∷ 111 ∷ 102 ∷ 102 ∷ 32 ∷ 52 ∷ 10 ∷ []
 unfolding standingLine andSpaces
 short-line =

@@ -1,3 +1,4 @@
+pub mod SameText
 pub mod Listed
 pub mod NeedLines
 pub mod Example

@@ -10,7 +10,7 @@ use Rattle.sums.proofs.Choices.{pick-yes, pick-no}
 use Rattle.sums.proofs.Lists.{length-listTo, at-listTo}
 use Rattle.rows.specs.declared.Book.{Book}
 use Rattle.rows.specs.View.{need}
-use Rattle.rows.specs.Rows.{view}
+use Rattle.rows.specs.Rows.{numberAt, view}
 use Rattle.book.specs.Sound.{soundB}
 use Rattle.book.specs.NeedsListed.{needsRefusal, needsRoom, allNeeds}
 use Rattle.book.proofs.SoundTest.{sound→}
@@ -18,20 +18,20 @@ use Rattle.book.proofs.NeedsAnswers.{needs-unsound, needs-given}
 use Rattle.report.specs.Reports.{accounts, needLines, needsText}
 
 -- the same needs give the same lines
-lines-as : (f g : ℕ → ℕ) (n : ℕ) → ((i : ℕ) → i < n → f i ≡ g i) → needLines f n ≡ needLines g n
+lines-as : (numbers f g : ℕ → ℕ) (n : ℕ) → ((i : ℕ) → i < n → f i ≡ g i) → needLines numbers f n ≡ needLines numbers g n
 unfolding needLines
-lines-as f g zero h = refl
-lines-as f g (suc n) h = let e = lines-as f g n (λ i l. h i (omega arith)) in let q = h n (omega arith) in rw (e, q)
+lines-as numbers f g zero h = refl
+lines-as numbers f g (suc n) h = let e = lines-as numbers f g n (λ i l. h i (omega arith)) in let q = h n (omega arith) in rw (e, q)
 
 -- by the list of all needs
-lines-listed : (f : ℕ → ℕ) (n : ℕ) → needLines (λ (i : ℕ). getD (listTo f n) i 0) (length (listTo f n)) ≡ needLines f n
-lines-listed f n = ap (needLines (λ (i : ℕ). getD (listTo f n) i 0)) (length-listTo f n) ∙ lines-as _ f n (λ i l. at-listTo f n i 0 l)
+lines-listed : (numbers f : ℕ → ℕ) (n : ℕ) → needLines numbers (λ (i : ℕ). getD (listTo f n) i 0) (length (listTo f n)) ≡ needLines numbers f n
+lines-listed numbers f n = ap (needLines numbers (λ (i : ℕ). getD (listTo f n) i 0)) (length-listTo f n) ∙ lines-as numbers _ f n (λ i l. at-listTo f n i 0 l)
 
 pub no-line : (b : Book) → soundB b ≡ false → needsText b ≡ []
 unfolding needsText
 no-line b e = pick-no (soundB b) _ _ e
 
-pub every-line : (b : Book) → soundB b ≡ true → needsText b ≡ needLines (need (view b)) (b .count)
+pub every-line : (b : Book) → soundB b ≡ true → needsText b ≡ needLines (numberAt b) (need (view b)) (b .count)
 unfolding needsText
 every-line b e = pick-yes (soundB b) _ _ e
 
@@ -49,10 +49,10 @@ module _ (b : Book) (room : List ℕ) (l : length room ≡ accounts (b .count)) 
       by false e = no-line b e
 
   -- otherwise the lines are by the room after the call
-  pub given-text : needsRefusal b room ≡ 0 → needLines (λ (i : ℕ). getD (needsRoom b room) i 0) (length (needsRoom b room)) ≡ needsText b
+  pub given-text : needsRefusal b room ≡ 0 → needLines (numberAt b) (λ (i : ℕ). getD (needsRoom b room) i 0) (length (needsRoom b room)) ≡ needsText b
   unfolding needsRoom allNeeds
   given-text h = by (soundB b) refl
     where
-      by : (t : Bool) → soundB b ≡ t → needLines (λ (i : ℕ). getD (needsRoom b room) i 0) (length (needsRoom b room)) ≡ needsText b
-      by true e = rw h (lines-listed (need (view b)) (b .count) ∙ sym (every-line b e))
+      by : (t : Bool) → soundB b ≡ t → needLines (numberAt b) (λ (i : ℕ). getD (needsRoom b room) i 0) (length (needsRoom b room)) ≡ needsText b
+      by true e = rw h (lines-listed (numberAt b) (need (view b)) (b .count) ∙ sym (every-line b e))
       by false e = absurd (omega (arith, h, needs-unsound b room e))

@@ -8,14 +8,14 @@ use Rattle.sums.specs.Choice.{pick}
 use Rattle.rows.specs.declared.Row.{Row}
 use Rattle.rows.specs.declared.Book.{Book}
 use Rattle.rows.specs.View.{need}
-use Rattle.rows.specs.Rows.{rowAt, view}
+use Rattle.rows.specs.Rows.{rowAt, numberAt, view}
 use Rattle.book.specs.declared.Figures.{Figures}
 use Rattle.book.specs.Sound.{soundB}
 use Rattle.book.specs.Asked.{standingOf}
 use Rattle.text.specs.Numbers.{space, newline, followed, spaced, andSpaces}
 use Rattle.text.specs.Words.{andSpace}
 
--- "A book holds at most 256 accounts, numbered from 0": a count beyond that names no further one
+-- "A book holds at most 256 accounts": a count beyond that names no further row
 abbrev pub accounts : ℕ → ℕ
 accounts count = min count 256
 
@@ -36,22 +36,26 @@ abbrev pub modeWord : Bool → List ℕ
 modeWord true = 111 ∷ 110 ∷ []  -- o n
 modeWord false = 111 ∷ 102 ∷ 102 ∷ []  -- o f f
 
--- its TM or 0, the five figures
-abbrev pub numbersOf : Row → Figures → List ℕ
-numbersOf row f = row .tm ∷ f .collateral ∷ f .need ∷ f .blocked ∷ f .deemed ∷ f .free ∷ []
+-- its TM's number or 0, the five figures
+abbrev pub numbersOf : ℕ → Figures → List ℕ
+numbersOf tm f = tm ∷ f .collateral ∷ f .need ∷ f .blocked ∷ f .deemed ∷ f .free ∷ []
 
 -- a line per account: number, `cm`/`tm`/`client`/`cp`, `live`/`retired`, its TM or 0, the five figures, `on`/`off`;
 -- document 02, K8: the shortfall "is shown in a standing of account 0", behind them as one more number
-unfoldable pub standingLine : ℕ → Row → Figures → List ℕ
-standingLine i row f =
-    followed i space
+unfoldable pub standingLine : ℕ → Row → ℕ → Figures → List ℕ
+standingLine number row tm f =
+    followed number space
     ++ (andSpace (sortWord (row .sort))
-    ++ (andSpace (stateWord (row .live)) ++ (andSpaces (numbersOf row f) ++ (andSpace (modeWord (f .mode)) ++ followed (f .shortfall) newline))))
+    ++ (andSpace (stateWord (row .live)) ++ (andSpaces (numbersOf tm f) ++ (andSpace (modeWord (f .mode)) ++ followed (f .shortfall) newline))))
 
--- the lines of the accounts below n, in rising number
+-- document 02, K11: the line of the row at place i, by its number and its TM's; the TM word of a row that is no client is 0, as is the number there
+unfoldable pub lineAt : Book → ℕ → List ℕ
+lineAt b i = standingLine (numberAt b i) (rowAt b i) (numberAt b (rowAt b i .tm)) (standingOf b (numberAt b i))
+
+-- the lines of the first n rows, in rising number
 unfoldable pub standingLines : Book → ℕ → List ℕ
 standingLines b zero = []
-standingLines b (suc n) = standingLines b n ++ standingLine n (rowAt b n) (standingOf b n)
+standingLines b (suc n) = standingLines b n ++ lineAt b n
 
 -- `standings`: the closing line, then a line per account
 unfoldable pub standingsText : Book → List ℕ
@@ -59,26 +63,26 @@ standingsText b = standingLines b (accounts (b .count))
 
 -- a line per account: number, need
 abbrev pub needLine : ℕ → ℕ → List ℕ
-needLine i n = spaced (i ∷ n ∷ [])
+needLine number n = spaced (number ∷ n ∷ [])
 
--- the lines of the accounts below n, in rising number; needs has each one's need
-unfoldable pub needLines : (ℕ → ℕ) → ℕ → List ℕ
-needLines needs zero = []
-needLines needs (suc n) = needLines needs n ++ needLine n (needs n)
+-- the lines of the first n rows, in rising number: each one's number and need
+unfoldable pub needLines : (ℕ → ℕ) → (ℕ → ℕ) → ℕ → List ℕ
+needLines numbers needs zero = []
+needLines numbers needs (suc n) = needLines numbers needs n ++ needLine (numbers n) (needs n)
 
 -- document 02, K3: "all needs in one list"; `needs`: the closing line, then a line per account. A book that is not sound has no line
 unfoldable pub needsText : Book → List ℕ
-needsText b = pick (soundB b) (needLines (need (view b)) (b .count)) []
+needsText b = pick (soundB b) (needLines (numberAt b) (need (view b)) (b .count)) []
 
--- a line per account: number, loss, the four amounts, which stand from number 4 i on
-unfoldable pub lossLine : List ℕ → List ℕ → ℕ → List ℕ
-lossLine losses amounts i =
-    spaced (i ∷ getD losses i 0 ∷ getD amounts (4 * i) 0 ∷ getD amounts (4 * i + 1) 0 ∷ getD amounts (4 * i + 2) 0 ∷ getD amounts (4 * i + 3) 0 ∷ [])
+-- a line per account: number, loss, the four amounts, which stand from place 4 i on; "Losses in a close-out are listed by row held"
+unfoldable pub lossLine : List ℕ → List ℕ → List ℕ → ℕ → List ℕ
+lossLine numbers losses amounts i =
+    spaced (getD numbers i 0 ∷ getD losses i 0 ∷ getD amounts (4 * i) 0 ∷ getD amounts (4 * i + 1) 0 ∷ getD amounts (4 * i + 2) 0 ∷ getD amounts (4 * i + 3) 0 ∷ [])
 
--- the lines of the accounts below n, in rising number
-unfoldable pub lossLines : List ℕ → List ℕ → ℕ → List ℕ
-lossLines losses amounts zero = []
-lossLines losses amounts (suc n) = lossLines losses amounts n ++ lossLine losses amounts n
+-- the lines of the first n rows, in rising number
+unfoldable pub lossLines : List ℕ → List ℕ → List ℕ → ℕ → List ℕ
+lossLines numbers losses amounts zero = []
+lossLines numbers losses amounts (suc n) = lossLines numbers losses amounts n ++ lossLine numbers losses amounts n
 
 -- each account that has a loss and four amounts
 abbrev pub listed : List ℕ → List ℕ → ℕ
@@ -95,6 +99,6 @@ unfoldable pub wordLine : List ℕ → ℕ → List ℕ
 wordLine word n = andSpace word ++ spaced (n ∷ [])
 
 -- `closeouts`: the closing line, then a line per account ..; then `total N`, or `refused N` alone in their place
-unfoldable pub closeOutText : ℕ → ℕ → List ℕ → List ℕ → List ℕ
-closeOutText zero total losses amounts = lossLines losses amounts (listed losses amounts) ++ wordLine totalWord total
-closeOutText (suc refusal) total losses amounts = wordLine refusedWord (suc refusal)
+unfoldable pub closeOutText : ℕ → ℕ → List ℕ → List ℕ → List ℕ → List ℕ
+closeOutText zero total numbers losses amounts = lossLines numbers losses amounts (listed losses amounts) ++ wordLine totalWord total
+closeOutText (suc refusal) total numbers losses amounts = wordLine refusedWord (suc refusal)

@@ -1,8 +1,8 @@
 // What the programs print behind the records' lines: each text is made in a room and then handed over at once.
 ghost use mathlib.Core.Path.{_≡_};
-ghost use Prim.Native.Nat.{_≤_, min};
+ghost use Prim.Native.Nat.{_≤_, _<_, min};
 ghost use lib.Dec.{ltb};
-ghost use lib.ListN.{length};
+ghost use lib.ListN.{length, getD};
 ghost use Rattle.lines.specs.Lines.{closingLineOf};
 ghost use Rattle.sums.specs.Room.{atStart};
 ghost use Rattle.table.specs.Words.{turnedBack};
@@ -22,11 +22,19 @@ fn lesser(a: usize, b: usize) -> usize
     if a < b { a } else { b }
 }
 
-// How many accounts are listed.
+// How many rows are listed.
 fn accounts(count: usize) -> usize
     ensures { λ n. ⌜ n ≡ Reports·accounts count ⌝ }
 {
     lesser(count, 256)
+}
+
+// The number of the row at a place.
+fn number_at(numbers: &[u16; 256], i: usize) -> u16
+    requires { ⌜ i < 256 ⌝ }
+    ensures { λ n. ⌜ n ≡ getD (now (numbers .entry)) i 0 ⌝ }
+{
+    numbers[i]
 }
 
 // The lines of all accounts' standings: how long they are, and the lines in the room.
@@ -47,18 +55,19 @@ pub fn needs_text(t: Table, room: &mut [u8; 65536]) -> usize
     need::put_needs(room, t, n)
 }
 
-// The lines of a close-out: how long they are, and the lines in the room.
+// The lines of a close-out, by the numbers of the rows: how long they are, and the lines in the room.
 pub fn close_out_text(
     refusal: u8,
     total: u64,
+    numbers: &[u16; 256],
     losses: &[u64],
     amounts: &[u64],
     room: &mut [u8; 65536],
 ) -> usize
-    ensures { λ n. ⌜ n ≡ length (closeOutText refusal total (now (losses .entry)) (now (amounts .entry))) ⌝ }
-    ensures { λ _. ⌜ now (room .exit) ≡ atStart (closeOutText refusal total (now (losses .entry)) (now (amounts .entry))) (now (room .entry)) ⌝ }
+    ensures { λ n. ⌜ n ≡ length (closeOutText refusal total (now (numbers .entry)) (now (losses .entry)) (now (amounts .entry))) ⌝ }
+    ensures { λ _. ⌜ now (room .exit) ≡ atStart (closeOutText refusal total (now (numbers .entry)) (now (losses .entry)) (now (amounts .entry))) (now (room .entry)) ⌝ }
 {
-    loss::put_close_out(room, refusal, total, losses, amounts)
+    loss::put_close_out(room, refusal, total, numbers, losses, amounts)
 }
 
 // Prints the closing line for the program named: "`end`, `cut` or `long`, then records read .. and records carried out".

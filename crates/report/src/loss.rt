@@ -7,6 +7,7 @@ ghost use Rattle.text.specs.Inner.{Puts};
 ghost use Rattle.report.specs.Reports.{lossLines, closeOutText};
 use crate::accounts;
 use crate::lesser;
+use crate::number_at;
 use text::put_number;
 use text::put_spaced;
 use text::put_text;
@@ -30,20 +31,27 @@ fn put_six(room: &mut [u8], at: usize, a: u64, b: u64, c: u64, d: u64, e: u64, f
     put_spaced(room, at, &list)
 }
 
-// Puts the lines of the accounts below n, and gives how long they are.
-fn put_losses(room: &mut [u8], n: usize, losses: &[u64], amounts: &[u64]) -> usize
-    requires { ⌜ (n ≤ length (now losses)) × (4 * n ≤ length (now amounts)) × (126 * n ≤ length (now room)) ⌝ }
-    ensures { λ after. ⌜ Puts (now (room .entry)) 0 (lossLines (now (losses .entry)) (now (amounts .entry)) n) (now (room .exit)) after ⌝ }
+// Puts the lines of the first n rows, and gives how long they are.
+fn put_losses(
+    room: &mut [u8],
+    n: usize,
+    numbers: &[u16; 256],
+    losses: &[u64],
+    amounts: &[u64],
+) -> usize
+    requires { ⌜ (n ≤ 256) × (n ≤ length (now losses)) × (4 * n ≤ length (now amounts)) × (126 * n ≤ length (now room)) ⌝ }
+    ensures { λ after. ⌜ Puts (now (room .entry)) 0 (lossLines (now (numbers .entry)) (now (losses .entry)) (now (amounts .entry)) n) (now (room .exit)) after ⌝ }
     ensures { λ after. ⌜ after ≤ 126 * n ⌝ }
 {
     let mut at: usize = 0;
     let mut i: usize = 0;
     while i < n {
+        let number = number_at(numbers, i);
         let k = 4 * i;
         at = put_six(
             room,
             at,
-            i as u64,
+            number as u64,
             losses[i],
             amounts[k],
             amounts[k + 1],
@@ -60,16 +68,17 @@ pub(crate) fn put_close_out(
     room: &mut [u8],
     refusal: u8,
     total: u64,
+    numbers: &[u16; 256],
     losses: &[u64],
     amounts: &[u64],
 ) -> usize
     requires { ⌜ 65536 ≤ length (now room) ⌝ }
-    ensures { λ after. ⌜ Puts (now (room .entry)) 0 (closeOutText refusal total (now (losses .entry)) (now (amounts .entry))) (now (room .exit)) after ⌝ }
+    ensures { λ after. ⌜ Puts (now (room .entry)) 0 (closeOutText refusal total (now (numbers .entry)) (now (losses .entry)) (now (amounts .entry))) (now (room .exit)) after ⌝ }
 {
     if refusal != 0 {
         return put_labelled(room, 0, b"refused ", refusal as u64);
     }
     let n = accounts(lesser(losses.len(), amounts.len() / 4));
-    let at = put_losses(room, n, losses, amounts);
+    let at = put_losses(room, n, numbers, losses, amounts);
     put_labelled(room, at, b"total ", total)
 }

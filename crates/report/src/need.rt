@@ -5,27 +5,29 @@ ghost use lib.ListN.{length, getD};
 ghost use Rattle.table.specs.Words.{turnedBack};
 ghost use Rattle.text.specs.Inner.{Puts};
 ghost use Rattle.report.specs.Reports.{accounts as Reports·accounts, needLines, needsText};
+use crate::number_at;
 use rows::needs::zeros;
 use table::Table;
 use text::put_spaced;
 
-// Puts the lines of the accounts that a list has the needs of, at most 42 bytes each, and gives how long they are.
-fn put_list(room: &mut [u8], needs: &[u64]) -> usize
-    requires { ⌜ 42 * length (now needs) ≤ length (now room) ⌝ }
-    ensures { λ after. ⌜ Puts (now (room .entry)) 0 (needLines (λ i. getD (now (needs .entry)) i 0) (length (now (needs .entry)))) (now (room .exit)) after ⌝ }
+// Puts the lines of the rows that a list has the needs of, at most 42 bytes each, and gives how long they are.
+fn put_list(room: &mut [u8], numbers: &[u16; 256], needs: &[u64]) -> usize
+    requires { ⌜ (length (now needs) ≤ 256) × (42 * length (now needs) ≤ length (now room)) ⌝ }
+    ensures { λ after. ⌜ Puts (now (room .entry)) 0 (needLines (λ i. getD (now (numbers .entry)) i 0) (λ i. getD (now (needs .entry)) i 0) (length (now (needs .entry)))) (now (room .exit)) after ⌝ }
 {
     let mut at: usize = 0;
     let mut i: usize = 0;
     while i < needs.len() {
+        let number = number_at(numbers, i);
         let need = needs[i];
-        let list = [i as u64, need];
+        let list = [number as u64, need];
         at = put_spaced(room, at, &list);
         i += 1;
     }
     at
 }
 
-// Puts the lines of all accounts, n of them, and gives how long they are; none where the book is not sound.
+// Puts the lines of all rows, n of them, and gives how long they are; none where the book is not sound.
 pub(crate) fn put_needs(room: &mut [u8], t: Table, n: usize) -> usize
     requires { ⌜ (n ≡ Reports·accounts (t .count)) × (42 * n ≤ length (now room)) ⌝ }
     ensures { λ after. ⌜ Puts (now (room .entry)) 0 (needsText (turnedBack t)) (now (room .exit)) after ⌝ }
@@ -35,5 +37,6 @@ pub(crate) fn put_needs(room: &mut [u8], t: Table, n: usize) -> usize
     if refusal != 0 {
         return 0;
     }
-    put_list(room, &needs[..n])
+    let numbers = t.numbers;
+    put_list(room, &numbers, &needs[..n])
 }

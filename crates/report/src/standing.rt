@@ -1,11 +1,13 @@
 // The lines of `standings`, put into a room.
+ghost use mathlib.Core.Path.{_≡_};
 ghost use Prim.Native.Nat.{_+_, _*_, _≤_};
-ghost use lib.ListN.{length};
+ghost use lib.ListN.{length, getD};
 ghost use Rattle.table.specs.Words.{turnedBack};
 ghost use Rattle.text.specs.Numbers.{andSpaces};
 ghost use Rattle.text.specs.Words.{andSpace};
 ghost use Rattle.text.specs.Inner.{Puts};
 ghost use Rattle.report.specs.Reports.{sortWord, stateWord, modeWord, numbersOf, standingLine, standingLines};
+use crate::number_at;
 use book::Figures;
 use rows::Row;
 use table::Table;
@@ -39,20 +41,20 @@ fn put_state(room: &mut [u8], at: usize, live: bool) -> usize
     }
 }
 
-// Puts its TM or 0 and the five figures: they take 126 bytes at most.
-fn put_numbers(room: &mut [u8], at: usize, r: Row, f: Figures) -> usize
+// The number of a client's TM, by the TM word of its row: any word, so that a book that isn't sound has a line too. By value: an array that is lent does not show its length.
+fn tm_number(numbers: [u16; 256], tm: u16) -> u16
+    ensures { λ x. ⌜ x ≡ getD numbers tm 0 ⌝ }
+{
+    if tm < 256 { numbers[tm as usize] } else { 0 }
+}
+
+// Puts its TM's number or 0 and the five figures: they take 126 bytes at most.
+fn put_numbers(room: &mut [u8], at: usize, tm: u16, f: Figures) -> usize
     requires { ⌜ at + 126 ≤ length (now room) ⌝ }
-    ensures { λ after. ⌜ Puts (now (room .entry)) at (andSpaces (numbersOf r f)) (now (room .exit)) after ⌝ }
+    ensures { λ after. ⌜ Puts (now (room .entry)) at (andSpaces (numbersOf tm f)) (now (room .exit)) after ⌝ }
     ensures { λ after. ⌜ after ≤ at + 126 ⌝ }
 {
-    let list = [
-        r.tm as u64,
-        f.collateral,
-        f.need,
-        f.blocked,
-        f.deemed,
-        f.free,
-    ];
+    let list = [tm as u64, f.collateral, f.need, f.blocked, f.deemed, f.free];
     put_each(room, at, &list, 6)
 }
 
@@ -69,20 +71,20 @@ fn put_mode(room: &mut [u8], at: usize, mode: bool) -> usize
 }
 
 // Puts one account's line: it takes 187 bytes at most.
-fn put_standing(room: &mut [u8], at: usize, i: usize, r: Row, f: Figures) -> usize
+fn put_standing(room: &mut [u8], at: usize, number: u16, r: Row, tm: u16, f: Figures) -> usize
     requires { ⌜ at + 187 ≤ length (now room) ⌝ }
-    ensures { λ after. ⌜ Puts (now (room .entry)) at (standingLine i r f) (now (room .exit)) after ⌝ }
+    ensures { λ after. ⌜ Puts (now (room .entry)) at (standingLine number r tm f) (now (room .exit)) after ⌝ }
     ensures { λ after. ⌜ after ≤ at + 187 ⌝ }
 {
-    let p1 = put_number(room, at, i as u64, b' ');
+    let p1 = put_number(room, at, number as u64, b' ');
     let p2 = put_sort(room, p1, r.sort);
     let p3 = put_state(room, p2, r.live);
-    let p4 = put_numbers(room, p3, r, f);
+    let p4 = put_numbers(room, p3, tm, f);
     let p5 = put_mode(room, p4, f.mode);
     put_number(room, p5, f.shortfall, b'\n')
 }
 
-// Puts the lines of the accounts below n, and gives how long they are.
+// Puts the lines of the first n rows, and gives how long they are.
 pub(crate) fn put_standings(room: &mut [u8], t: Table, n: usize) -> usize
     requires { ⌜ (n ≤ 256) × (187 * n ≤ length (now room)) ⌝ }
     ensures { λ after. ⌜ Puts (now (room .entry)) 0 (standingLines (turnedBack t) n) (now (room .exit)) after ⌝ }
@@ -90,9 +92,11 @@ pub(crate) fn put_standings(room: &mut [u8], t: Table, n: usize) -> usize
     let mut at: usize = 0;
     let mut i: usize = 0;
     while i < n {
-        let figures = book::standing(t, i as u16);
+        let number = number_at(&t.numbers, i);
+        let figures = book::standing(t, number);
         let r = row_of(&t.sort, &t.live, &t.tm, &t.amounts, i);
-        at = put_standing(room, at, i, r, figures);
+        let tm = tm_number(t.numbers, r.tm);
+        at = put_standing(room, at, number, r, tm, figures);
         i += 1;
     }
     at

@@ -9,16 +9,16 @@ use Rattle.report.specs.Reports.{accounts, listed, totalWord, refusedWor
 use Rattle.report.proofs.loss.put_close_out.Statement.{statement}
 use Rattle.report.proofs.loss.put_close_out.Tie as tie
 
-alone : (refusal total : ℕ) (losses amounts : List ℕ) → 1 ≤ refusal → closeOutText refusal total losses amounts ≡ wordLine refusedWord refusal
+alone : (refusal total : ℕ) (numbers losses amounts : List ℕ) → 1 ≤ refusal → closeOutText refusal total numbers losses amounts ≡ wordLine refusedWord refusal
 unfolding closeOutText
-alone zero total losses amounts h = absurd (omega arith)
-alone (suc refusal) total losses amounts h = refl
+alone zero total numbers losses amounts h = absurd (omega arith)
+alone (suc refusal) total numbers losses amounts h = refl
 
-whole : (refusal total : ℕ) (losses amounts : List ℕ) → refusal ≡ 0
-    → closeOutText refusal total losses amounts ≡ lossLines losses amounts (listed losses amounts) ++ wordLine totalWord total
+whole : (refusal total : ℕ) (numbers losses amounts : List ℕ) → refusal ≡ 0
+    → closeOutText refusal total numbers losses amounts ≡ lossLines numbers losses amounts (listed losses amounts) ++ wordLine totalWord total
 unfolding closeOutText
-whole zero total losses amounts h = refl
-whole (suc refusal) total losses amounts h = absurd (omega arith)
+whole zero total numbers losses amounts h = refl
+whole (suc refusal) total numbers losses amounts h = absurd (omega arith)
 
 slice-aggregate-put-labelled : tie.Need-slice-aggregate-put-labelled
 slice-aggregate-put-labelled c = search needs
@@ -33,7 +33,7 @@ returns : tie.Need-returns
 unfolding wordLine
 returns c =
     let refusal = c .before .before .before .before .before .before .before .before .before .args .refusal in
-    rw (alone refusal _ _ _ (omega arith)) (c .before .before .put-labelled .ensures)
+    rw (alone refusal _ _ _ _ (omega arith)) (c .before .before .put-labelled .ensures)
 
 lesser-requires : tie.Need-lesser-requires
 lesser-requires c κs = search needs
@@ -58,7 +58,7 @@ unfolding wordLine
 returns-2 c =
     let refusal = c .before .before .before .before .before .before .before .before .before .before .before .before .before .before .before .args .refusal in
     let n = c .before .before .before .before .before .before .before .before .before .accounts .ensures ∙ ap accounts (c .before .before .before .before .before .before .before .before .before .before .lesser .ensures) in
-    rw (whole refusal _ _ _ (omega arith))
+    rw (whole refusal _ _ _ _ (omega arith))
     (and-then _ _ (rw n at (c .before .before .before .before .before .before .before .put-losses .ensures .0)) (c .before .before .put-labelled2 .ensures))
 
 pub put-close-out-spec : {M : Type 1} → statement M

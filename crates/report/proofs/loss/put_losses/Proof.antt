@@ -1,4 +1,5 @@
--- `report::loss::put_losses` meets its contract. The invariant: the lines of the accounts below i stand in the room, at most 126 bytes each.
+-- `report::loss::put_losses` meets its contract. The invariant: the lines of the first i rows stand in the room, at most 126 bytes each.
+use borrow.Author.Needs.{needs}
 use mathlib.Core.Path.{_≡_}
 use Prim.Native.Nat.{_*_, _-_, _≤_}
 use native.Mathlib.Numerals.{add-one}
@@ -10,17 +11,23 @@ use Rattle.report.proofs.loss.put_losses.Statement.{statement}
 use Rattle.report.proofs.loss.put_losses.Tie as tie
 
 abbrev Inv-loop : tie.InvT-loop
-Inv-loop room₀ n losses amounts at₀ i₀ room at i = Puts room₀ 0 (lossLines losses amounts i) room at × (at ≤ 126 * i) × (i ≤ n)
+Inv-loop room₀ n numbers losses amounts at₀ i₀ room at i = Puts room₀ 0 (lossLines numbers losses amounts i) room at × (at ≤ 126 * i) × (i ≤ n)
 
 abbrev μ-loop : tie.MeasureT-loop
-μ-loop room₀ n losses amounts at₀ i₀ room at i = n - i
+μ-loop room₀ n numbers losses amounts at₀ i₀ room at i = n - i
 
 loop-holds : tie.Need-loop-holds Inv-loop μ-loop
 unfolding lossLines
 loop-holds c = (puts-none _ _ (omega arith) (omega arith), omega arith, omega arith)
 
+number-at-requires : tie.Need-number-at-requires Inv-loop μ-loop
+number-at-requires c κs = omega arith
+
 mul-k : tie.Need-mul-k Inv-loop μ-loop
 mul-k c = omega arith
+
+cast-put-six : tie.Need-cast-put-six Inv-loop μ-loop
+cast-put-six c = search needs
 
 mul-put-six : tie.Need-mul-put-six Inv-loop μ-loop
 mul-put-six c = omega arith
@@ -62,7 +69,7 @@ shared-slice-read-put-six-5 : tie.Need-shared-slice-read-put-six-5 Inv-loop μ-l
 shared-slice-read-put-six-5 c = omega arith
 
 put-six-requires : tie.Need-put-six-requires Inv-loop μ-loop
-put-six-requires c κs = omega (arith, puts-length (c .before .before .before .before .before .before .before .loop .inv .0))
+put-six-requires c κs = omega (arith, puts-length (c .before .before .before .before .before .before .before .before .loop .inv .0))
 
 add-i : tie.Need-add-i Inv-loop μ-loop
 add-i c = omega arith
@@ -73,8 +80,10 @@ loop-less c = omega arith
 loop-again : tie.Need-loop-again Inv-loop μ-loop
 unfolding lossLines lossLine
 loop-again c =
-    let l = c .before .before .before .before .before .before .before .before .before .before in
-    (rw (add-one (l .loop .i)) (and-then _ _ (l .loop .inv .0) (c .before .before .put-six .ensures .0)), omega arith, omega arith)
+    let p = c .before .before in
+    let n = p .before .before .before .before .before .before .before in
+    let l = n .before .before in
+    (rw (add-one (l .loop .i)) (and-then _ _ (l .loop .inv .0) (rw (n .number-at .ensures) at (p .put-six .ensures .0))), omega arith, omega arith)
 
 same-length : tie.Need-same-length Inv-loop μ-loop
 same-length c = puts-length (c .before .loop .inv .0)
@@ -89,7 +98,9 @@ put-losses-spec =
     Inv-loop
     μ-loop
     loop-holds
+    number-at-requires
     mul-k
+    cast-put-six
     mul-put-six
     shared-slice-read-put-six
     mul-put-six-2

@@ -1,25 +1,29 @@
--- `report::need::put_list` meets its contract. The invariant: the lines of the accounts below i stand in the room, at most 42 bytes each.
+-- `report::need::put_list` meets its contract. The invariant: the lines of the first i rows stand in the room, at most 42 bytes each.
 use borrow.Author.Needs.{needs}
-use mathlib.Core.Path.{_≡_}
+use mathlib.Core.Path.{_≡_, ap}
 use Prim.Native.Nat.{ℕ, _*_, _-_, _≤_}
 use native.Mathlib.Numerals.{add-one}
 use native.Mathlib.Omega.{arith}
 use lib.ListN.{length, getD}
 use Rattle.text.specs.Inner.{Puts}
 use Rattle.text.proofs.Puts.{puts-none, and-then, puts-length}
-use Rattle.report.specs.Reports.{needLines}
+use Rattle.report.specs.Reports.{needLine, needLines}
+use Rattle.report.proofs.SameText.{puts-as}
 use Rattle.report.proofs.need.put_list.Statement.{statement}
 use Rattle.report.proofs.need.put_list.Tie as tie
 
 abbrev Inv-loop : tie.InvT-loop
-Inv-loop room₀ needs at₀ i₀ room at i = Puts room₀ 0 (needLines (λ (j : ℕ). getD needs j 0) i) room at × (at ≤ 42 * i) × (i ≤ length needs)
+Inv-loop room₀ numbers needs at₀ i₀ room at i = Puts room₀ 0 (needLines (λ (j : ℕ). getD numbers j 0) (λ (j : ℕ). getD needs j 0) i) room at × (at ≤ 42 * i) × (i ≤ length needs)
 
 abbrev μ-loop : tie.MeasureT-loop
-μ-loop room₀ needs at₀ i₀ room at i = length needs - i
+μ-loop room₀ numbers needs at₀ i₀ room at i = length needs - i
 
--- where a round begins, and where its line is put
-abbrev round : tie.After-list Inv-loop μ-loop → tie.At-loop Inv-loop μ-loop
-round c = c .before .before .before .before
+-- where a round begins, where its number is read, and where its line is put
+abbrev round : tie.After-number-at Inv-loop μ-loop → tie.At-loop Inv-loop μ-loop
+round c = c .before .before
+
+abbrev named : tie.After-list Inv-loop μ-loop → tie.After-number-at Inv-loop μ-loop
+named c = c .before .before .before
 
 abbrev put : tie.After-slice-known2 Inv-loop μ-loop → tie.After-put-spaced Inv-loop μ-loop
 put c = c .before .before
@@ -28,17 +32,23 @@ loop-holds : tie.Need-loop-holds Inv-loop μ-loop
 unfolding needLines
 loop-holds c = (puts-none _ _ (omega arith) (omega arith), omega arith, omega arith)
 
+number-at-requires : tie.Need-number-at-requires Inv-loop μ-loop
+number-at-requires c κs = omega arith
+
 mul-need : tie.Need-mul-need Inv-loop μ-loop
 mul-need c = omega arith
 
 shared-slice-read-need : tie.Need-shared-slice-read-need Inv-loop μ-loop
 shared-slice-read-need c = omega arith
 
+cast-t12 : tie.Need-cast-t12 Inv-loop μ-loop
+cast-t12 c = search needs
+
 slice-aggregate-put-spaced : tie.Need-slice-aggregate-put-spaced Inv-loop μ-loop
 slice-aggregate-put-spaced c = search needs
 
 put-spaced-requires : tie.Need-put-spaced-requires Inv-loop μ-loop
-put-spaced-requires c κs = omega (arith, puts-length (round c .loop .inv .0))
+put-spaced-requires c κs = omega (arith, puts-length (round (named c) .loop .inv .0))
 
 add-i : tie.Need-add-i Inv-loop μ-loop
 add-i c = omega arith
@@ -49,8 +59,11 @@ loop-less c = omega arith
 loop-again : tie.Need-loop-again Inv-loop μ-loop
 unfolding needLines
 loop-again c =
-    let l = round (put c .before) .loop in
-    (rw (add-one (l .i)) (and-then _ _ (l .inv .0) (put c .put-spaced .ensures .0)), omega arith, omega arith)
+    let n = named (put c .before) in
+    let l = round n .loop in
+    let needs = round n .before .before .before .args .needs .now in
+    let e = puts-as (ap (λ k. needLine k (getD needs (l .i) 0)) (n .number-at .ensures)) (put c .put-spaced .ensures .0) in
+    (rw (add-one (l .i)) (and-then _ _ (l .inv .0) e), omega arith, omega arith)
 
 same-length : tie.Need-same-length Inv-loop μ-loop
 same-length c = puts-length (c .before .loop .inv .0)
@@ -67,8 +80,10 @@ put-list-spec =
     Inv-loop
     μ-loop
     loop-holds
+    number-at-requires
     mul-need
     shared-slice-read-need
+    cast-t12
     slice-aggregate-put-spaced
     put-spaced-requires
     add-i

@@ -6,6 +6,7 @@ use Prim.Native.Nat.{ℕ, _≤_}
 use native.Mathlib.Omega.{arith}
 use lib.ListN.{length, take, drop, getD, length-append, length-replicate}
 use lib.Seq.{length-take-le, take-append-seam}
+use Rattle.rows.specs.Rows.{numberAt}
 use Rattle.table.specs.Words.{turnedBack}
 use Rattle.report.specs.Reports.{accounts, needLines}
 use Rattle.text.proofs.Puts.{puts-none}
@@ -21,7 +22,7 @@ abbrev zeroed : tie.After-needs2 → tie.After-zeros
 zeroed c = c .before .before
 
 abbrev given : tie.After-needs4 → tie.After-needs2
-given c = c .before .before .before .before
+given c = c .before .before .before .before .before .before
 
 abbrev put : tie.After-slice-known2 → tie.After-put-list
 put c = c .before .before
@@ -68,13 +69,16 @@ returns c =
     rw (refused-text (turnedBack (start z .args .t)) _ (placed z) (λ e. c .if1 .taken (g .needs2 .ensures .0 ∙ e))) (puts-none _ _ refl (omega arith))
 
 array-share-prefix-needs : tie.Need-array-share-prefix-needs
-array-share-prefix-needs c = fits (c .before .before .before)
+array-share-prefix-needs c = fits (c .before .before .before .before .before)
 
 slice-aggregate-put-list : tie.Need-slice-aggregate-put-list
 slice-aggregate-put-list c = sym (counted (given c))
 
 put-list-requires : tie.Need-put-list-requires
-put-list-requires c κs = omega (arith, counted (given c), start (zeroed (given c)) .pre .1)
+put-list-requires c κs =
+    let s = start (zeroed (given c)) in
+    let n = counted (given c) in
+    (omega (arith, s .pre .0), omega (arith, s .pre .1))
 
 same-length : tie.Need-same-length
 same-length c = search needs
@@ -83,8 +87,8 @@ returns-2 : tie.Need-returns-2
 returns-2 c =
     let g = given (put c .before) in
     let z = zeroed g in
-    let e = ap (λ (xs : List ℕ). needLines (λ (i : ℕ). getD xs i 0) (length xs)) (front g ∙ g .needs2 .ensures .1)
-    ∙ given-text (turnedBack (start z .args .t)) _ (placed z) (sym (g .needs2 .ensures .0) ∙ put c .before .before .before .if1 .left) in
+    let e = ap (λ (xs : List ℕ). needLines (numberAt (turnedBack (start z .args .t))) (λ (i : ℕ). getD xs i 0) (length xs)) (front g ∙ g .needs2 .ensures .1)
+    ∙ given-text (turnedBack (start z .args .t)) _ (placed z) (sym (g .needs2 .ensures .0) ∙ put c .before .before .before .before .before .if1 .left) in
     rw e at (put c .put-list .ensures)
 
 pub put-needs-spec : {M : Type 1} → statement M

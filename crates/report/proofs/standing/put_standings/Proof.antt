@@ -1,16 +1,28 @@
--- `report::standing::put_standings` meets its contract. The invariant: the lines of the accounts below i stand in the room, at most 187 bytes each.
+-- `report::standing::put_standings` meets its contract. The invariant: the lines of the first i rows stand in the room, at most 187 bytes each.
 use borrow.Author.Needs.{needs}
-use mathlib.Core.Path.{_≡_, sym, _∙_}
-use Prim.Native.Nat.{_*_, _-_, _≤_}
+use mathlib.Core.Path.{_≡_}
+use Prim.Native.Nat.{ℕ, _*_, _-_, _≤_, _<_}
 use native.Mathlib.Numerals.{add-one}
 use native.Mathlib.Omega.{arith}
-use Rattle.table.specs.Words.{turnedBack}
+use lib.ListN.{getD}
+use Rattle.rows.specs.declared.Row.{Row}
+use Rattle.book.specs.declared.Figures.{Figures}
+use Rattle.book.specs.Asked.{standingOf}
+use Rattle.table.specs.declared.Table.{Table}
+use Rattle.table.specs.Words.{marksOf, rowIn, turnedBack}
 use Rattle.table.proofs.Gathered.{row-in}
 use Rattle.text.specs.Inner.{Puts}
 use Rattle.text.proofs.Puts.{puts-none, and-then, puts-length}
-use Rattle.report.specs.Reports.{standingLines}
+use Rattle.report.specs.Reports.{standingLine, lineAt, standingLines}
+use Rattle.report.proofs.SameText.{puts-as}
 use Rattle.report.proofs.standing.put_standings.Statement.{statement}
 use Rattle.report.proofs.standing.put_standings.Tie as tie
+
+-- the line of the row at place i
+line-is : (t : Table) (i : ℕ) {number tm : ℕ} {r : Row} {f : Figures} → i < 256 → number ≡ getD (t .numbers) i 0 → r ≡ rowIn (marksOf t) (t .amounts) i
+    → tm ≡ getD (t .numbers) (r .tm) 0 → f ≡ standingOf (turnedBack t) number → standingLine number r tm f ≡ lineAt (turnedBack t) i
+unfolding lineAt
+line-is t i l n r m s = let e = row-in (marksOf t) (t .amounts) i l in cc
 
 abbrev Inv-loop : tie.InvT-loop
 Inv-loop room₀ n t at₀ i₀ room at i = Puts room₀ 0 (standingLines (turnedBack t) i) room at × (at ≤ 187 * i) × (i ≤ n)
@@ -22,8 +34,8 @@ loop-holds : tie.Need-loop-holds Inv-loop μ-loop
 unfolding standingLines
 loop-holds c = (puts-none _ _ (omega arith) (omega arith), omega arith, omega arith)
 
-cast-standing : tie.Need-cast-standing Inv-loop μ-loop
-cast-standing c = omega arith
+number-at-requires : tie.Need-number-at-requires Inv-loop μ-loop
+number-at-requires c κs = omega arith
 
 standing-requires : tie.Need-standing-requires Inv-loop μ-loop
 standing-requires c κs = search needs
@@ -31,11 +43,18 @@ standing-requires c κs = search needs
 row-of-requires : tie.Need-row-of-requires Inv-loop μ-loop
 row-of-requires c κs = omega arith
 
+tm-number-requires : tie.Need-tm-number-requires Inv-loop μ-loop
+tm-number-requires c κs = search needs
+
 put-standing-requires : tie.Need-put-standing-requires Inv-loop μ-loop
-put-standing-requires c κs = omega (arith, puts-length (c .before .before .before .before .before .before .before .before .before .loop .inv .0))
+put-standing-requires c κs =
+    let n = c .before .before .before .before .before .before .before .before .before .before in
+    omega (arith, puts-length (n .before .before .before .before .loop .inv .0))
 
 add-i : tie.Need-add-i Inv-loop μ-loop
-add-i c = omega arith
+add-i c =
+    let n = c .before .before .before .before .before .before .before .before .before .before .before .before .before in
+    omega (arith, n .before .before .before .loop-test .taken, n .before .before .before .before .before .before .pre)
 
 loop-less : tie.Need-loop-less Inv-loop μ-loop
 loop-less c = omega arith
@@ -43,10 +62,14 @@ loop-less c = omega arith
 loop-again : tie.Need-loop-again Inv-loop μ-loop
 unfolding standingLines
 loop-again c =
-    let l = c .before .before .before .before .before .before .before .before .before .before .before .before in
-    let s = c .before .before .before .before .before .before .before .before .before .before .standing .ensures in
-    let r = c .before .before .before .before .row-of .ensures ∙ sym (row-in _ _ (l .loop .i) (omega arith)) in
-    (rw (add-one (l .loop .i)) (and-then _ _ (l .loop .inv .0) (rw r at (rw s at (c .before .before .put-standing .ensures .0)))), omega arith, omega arith)
+    let p = c .before .before in
+    let m = p .before .before in
+    let g = m .before .before in
+    let s = g .before .before .before .before .before .before in
+    let n = s .before in
+    let l = n .before .before .before .before in
+    let e = line-is (l .before .before .args .t2) (l .loop .i) (omega arith) (n .number-at .ensures) (g .row-of .ensures) (m .tm-number .ensures) (s .standing .ensures) in
+    (rw (add-one (l .loop .i)) (and-then _ _ (l .loop .inv .0) (puts-as e (p .put-standing .ensures .0))), omega arith, omega arith)
 
 same-length : tie.Need-same-length Inv-loop μ-loop
 same-length c = puts-length (c .before .loop .inv .0)
@@ -61,9 +84,10 @@ put-standings-spec =
     Inv-loop
     μ-loop
     loop-holds
-    cast-standing
+    number-at-requires
     standing-requires
     row-of-requires
+    tm-number-requires
     put-standing-requires
     add-i
     loop-less
