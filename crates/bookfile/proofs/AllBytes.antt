@@ -6,7 +6,9 @@ use native.Mathlib.Omega.{arith}
 use lib.ListN.{getD}
 use Rattle.numbers.specs.Bytes.{bytesOf, Bytes}
 use Rattle.table.specs.declared.Table.{Table}
-use Rattle.bookfile.specs.Written.{mark, headPart, yesNo, joined, marksPart, amountPart, amountsPart, keptPart, placeBytes, writtenOf}
+use Rattle.bookfile.specs.Written.{headPart, yesNo, joined, marksPart, amountPart, amountsPart, keptPart, rowPart, placeBytes, writtenBy, writtenOf}
+use Rattle.bookfile.specs.declared.Version.the-variants.{Two}
+use Rattle.bookfile.specs.Versions.{markOf}
 use Rattle.bookfile.specs.Facts.{Fits}
 
 bytes-none : Bytes []
@@ -34,15 +36,16 @@ yes-no-byte : (b : Bool) → yesNo b < 256
 yes-no-byte true = omega arith
 yes-no-byte false = omega arith
 
-bytes-mark : Bytes mark
+bytes-mark : Bytes (markOf Two)
 bytes-mark =
-    bytes-more 76 (86 ∷ 66 ∷ 1 ∷ []) (omega arith)
-    (bytes-more 86 (66 ∷ 1 ∷ []) (omega arith) (bytes-more 66 (1 ∷ []) (omega arith) (bytes-more 1 [] (omega arith) bytes-none)))
+    bytes-more 76 (86 ∷ 66 ∷ 2 ∷ []) (omega arith)
+    (bytes-more 86 (66 ∷ 2 ∷ []) (omega arith) (bytes-more 66 (2 ∷ []) (omega arith) (bytes-more 2 [] (omega arith) bytes-none)))
 
-bytes-head : (count serial : ℕ) → Bytes (headPart count serial)
-bytes-head count serial =
-    bytes-append mark (bytesOf 2 count ++ bytesOf 2 serial) bytes-mark
-    (bytes-append (bytesOf 2 count) (bytesOf 2 serial) (bytes-number 2 count) (bytes-number 2 serial))
+bytes-head : (count serial next : ℕ) → Bytes (headPart Two count serial next)
+bytes-head count serial next =
+    bytes-append (markOf Two) (bytesOf 2 count ++ (bytesOf 2 serial ++ bytesOf 4 next)) bytes-mark
+    (bytes-append (bytesOf 2 count) (bytesOf 2 serial ++ bytesOf 4 next) (bytes-number 2 count)
+    (bytes-append (bytesOf 2 serial) (bytesOf 4 next) (bytes-number 2 serial) (bytes-number 4 next)))
 
 bytes-marks : (sort : ℕ) (live : Bool) (tm : ℕ) → sort < 256 → Bytes (marksPart sort live tm)
 bytes-marks sort live tm h = bytes-more sort (yesNo live ∷ bytesOf 2 tm) h (bytes-more (yesNo live) (bytesOf 2 tm) (yes-no-byte live) (bytes-number 2 tm))
@@ -54,16 +57,21 @@ bytes-kept : (mode : Bool) (need : ℕ) → Bytes (keptPart mode need)
 bytes-kept mode need = bytes-more (yesNo mode) (bytesOf 8 need) (yes-no-byte mode) (bytes-number 8 need)
 
 module _ (t : Table) (f : Fits t) where
-  bytes-place : (i : ℕ) → Bytes (placeBytes t i)
-  unfolding placeBytes
-  bytes-place i =
+  bytes-row : (i : ℕ) → Bytes (rowPart t i)
+  unfolding rowPart
+  bytes-row i =
       let marks = marksPart (getD (t .sort) i 0) (getD (t .live) i false) (getD (t .tm) i 0) in
       let amounts = amountsPart (t .amounts) i in
       let kept = keptPart (getD (t .modes) i false) (getD (t .needs) i 0) in
       bytes-append marks (amounts ++ kept) (bytes-marks (getD (t .sort) i 0) (getD (t .live) i false) (getD (t .tm) i 0) (f .sort i))
       (bytes-append amounts kept (bytes-amounts (t .amounts) i) (bytes-kept (getD (t .modes) i false) (getD (t .needs) i 0)))
 
+  bytes-place : (i : ℕ) → Bytes (placeBytes Two t i)
+  unfolding placeBytes
+  bytes-place i = bytes-append (bytesOf 2 (getD (t .numbers) i 0)) (rowPart t i) (bytes-number 2 (getD (t .numbers) i 0)) (bytes-row i)
+
   pub bytes-written : Bytes (writtenOf t)
-  unfolding writtenOf
+  unfolding writtenBy
   bytes-written =
-      bytes-append (headPart (t .count) (t .serial)) (joined (placeBytes t) 256) (bytes-head (t .count) (t .serial)) (bytes-joined (placeBytes t) bytes-place 256)
+      bytes-append (headPart Two (t .count) (t .serial) (t .next)) (joined (placeBytes Two t) 256) (bytes-head (t .count) (t .serial) (t .next))
+      (bytes-joined (placeBytes Two t) bytes-place 256)

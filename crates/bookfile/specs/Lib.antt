@@ -1,3 +1,5 @@
+pub mod Versions
 pub mod Written
 pub mod Reading
 pub mod Facts
+pub mod Inner

@@ -1,5 +1,9 @@
 // A book's written form: the file that a book is kept in.
+mod forms;
+mod listed;
+mod numbered;
 mod reading;
+mod tested;
 mod writing;
 
 pub use reading::read;
@@ -7,12 +11,13 @@ pub use table::Table;
 pub use writing::write;
 
 // How many bytes the written form has.
-pub const SIZE: usize = 23_816;
+pub const SIZE: usize = 24_332;
 
-// Of these the mark, the count and the serial take 8, and each of the 256 places 93.
-pub(crate) const HEAD: usize = 8;
-
-pub(crate) const PLACE: usize = 93;
+// Which written form: the first one, which has no numbers and is only read, or the one with them (K11).
+pub(crate) enum Version {
+    One,
+    Two,
+}
 
 // What bytes hold: a book, or none, and then the fresh book stands here.
 pub struct Held {

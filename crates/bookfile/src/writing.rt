@@ -4,10 +4,12 @@ ghost use Prim.Native.Nat.{_+_, _*_, _≤_, _<_};
 ghost use lib.ListN.{length};
 ghost use lib.Seq.{sets};
 ghost use Rattle.bookfile.specs.Written.{size, headPart, yesNo, joined, marksPart, amountsPart, keptPart, placeBytes, wroteOf, roomAfter};
-use crate::HEAD;
-use crate::PLACE;
+ghost use Rattle.bookfile.specs.declared.Version.the-variants.{Two};
 use crate::SIZE;
+use crate::Version;
+use crate::forms::sort_at;
 use numbers::put2;
+use numbers::put4;
 use numbers::put8;
 use table::Table;
 use table::places::word_at;
@@ -18,16 +20,17 @@ fn yes_no(x: bool) -> u8
     if x { 1 } else { 0 }
 }
 
-fn put_head(room: &mut [u8], count: u16, serial: u16)
-    requires { ⌜ 8 ≤ length (now room) ⌝ }
-    ensures { λ _. ⌜ now (room .exit) ≡ sets (now (room .entry)) 0 (headPart count serial) ⌝ }
+fn put_head(room: &mut [u8], count: u16, serial: u16, next: u32)
+    requires { ⌜ 12 ≤ length (now room) ⌝ }
+    ensures { λ _. ⌜ now (room .exit) ≡ sets (now (room .entry)) 0 (headPart Two count serial next) ⌝ }
 {
     room[0] = b'L';
     room[1] = b'V';
     room[2] = b'B';
-    room[3] = 1;
+    room[3] = 2;
     put2(room, 4, count);
     put2(room, 6, serial);
+    put4(room, 8, next);
 }
 
 fn put_marks(room: &mut [u8], place: usize, sort: u8, live: bool, tm: u16)
@@ -60,14 +63,15 @@ fn put_kept(room: &mut [u8], place: usize, mode: bool, need: u64)
 
 fn put_places(t: Table, room: &mut [u8])
     requires { ⌜ length (now room) ≡ size ⌝ }
-    ensures { λ _. ⌜ now (room .exit) ≡ sets (now (room .entry)) 8 (joined (placeBytes t) 256) ⌝ }
+    ensures { λ _. ⌜ now (room .exit) ≡ sets (now (room .entry)) 12 (joined (placeBytes Two t) 256) ⌝ }
 {
     let mut i: usize = 0;
     while i < 256 {
-        let place = HEAD + PLACE * i;
-        put_marks(room, place, t.sort[i], t.live[i], t.tm[i]);
-        put_amounts(room, place + 4, &t.amounts, i);
-        put_kept(room, place + 84, t.modes[i], t.needs[i]);
+        let sort = sort_at(Version::Two, i);
+        put2(room, sort - 2, t.numbers[i]);
+        put_marks(room, sort, t.sort[i], t.live[i], t.tm[i]);
+        put_amounts(room, sort + 4, &t.amounts, i);
+        put_kept(room, sort + 84, t.modes[i], t.needs[i]);
         i += 1;
     }
 }
@@ -80,7 +84,7 @@ pub fn write(t: Table, room: &mut [u8]) -> u8
     if room.len() != SIZE {
         return 15;
     }
-    put_head(room, t.count, t.serial);
+    put_head(room, t.count, t.serial, t.next);
     put_places(t, room);
     0
 }

@@ -17,9 +17,6 @@ slice-aggregate-say c = search needs
 say-requires : tie.Need-say-requires
 say-requires c κs = search needs
 
-array-share-prefix-file : tie.Need-array-share-prefix-file
-array-share-prefix-file c = search needs
-
 slice-aggregate-read : tie.Need-slice-aggregate-read
 slice-aggregate-read c = sym (length-take-le _ _ (search needs))
 
@@ -40,7 +37,6 @@ front-line-spec =
     told-requires
     slice-aggregate-say
     say-requires
-    array-share-prefix-file
     slice-aggregate-read
     read-requires
     held-line-requires

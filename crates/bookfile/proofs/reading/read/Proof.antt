@@ -1,24 +1,29 @@
 -- `bookfile::reading::read` meets its contract.
 use mathlib.Core.Bool.{true, false}
-use mathlib.Core.Path.{sym, ap, _∙_}
+use mathlib.Core.Path.{_≡_, sym, ap, _∙_}
 use borrow.Author.Needs.{needs}
-use Rattle.sums.proofs.Choices.{pick-first, pick-second}
-use Rattle.bookfile.specs.Reading.{readOf}
-use Rattle.bookfile.proofs.Tested.{book-long}
+use Rattle.sums.proofs.Choices.{pick-second}
+use Rattle.bookfile.specs.Reading.{isOf, readOf}
+use Rattle.bookfile.proofs.Tests.{book-long}
+use Rattle.bookfile.proofs.Told.{read-by, told}
 use Rattle.bookfile.proofs.reading.read.Statement.{statement}
 use Rattle.bookfile.proofs.reading.read.Tie as tie
 
-is-book-requires : tie.Need-is-book-requires
-is-book-requires c κs = search needs
+version-of-requires : tie.Need-version-of-requires
+version-of-requires c κs = search needs
 
-book-in-requires : tie.Need-book-in-requires
-book-in-requires c κs = book-long _ (sym (c .before .is-book .ensures) ∙ c .if1 .taken)
+is-of-requires : tie.Need-is-of-requires
+is-of-requires c κs = search needs
+
+-- the bytes are a book of the version that was told
+book : (c : tie.Then1) → isOf (c .before .before .version-of .result) (c .before .before .before .before .args .piece .now) ≡ true
+book c = sym (c .before .is-of .ensures) ∙ c .if1 .taken
+
+book-by-requires : tie.Need-book-by-requires
+book-by-requires c κs = book-long _ _ (book c)
 
 returns : tie.Need-returns
-unfolding readOf
-returns c =
-    pick-first _ (sym (c .before .before .is-book .ensures) ∙ c .before .if1 .taken)
-    (ap (λ t. record { «is_book» = true; table = t }) (c .book-in .ensures))
+returns c = ap (λ t. record { «is_book» = true; table = t }) (c .book-by .ensures) ∙ sym (read-by _ _ (book (c .before)))
 
 fresh-requires : tie.Need-fresh-requires
 fresh-requires c κs = search needs
@@ -26,8 +31,12 @@ fresh-requires c κs = search needs
 returns-2 : tie.Need-returns-2
 unfolding readOf
 returns-2 c =
-    pick-second _ (sym (c .before .before .is-book .ensures) ∙ c .before .if1 .left)
+    let e = c .before in
+    let file = e .before .before .before .before .args .piece .now in
+    pick-second _ (sym (told file) ∙ ap (λ v. isOf v file) (sym (e .before .before .version-of .ensures)) ∙ sym (e .before .is-of .ensures) ∙ e .if1 .left)
     (ap (λ t. record { «is_book» = false; table = t }) (c .fresh .ensures))
 
 pub read-spec : {M : Type 1} → statement M
-read-spec = tie.close (tie.spec is-book-requires book-in-requires returns fresh-requires returns-2)
+read-spec =
+    tie.close
+    (tie.spec version-of-requires is-of-requires book-by-requires returns fresh-requires returns-2)

@@ -5,7 +5,8 @@ use native.Mathlib.Omega.{arith}
 use lib.ListN.{length}
 use lib.Seq.{sets}
 use Rattle.bookfile.specs.Written.{size, joined, placeBytes}
-use Rattle.bookfile.specs.Reading.{placeAt}
+use Rattle.bookfile.specs.declared.Version.the-variants.{Two}
+use Rattle.bookfile.specs.Versions.{placeAt}
 use Rattle.bookfile.proofs.Joining.{joined-put}
 use Rattle.bookfile.proofs.Parts.{length-place, put-place}
 use Rattle.bookfile.proofs.writing.put_places.Statement.{statement}
@@ -13,7 +14,7 @@ use Rattle.bookfile.proofs.writing.put_places.Tie as tie
 
 abbrev Inv-loop : tie.InvT-loop
 Inv-loop room₀ t i₀ room i =
-    (i ≤ 256) × (length room ≡ size) × (room ≡ sets room₀ 8 (joined (placeBytes t) i))
+    (i ≤ 256) × (length room ≡ size) × (room ≡ sets room₀ 12 (joined (placeBytes Two t) i))
 
 abbrev μ-loop : tie.MeasureT-loop
 μ-loop room₀ t i₀ room i = 256 - i
@@ -22,11 +23,20 @@ loop-holds : tie.Need-loop-holds Inv-loop μ-loop
 unfolding joined
 loop-holds c = (omega arith, c .before .pre, refl)
 
-mul-place : tie.Need-mul-place Inv-loop μ-loop
-mul-place c = omega arith
+sort-at-requires : tie.Need-sort-at-requires Inv-loop μ-loop
+sort-at-requires c κs = omega arith
 
-add-place : tie.Need-add-place Inv-loop μ-loop
-add-place c = omega arith
+sub-put2 : tie.Need-sub-put2 Inv-loop μ-loop
+sub-put2 c = omega arith
+
+mul-put2 : tie.Need-mul-put2 Inv-loop μ-loop
+mul-put2 c = omega arith
+
+element-copy-out-put2 : tie.Need-element-copy-out-put2 Inv-loop μ-loop
+element-copy-out-put2 c = omega arith
+
+put2-requires : tie.Need-put2-requires Inv-loop μ-loop
+put2-requires c κs = omega arith
 
 element-copy-out-put-marks : tie.Need-element-copy-out-put-marks Inv-loop μ-loop
 element-copy-out-put-marks c = omega arith
@@ -75,13 +85,15 @@ loop-again c =
     let ck = c .before .before in
     let ca = ck .before .before .before .before .before .before in
     let cm = ca .before .before .before .before .before .before in
-    let c0 = cm .before .before .before .before .before .before in
+    let cn = cm .before .before .before .before .before .before .before in
+    let cs = cn .before .before .before in
+    let c0 = cs .before .before in
     let l = c0 .loop in
     let t = c0 .before .before .args .t1 in (
       omega arith,
-      ck .put-kept .kept .0 ∙ ca .put-amounts .kept .0 ∙ cm .put-marks .kept .0 ∙ l .inv .1,
-      joined-put (placeBytes t) 93 (length-place t) _ _ _ 8 (l .i) (l .inv .2)
-          (put-place t (l .room) _ _ _ (placeAt (l .i)) (l .i) (cm .put-marks .ensures) (ca .put-amounts .ensures) (ck .put-kept .ensures)),
+      ck .put-kept .kept .0 ∙ ca .put-amounts .kept .0 ∙ cm .put-marks .kept .0 ∙ cn .put2 .kept .0 ∙ l .inv .1,
+      joined-put (placeBytes Two t) 95 (length-place Two t) _ _ _ 12 (l .i) (l .inv .2)
+          (put-place t (l .room) _ _ _ _ (placeAt Two (l .i)) _ (l .i) (cs .sort-at .ensures .0) (cn .put2 .ensures) (cm .put-marks .ensures) (ca .put-amounts .ensures) (ck .put-kept .ensures)),
     )
 
 same-length : tie.Need-same-length Inv-loop μ-loop
@@ -92,7 +104,7 @@ returns c =
     let l = c .before .loop in
     let a = c .before .before .before .args in
     let e : l .i ≡ 256 = omega arith in
-    l .inv .2 ∙ ap (λ n. sets (a .room .now) 8 (joined (placeBytes (a .t1)) n)) e
+    l .inv .2 ∙ ap (λ n. sets (a .room .now) 12 (joined (placeBytes Two (a .t1)) n)) e
 
 pub put-places-spec : {M : Type 1} → statement M
 put-places-spec =
@@ -101,8 +113,11 @@ put-places-spec =
     Inv-loop
     μ-loop
     loop-holds
-    mul-place
-    add-place
+    sort-at-requires
+    sub-put2
+    mul-put2
+    element-copy-out-put2
+    put2-requires
     element-copy-out-put-marks
     element-copy-out-put-marks-2
     mul-put-marks

@@ -1,0 +1,35 @@
+-- `bookfile::numbered::numbers_in` meets its contract.
+use mathlib.Core.Path.{ap, _∙_}
+use borrow.Author.Needs.{needs}
+use Rattle.bookfile.specs.Versions.{sizeOf}
+use Rattle.bookfile.proofs.numbered.numbers_in.Statement.{statement}
+use Rattle.bookfile.proofs.numbered.numbers_in.Tie as tie
+
+enum-told : tie.Need-enum-told
+enum-told c = search needs
+
+place-numbers-requires : tie.Need-place-numbers-requires
+place-numbers-requires c κs = search needs
+
+enum-told-2 : tie.Need-enum-told-2
+enum-told-2 c = search needs
+
+written-numbers-requires : tie.Need-written-numbers-requires
+written-numbers-requires c κs = c .before .before .before .pre ∙ ap sizeOf (c .enum-told2 .given .1)
+
+returns : tie.Need-returns
+returns c = rw (c .before .enum-told .given .1) (c .place-numbers .ensures)
+
+returns-2 : tie.Need-returns-2
+returns-2 c = rw (c .before .enum-told2 .given .1) (c .written-numbers .ensures)
+
+pub numbers-in-spec : {M : Type 1} → statement M
+numbers-in-spec =
+    tie.close
+    (tie.spec
+    enum-told
+    place-numbers-requires
+    enum-told-2
+    written-numbers-requires
+    returns
+    returns-2)
