@@ -9,10 +9,9 @@ use Rattle.table.specs.declared.Table.{Table}
 use Rattle.table.specs.Words.{turnedBack}
 use Rattle.book.specs.Facts.{Numbered, Sound}
 use Rattle.bookfile.specs.declared.Held.{Held}
-use Rattle.bookfile.specs.declared.Version.the-variants.{One, Two}
-use Rattle.bookfile.specs.Written.{size, writtenBy, writtenOf, wroteOf, roomAfter}
-use Rattle.bookfile.specs.Reading.{isOf, isBook, bookIn, readOf}
-use Rattle.bookfile.specs.Facts.{Fits, byPlaces}
+use Rattle.bookfile.specs.Written.{size, writtenOf, wroteOf, roomAfter}
+use Rattle.bookfile.specs.Reading.{isBook, bookIn, readOf}
+use Rattle.bookfile.specs.Facts.{Fits, byPlaces, isTwo, isOne, writtenAsOne}
 use Rattle.bookfile.proofs.RoundTrip.{read-written, written-read, written-once, written-long, room-reads}
 use Rattle.bookfile.proofs.VersionOne.{one-read, one-is-book, one-written, one-sound, one-sound-alone}
 use Rattle.feed.specs.declared.Day.{Day}
@@ -23,7 +22,7 @@ pub the-written-book-reads-back : (t : Table) → Fits t → readOf (writtenOf t
 the-written-book-reads-back = read-written
 
 -- Bytes that read as a book of version 2 are that book's written form.
-pub what-reads-was-written : (file : List ℕ) → Bytes file → isOf Two file ≡ true → writtenOf (bookIn file) ≡ file
+pub what-reads-was-written : (file : List ℕ) → Bytes file → isTwo file ≡ true → writtenOf (bookIn file) ≡ file
 what-reads-was-written = written-read
 
 -- Two books with one written form are the same.
@@ -40,12 +39,12 @@ the-lent-room-reads-back = room-reads
 
 -- K11, a book file of version 1: it reads as the book that it was written from, with numbers equal to places below the count, 0 from there on, and the count as the next
 -- number, ..
-pub version-1-reads-back-by-places : (t : Table) → Fits t → readOf (writtenBy One t) ≡ record { «is_book» = true; table = byPlaces t }
+pub version-1-reads-back-by-places : (t : Table) → Fits t → readOf (writtenAsOne t) ≡ record { «is_book» = true; table = byPlaces t }
 version-1-reads-back-by-places = one-read
 
 -- .. whatever its bytes: they are what version 1 wrote of the book that they read as, which has such numbers; ..
-pub version-1-bytes-are-such-a-book : (file : List ℕ) → Bytes file → isOf One file ≡ true
-    → (isBook file ≡ true) × (bookIn file ≡ byPlaces (bookIn file)) × (writtenBy One (bookIn file) ≡ file)
+pub version-1-bytes-are-such-a-book : (file : List ℕ) → Bytes file → isOne file ≡ true
+    → (isBook file ≡ true) × (bookIn file ≡ byPlaces (bookIn file)) × (writtenAsOne (bookIn file) ≡ file)
 version-1-bytes-are-such-a-book file y h = (one-is-book file h .0, one-is-book file h .1, one-written file h y)
 
 -- .. and a book with such numbers is sound exactly where it is with any other numbers that are a sound book's.
