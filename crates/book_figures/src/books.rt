@@ -1,7 +1,7 @@
 // Books to ask about, each a table with some words put anew.
 use book::Table;
 
-// The table with the live account i, the last one: all of its collateral is allocated cash.
+// The table with the live account i, the last one, at the place of its number: all of its collateral is allocated cash.
 fn with(t: Table, i: u8, sort: u8, tm: u16, amount: u64, margin: u64) -> Table {
     let at = i as usize;
     let mut w = t;
@@ -9,6 +9,8 @@ fn with(t: Table, i: u8, sort: u8, tm: u16, amount: u64, margin: u64) -> Table {
     w.sort[at] = sort;
     w.live[at] = true;
     w.tm[at] = tm;
+    w.numbers[at] = i as u16;
+    w.next = i as u32 + 1;
     w.amounts[at] = amount;
     w.amounts[1024 + at] = amount;
     w.amounts[2304 + at] = margin;

@@ -40,6 +40,8 @@ fn two() -> Table {
     b.rows[0] = each(0, 1);
     b.rows[1] = each(3, 10);
     b.count = 2;
+    b.numbers[1] = 1;
+    b.next = 2;
     b.needs[0] = 6;
     turn(b)
 }

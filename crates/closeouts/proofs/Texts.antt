@@ -22,15 +22,15 @@ use Rattle.closeouts.specs.Texts.{lent, textOf}
 
 pub text-is : (b : Book) (losses room amounts rest : List ℕ) (x : Closed) (n : ℕ) → room ≡ replicate 1024 0 → n ≡ accounts (b .count)
     → length amounts ≡ 4 * n → x ≡ closedOf b losses (take (4 * n) room) → amounts ≡ roomOf b losses (take (4 * n) room)
-    → closeOutText (x .refusal) (x .total) losses (take (4 * n) (amounts ++ rest)) ≡ textOf b losses
+    → closeOutText (x .refusal) (x .total) (b .numbers) losses (take (4 * n) (amounts ++ rest)) ≡ textOf b losses
 unfolding textOf
 text-is b losses room amounts rest x n zeros given wide answer rows =
     let e : take (4 * n) room ≡ lent b = ap (take (4 * n)) zeros ∙ ap (λ (k : ℕ). take (4 * k) (replicate 1024 0)) given in
     let front : take (4 * n) (amounts ++ rest) ≡ amounts =
     ap (λ (k : ℕ). take k (amounts ++ rest)) (sym wide) ∙ take-append-seam amounts rest in
-    ap (closeOutText (x .refusal) (x .total) losses) (front ∙ rows)
-    ∙ ap (λ (y : Closed). closeOutText (y .refusal) (y .total) losses (roomOf b losses (take (4 * n) room))) answer
-    ∙ ap (λ (r : List ℕ). closeOutText (closedOf b losses r .refusal) (closedOf b losses r .total) losses (roomOf b losses r)) e
+    ap (closeOutText (x .refusal) (x .total) (b .numbers) losses) (front ∙ rows)
+    ∙ ap (λ (y : Closed). closeOutText (y .refusal) (y .total) (b .numbers) losses (roomOf b losses (take (4 * n) room))) answer
+    ∙ ap (λ (r : List ℕ). closeOutText (closedOf b losses r .refusal) (closedOf b losses r .total) (b .numbers) losses (roomOf b losses r)) e
 
 module _ (b : Book) (losses : List ℕ) where
   -- "or `refused N` alone in their place"
@@ -49,10 +49,10 @@ module _ (b : Book) (losses : List ℕ) where
 
     -- "a line per account: number, loss, the four amounts; then `total N`": no account is left out
     pub carried-text : textOf b losses
-        ≡ lossLines losses (rowsTo (four (view b) (lossAt losses)) (b .count)) (b .count) ++ wordLine totalWord (total (view b) (lossAt losses))
+        ≡ lossLines (b .numbers) losses (rowsTo (four (view b) (lossAt losses)) (b .count)) (b .count) ++ wordLine totalWord (total (view b) (lossAt losses))
     unfolding textOf closedOf closeOutText
     carried-text =
         let rows = rowsTo (four (view b) (lossAt losses)) (b .count) in
         let wide : length rows ≡ 4 * b .count = length-rows (four (view b) (lossAt losses)) (four-long (view b) (lossAt losses)) (b .count) in
         let all : listed losses rows ≡ b .count = omega (arith, a-loss-each, wide, carried-sound b losses (lent b) ok .most) in
-        rw (ok, carried-room b losses (lent b) ok) (ap (λ (n : ℕ). lossLines losses rows n ++ wordLine totalWord (total (view b) (lossAt losses))) all)
+        rw (ok, carried-room b losses (lent b) ok) (ap (λ (n : ℕ). lossLines (b .numbers) losses rows n ++ wordLine totalWord (total (view b) (lossAt losses))) all)

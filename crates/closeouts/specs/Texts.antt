@@ -13,4 +13,5 @@ lent b = take (4 * accounts (b .count)) (replicate 1024 0)
 -- a line per account: number, loss, the four amounts; then `total N`, or `refused N` alone in their place, by what the close-out
 -- of document 01 gives for these losses
 unfoldable pub textOf : Book → List ℕ → List ℕ
-textOf b losses = closeOutText (closedOf b losses (lent b) .refusal) (closedOf b losses (lent b) .total) losses (roomOf b losses (lent b))
+textOf b losses =
+    closeOutText (closedOf b losses (lent b) .refusal) (closedOf b losses (lent b) .total) (b .numbers) losses (roomOf b losses (lent b))

@@ -35,9 +35,11 @@ fn close_out_text(t: Table, losses: &[u64], room: &mut [u8; 65536]) -> usize
     let mut amounts = zeros();
     let wanted = 4 * accounts(t);
     let closed = closeout::close_out(t, losses, &mut amounts[..wanted]);
+    let numbers = t.numbers;
     report::close_out_text(
         closed.refusal,
         closed.total,
+        &numbers,
         losses,
         &amounts[..wanted],
         room,
