@@ -1,9 +1,14 @@
 -- What the theorems speak of: no promise of a public call cites it.
+use mathlib.Core.Bool.{Bool}
+use mathlib.Core.List.{List}
 use mathlib.Core.Path.{_≡_}
 use Prim.Native.Nat.{ℕ, _^_, _<_}
 use lib.ListN.{length, getD}
 use Rattle.table.specs.declared.Table.{Table}
 use Rattle.book.specs.Placed.{placeNumbers}
+use Rattle.bookfile.specs.declared.Version.the-variants.{One, Two}
+use Rattle.bookfile.specs.Written.{writtenBy}
+use Rattle.bookfile.specs.Reading.{isOf}
 
 -- what every value of the type has: each array its length, and each number fits its word
 pub record Fits (t : Table) : Type 0 where
@@ -37,3 +42,14 @@ byPlaces t = record {
   next = t .count;
   numbers = placeNumbers (t .count);
 }
+
+-- bytes that are a book of version 2, and of version 1
+abbrev pub isTwo : List ℕ → Bool
+isTwo file = isOf Two file
+
+abbrev pub isOne : List ℕ → Bool
+isOne file = isOf One file
+
+-- what was written of a book before version 2
+abbrev pub writtenAsOne : Table → List ℕ
+writtenAsOne t = writtenBy One t

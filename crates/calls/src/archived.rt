@@ -4,25 +4,26 @@ ghost use lib.ListN.{length};
 use crate::call::Told;
 use crate::call::none;
 use crate::changed::put_book;
+use crate::rooms::put_front;
 use crate::rooms::widened_words;
 use crate::rooms::words;
 use crate::taken::LIST;
 use crate::taken::length4;
 use archival::Table;
-use text::put_each;
 
 // Archives with a room of n, and puts the line.
 fn put_archived(room: &mut [u8], before: Table, n: usize) -> usize
     requires { ⌜ (n ≤ 4096) × (178000 ≤ length (now room)) ⌝ }
     ensures { λ after. ⌜ after ≤ length (now (room .exit)) ⌝ }
 {
+    let end = n + 2;
     let mut archive = words(n);
-    let got = archival::archive(before, &mut archive[..n]);
+    let got = archival::archive(before, &mut archive[0..n]);
     let after = got.table;
     let mut line = widened_words(archive, n);
     line[0] = got.refusal as u64;
     line[1] = got.moved as u64;
-    let at = put_each(room, 0, &line, n + 2);
+    let at = put_front(room, line, end);
     put_book(room, at, before, after)
 }
 

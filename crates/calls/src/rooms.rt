@@ -4,6 +4,7 @@ ghost use mathlib.Core.Path.{_≡_};
 ghost use Prim.Native.Nat.{_+_, _≤_, _<_};
 ghost use lib.ListN.{length};
 use crate::taken::LIST;
+use text::put_each;
 use text::put_spaced;
 
 // The most numbers of a part of a line: count, serial, next number, and seventeen for each of 256 places.
@@ -82,6 +83,14 @@ pub(crate) fn widened_words(room: [u16; LIST], n: usize) -> [u64; LINE]
         i += 1;
     }
     line
+}
+
+// Puts a line's first n numbers with a space behind each: more follows.
+pub(crate) fn put_front(room: &mut [u8], line: [u64; LINE], n: usize) -> usize
+    requires { ⌜ (n ≤ 4098) × (86058 ≤ length (now room)) ⌝ }
+    ensures { λ after. ⌜ after ≤ 86058 ⌝ }
+{
+    put_each(room, 0, &line[0..n], n)
 }
 
 // Puts the numbers of a line from one place up to another, and the line's end behind them.

@@ -32,6 +32,7 @@ use Rattle.feed.specs.Fed.{noDay, wholeDay}
 use Rattle.feed.specs.Books.{namesFile, freshFrom, fromHeld, wentTo, nowhere}
 use Rattle.table.proofs as table
 use Rattle.book.proofs as book
+use Rattle.archival.proofs as archival
 use Rattle.dayfile.proofs as dayfile
 use Rattle.desk.proofs as desk
 use Rattle.run.proofs as run
@@ -110,6 +111,12 @@ of-book-amount-sum κs a x y u v p q = (one-result p q, refl)
 -- taking over: the refusal or 0, and the table
 pub of-book-take-over : OneResultOnly book.take_over.ended book.take_over.Reads.Learnt
 of-book-take-over κs a x y u v p q = (one-result p q, refl)
+
+-- ---- archival
+
+-- retired rows moved to a lent archive
+pub of-archival-archive : OneResultOnly archival.archive.ended archival.archive.Reads.Learnt
+of-archival-archive κs a x y u v p q = (one-result (p .0) (q .0), ap (λ room. (tt, (room, tt))) (one-result (p .1) (q .1)))
 
 -- ---- bookfile
 
@@ -251,7 +258,7 @@ of-report-needs-text κs a x y u v p q = (one-result (p .0) (q .0), ap (λ room.
 
 -- how long the close-out's lines are, and the room with them
 pub of-report-close-out-text : OneResultOnly report.close_out_text.ended report.close_out_text.Reads.Learnt
-of-report-close-out-text κs a x y u v p q = (one-result (p .0) (q .0), ap (λ room. (tt, (tt, (tt, (tt, (room, tt)))))) (one-result (p .1) (q .1)))
+of-report-close-out-text κs a x y u v p q = (one-result (p .0) (q .0), ap (λ room. (tt, (tt, (tt, (tt, (tt, (room, tt))))))) (one-result (p .1) (q .1)))
 
 -- How much of the closing line was handed over: all of it, unless a write failed, which no promise can say. Where as many bytes were taken, and where none failed, the results are the same.
 pub of-report-closing :

@@ -14,6 +14,7 @@ use Rattle.book.specs.Sound.{soundB}
 use Rattle.book.specs.Asked.{standingOf}
 use Rattle.book.specs.NeedsListed.{needsRefusal, needsRoom}
 use Rattle.book.specs.Evening.{eveningOf}
+use Rattle.archival.specs.Archive.{archivedOf, archiveRoom}
 use Rattle.book.specs.TakeOver.{takeOverRefusal, takenOver}
 use Rattle.book.specs.declared.Amount.{Amount}
 use Rattle.dayfile.specs.declared.Record.{Record}
@@ -57,6 +58,10 @@ module _ (b : Book) (h : places b ≡ 256) where
   -- .. taking over, its refusal and its book; ..
   pub take-over-as : (takeOverRefusal (turnedBack (turned b)) ≡ takeOverRefusal b) × (turned (takenOver (turnedBack (turned b))) ≡ turned (takenOver b))
   take-over-as = (answers-as takeOverRefusal, answers-as (λ c. turned (takenOver c)))
+
+  -- .. an archiving, its answer and its room; ..
+  pub archive-as : (room : List ℕ) → (archivedOf (turnedBack (turned b)) room ≡ archivedOf b room) × (archiveRoom (turnedBack (turned b)) room ≡ archiveRoom b room)
+  archive-as room = (answers-as (λ c. archivedOf c room), answers-as (λ c. archiveRoom c room))
 
   -- "and leaves the old one's book, turned over": after a record, ..
   pub carry-out-leaves : (r : Record)

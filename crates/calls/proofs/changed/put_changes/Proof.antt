@@ -1,11 +1,11 @@
--- `calls::changed::put_changes`: at most sixteen numbers for each place so far, behind count and serial.
+-- `calls::changed::put_changes`: at most seventeen numbers for each place so far, behind count, serial and next number.
 use Prim.Native.Nat.{_+_, _*_, _≤_, _-_}
 use borrow.Author.Needs.{needs}
 use Rattle.calls.proofs.changed.put_changes.Statement.{statement}
 use Rattle.calls.proofs.changed.put_changes.Tie as tie
 
 abbrev Inv-loop : tie.InvT-loop
-Inv-loop list₀ a b n₀ i₀ list n i = (i ≤ 256) × (2 ≤ n) × (n ≤ 2 + 16 * i)
+Inv-loop list₀ a b n₀ i₀ list n i = (i ≤ 256) × (3 ≤ n) × (n ≤ 3 + 17 * i)
 
 abbrev μ-loop : tie.MeasureT-loop
 μ-loop list₀ a b n₀ i₀ list n i = 256 - i
@@ -22,8 +22,20 @@ cast-list-2 c = search needs
 element-write-list-2 : tie.Need-element-write-list-2 Inv-loop μ-loop
 element-write-list-2 c = search needs
 
+cast-list-3 : tie.Need-cast-list-3 Inv-loop μ-loop
+cast-list-3 c = search needs
+
+element-write-list-3 : tie.Need-element-write-list-3 Inv-loop μ-loop
+element-write-list-3 c = search needs
+
 loop-holds : tie.Need-loop-holds Inv-loop μ-loop
 loop-holds c = search needs
+
+mul-number : tie.Need-mul-number Inv-loop μ-loop
+mul-number c = search needs
+
+element-copy-out-number : tie.Need-element-copy-out-number Inv-loop μ-loop
+element-copy-out-number c = search needs
 
 element-copy-out-sort : tie.Need-element-copy-out-sort Inv-loop μ-loop
 element-copy-out-sort c = search needs
@@ -73,6 +85,12 @@ mul-kept c = search needs
 element-copy-out-kept : tie.Need-element-copy-out-kept Inv-loop μ-loop
 element-copy-out-kept c = search needs
 
+mul-kept-2 : tie.Need-mul-kept-2 Inv-loop μ-loop
+mul-kept-2 c = search needs
+
+element-copy-out-kept-2 : tie.Need-element-copy-out-kept-2 Inv-loop μ-loop
+element-copy-out-kept-2 c = search needs
+
 amounts-differ-requires : tie.Need-amounts-differ-requires Inv-loop μ-loop
 amounts-differ-requires c κs = search needs
 
@@ -101,7 +119,11 @@ put-changes-spec =
     element-write-list
     cast-list-2
     element-write-list-2
+    cast-list-3
+    element-write-list-3
     loop-holds
+    mul-number
+    element-copy-out-number
     element-copy-out-sort
     element-copy-out-live
     mul-tm
@@ -118,6 +140,8 @@ put-changes-spec =
     differ-requires-2
     mul-kept
     element-copy-out-kept
+    mul-kept-2
+    element-copy-out-kept-2
     amounts-differ-requires
     put-place-requires
     add-i
