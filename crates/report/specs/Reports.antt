@@ -13,18 +13,11 @@ use Rattle.book.specs.declared.Figures.{Figures}
 use Rattle.book.specs.Sound.{soundB}
 use Rattle.book.specs.Asked.{standingOf}
 use Rattle.text.specs.Numbers.{space, newline, followed, spaced, andSpaces}
-use Rattle.text.specs.Words.{andSpace}
+use Rattle.text.specs.Words.{andSpace, sortWord}
 
 -- "A book holds at most 256 accounts": a count beyond that names no further row
 abbrev pub accounts : ℕ → ℕ
 accounts count = min count 256
-
--- `cm`, `tm`, `client` or `cp`
-abbrev pub sortWord : ℕ → List ℕ
-sortWord zero = 99 ∷ 109 ∷ []  -- c m
-sortWord (suc zero) = 116 ∷ 109 ∷ []  -- t m
-sortWord (suc (suc zero)) = 99 ∷ 108 ∷ 105 ∷ 101 ∷ 110 ∷ 116 ∷ []  -- c l i e n t
-sortWord (suc (suc (suc sort))) = 99 ∷ 112 ∷ []  -- c p
 
 -- `live` or `retired`
 abbrev pub stateWord : Bool → List ℕ

@@ -6,7 +6,7 @@ ghost use Rattle.table.specs.Words.{turnedBack};
 ghost use Rattle.text.specs.Numbers.{andSpaces};
 ghost use Rattle.text.specs.Words.{andSpace};
 ghost use Rattle.text.specs.Inner.{Puts};
-ghost use Rattle.report.specs.Reports.{sortWord, stateWord, modeWord, numbersOf, standingLine, standingLines};
+ghost use Rattle.report.specs.Reports.{stateWord, modeWord, numbersOf, standingLine, standingLines};
 use crate::number_at;
 use book::Figures;
 use rows::Row;
@@ -14,20 +14,8 @@ use table::Table;
 use table::places::row_of;
 use text::put_each;
 use text::put_number;
+use text::put_sort;
 use text::put_text;
-
-fn put_sort(room: &mut [u8], at: usize, sort: u8) -> usize
-    requires { ⌜ at + 7 ≤ length (now room) ⌝ }
-    ensures { λ after. ⌜ Puts (now (room .entry)) at (andSpace (sortWord sort)) (now (room .exit)) after ⌝ }
-    ensures { λ after. ⌜ after ≤ at + 7 ⌝ }
-{
-    match sort {
-        0 => put_text(room, at, b"cm "),
-        1 => put_text(room, at, b"tm "),
-        2 => put_text(room, at, b"client "),
-        _ => put_text(room, at, b"cp "),
-    }
-}
 
 fn put_state(room: &mut [u8], at: usize, live: bool) -> usize
     requires { ⌜ at + 8 ≤ length (now room) ⌝ }
@@ -77,7 +65,7 @@ fn put_standing(room: &mut [u8], at: usize, number: u16, r: Row, tm: u16, f: Fig
     ensures { λ after. ⌜ after ≤ at + 187 ⌝ }
 {
     let p1 = put_number(room, at, number as u64, b' ');
-    let p2 = put_sort(room, p1, r.sort);
+    let p2 = put_sort(room, p1, r.sort as u16);
     let p3 = put_state(room, p2, r.live);
     let p4 = put_numbers(room, p3, tm, f);
     let p5 = put_mode(room, p4, f.mode);

@@ -8,7 +8,7 @@ use lib.IntN.{ℤ, pos, negsuc}
 use borrow.Author.Tests.{ltb-false}
 use Rattle.sums.specs.Choice.{pick}
 use Rattle.streams.specs.declared.Moved.{Moved}
-use Rattle.streams.specs.Calls.{movedBy, nothingMoved, andThen}
+use Rattle.streams.specs.Calls.{movedBy, nothingMoved, noBytes, andThen}
 
 pub all-taken : (m : Moved) (n : ℕ) → m .count ≤ n → m .failed ≡ ltb (m .count) n → m .failed ≡ false → m .count ≡ n
 all-taken m n h e f = omega (arith, ltb-false (m .count) n (sym e ∙ f))
@@ -33,6 +33,10 @@ module _ {m : Moved} (e : m ≡ nothingMoved) where
 
   pub it-failed : {A : Type 0} → m .failed ≡ false → A
   it-failed f = absurd (false≢true (sym f ∙ ap (λ (x : Moved). x .failed) e))
+
+-- of a file that isn't there
+pub none-came : {m : Moved} → m ≡ noBytes → (n : ℕ) → (m .count ≤ n) × (m .failed ≡ true → m .count ≡ 0)
+none-came e n = rw e (omega arith, λ _. refl)
 
 pub whole : (m : Moved) (n : ℕ) → m .failed ≡ false → m .count ≡ n → m .count ≡ pick (m .failed) 0 n
 unfolding pick

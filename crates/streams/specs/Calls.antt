@@ -21,6 +21,10 @@ errorIs n (negsuc k) = false
 abbrev pub interruptedBy : ℤ → ℤ → Bool
 interruptedBy answer error = failedBy answer && errorIs 4 error
 
+-- ENOENT, which is 2: there is no file of that name
+abbrev pub missingBy : ℤ → ℤ → Bool
+missingBy answer error = failedBy answer && errorIs 2 error
+
 -- what a call came to that was to move n bytes
 unfoldable pub movedBy : ℤ → ℕ → Moved
 movedBy answer n = record { failed = failedBy answer; count = clamped answer n }
@@ -32,6 +36,10 @@ stoppedAt n more = record { failed = more .failed; count = n }
 -- a call failed, and nothing counts as moved
 abbrev pub nothingMoved : Moved
 nothingMoved = record { failed = true; count = 0 }
+
+-- a file that has no byte, or that isn't there
+abbrev pub noBytes : Moved
+noBytes = record { failed = false; count = 0 }
 
 -- a move and the answer of a call behind it: where that one fails, nothing counts as moved
 unfoldable pub andThen : Moved → ℤ → Moved

@@ -18,7 +18,7 @@ use libc::STDERR_FILENO;
 const BESIDE: usize = 4099;
 
 // Called right behind the call that failed: a write that takes all leaves errno as it was.
-fn cannot(program: &[u8], what: &[u8], name: &[u8]) {
+pub(crate) fn cannot(program: &[u8], what: &[u8], name: &[u8]) {
     io::write_all(STDERR_FILENO, program);
     io::write_all(STDERR_FILENO, b": cannot ");
     io::write_all(STDERR_FILENO, what);
@@ -26,7 +26,7 @@ fn cannot(program: &[u8], what: &[u8], name: &[u8]) {
     os::fail(name);
 }
 
-fn nothing_moved() -> Moved
+pub(crate) fn nothing_moved() -> Moved
     ensures { λ m. ⌜ m ≡ nothingMoved ⌝ }
 {
     Moved {
@@ -47,7 +47,13 @@ fn and_then(program: &[u8], what: &[u8], name: &[u8], put: Moved, answer: i32) -
 }
 
 // Reads from a file that was opened, or that couldn't be.
-fn read_opened(program: &[u8], what: &[u8], name: &[u8], fd: i32, room: &mut [u8]) -> Moved
+pub(crate) fn read_opened(
+    program: &[u8],
+    what: &[u8],
+    name: &[u8],
+    fd: i32,
+    room: &mut [u8],
+) -> Moved
     ensures { λ m. ⌜ m .count ≤ length (now (room .exit)) ⌝ }
     ensures { λ m. ⌜ (m .failed ≡ true → m .count ≡ 0) ⌝ }
     ensures { λ m. ⌜ (m .failed ≡ false → failedBy fd ≡ false) ⌝ }

@@ -8,6 +8,7 @@ ghost use Rattle.streams.specs.Calls.{interruptedBy, movedBy, stoppedAt}
 
 mod beside;
 pub mod files;
+pub mod optional;
 pub mod standard;
 pub mod words;
 

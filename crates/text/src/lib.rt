@@ -2,6 +2,7 @@
 ghost use Prim.Native.Nat.{_+_, _*_, _≤_};
 ghost use lib.ListN.{length, take};
 ghost use Rattle.text.specs.Numbers.{followed, spaced, andSpaces};
+ghost use Rattle.text.specs.Words.{andSpace, sortWord};
 ghost use Rattle.text.specs.Inner.{Puts};
 
 mod number;
@@ -39,6 +40,20 @@ pub fn put_short(room: &mut [u8], at: usize, n: u16, mark: u8) -> usize
     let p = number::put_five(room, at, n);
     room[p] = mark;
     p + 1
+}
+
+// Puts the word of an account's sort and a space, and gives the place after both.
+pub fn put_sort(room: &mut [u8], at: usize, sort: u16) -> usize
+    requires { ⌜ at + 7 ≤ length (now room) ⌝ }
+    ensures { λ after. ⌜ Puts (now (room .entry)) at (andSpace (sortWord sort)) (now (room .exit)) after ⌝ }
+    ensures { λ after. ⌜ after ≤ at + 7 ⌝ }
+{
+    match sort {
+        0 => put_text(room, at, b"cm "),
+        1 => put_text(room, at, b"tm "),
+        2 => put_text(room, at, b"client "),
+        _ => put_text(room, at, b"cp "),
+    }
 }
 
 // Puts a list's first n numbers with a space behind each, and gives the place after them.

@@ -39,17 +39,17 @@ close-out-requires : tie.Need-close-out-requires
 close-out-requires c κs = search needs
 
 array-share-prefix-amounts : tie.Need-array-share-prefix-amounts
-array-share-prefix-amounts c = front c
+array-share-prefix-amounts c = front (c .before .before)
 
 slice-aggregate-close-out-text : tie.Need-slice-aggregate-close-out-text
-slice-aggregate-close-out-text c = sym (length-take-le _ _ (front (c .before)))
+slice-aggregate-close-out-text c = sym (length-take-le _ _ (front (c .before .before .before)))
 
 close-out-text-requires : tie.Need-close-out-text-requires
 close-out-text-requires c κs = search needs
 
 returns : tie.Need-returns
 returns c =
-    let o = c .before .before .before .before in
+    let o = c .before .before .before .before .before .before in
     let e = text-is _ _ _ _ _ _ _ (o .before .before .before .zeros .ensures) (o .before .before .accounts .ensures) (exact o) (o .close-out .ensures .0) (o .close-out .ensures .1) in
     (c .close-out-text .ensures .0 ∙ ap length e, c .close-out-text .ensures .1 ∙ ap (λ t. atStart t (o .before .before .before .before .before .args .room .now)) e)
 

@@ -9,6 +9,9 @@ use Rattle.report.proofs.standing.put_standing.Tie as tie
 put-number-requires : tie.Need-put-number-requires
 put-number-requires c κs = search needs
 
+cast-put-sort : tie.Need-cast-put-sort
+cast-put-sort c = search needs
+
 put-sort-requires : tie.Need-put-sort-requires
 put-sort-requires c κs = search needs
 
@@ -35,7 +38,7 @@ returns c =
     let n = m .before .before .before .before in
     let s = n .before .before .before .before in
     let k = s .before .before .before .before in
-    let i = k .before .before .before .before in (
+    let i = k .before .before .before .before .before in (
       and-then _ _ (i .put-number .ensures .0)
           (and-then _ _ (k .put-sort .ensures .0)
           (and-then _ _ (s .put-state .ensures .0)
@@ -48,6 +51,7 @@ put-standing-spec =
     tie.close
     (tie.spec
     put-number-requires
+    cast-put-sort
     put-sort-requires
     put-state-requires
     put-numbers-requires

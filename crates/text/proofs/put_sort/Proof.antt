@@ -1,12 +1,12 @@
--- `report::standing::put_sort` meets its contract.
+-- `text::put_sort` meets its contract.
 use borrow.Author.Needs.{needs}
 use mathlib.Core.List.{[], _∷_}
 use mathlib.Core.Path.{_≡_, refl}
 use Prim.Native.Nat.{ℕ, zero, suc}
 use native.Mathlib.Omega.{arith}
-use Rattle.report.specs.Reports.{sortWord}
-use Rattle.report.proofs.standing.put_sort.Statement.{statement}
-use Rattle.report.proofs.standing.put_sort.Tie as tie
+use Rattle.text.specs.Words.{sortWord}
+use Rattle.text.proofs.put_sort.Statement.{statement}
+use Rattle.text.proofs.put_sort.Tie as tie
 
 others : (sort : ℕ) → (sort ≡ 0 → ⊥) → (sort ≡ 1 → ⊥) → (sort ≡ 2 → ⊥) → sortWord sort ≡ 99 ∷ 112 ∷ []
 others zero a b d = absurd (a refl)

@@ -1,0 +1,5 @@
+pub mod Looked
+pub mod Lines
+pub mod Held
+pub mod Filing
+pub mod Example
