@@ -104,3 +104,12 @@ two-at s at h =
 pub number-two : (s : List ℕ) (at : ℕ) → at + 2 ≤ length s → getD s at 0 * 256 + getD s (at + 1) 0 ≡ number 2 (drop at s)
 unfolding number
 number-two s at h = rw (two-at s at h) (omega arith)
+
+-- eight bytes as four pairs
+pub number-eight : (s : List ℕ) (at : ℕ) → (number 2 (drop at s) * 281474976710656 + number 2 (drop (at + 2) s) * 4294967296) + (number 2 (drop (at + 4) s) * 65536 + number 2 (drop (at + 6) s)) ≡ number 8 (drop at s)
+number-eight s at =
+    let e : at + 4 + 2 ≡ at + 6 = omega arith in
+    let high : number 4 (drop at s) ≡ number 2 (drop at s) * 65536 + number 2 (drop (at + 2) s) = number-at 2 2 s at in
+    let low : number 4 (drop (at + 4) s) ≡ number 2 (drop (at + 4) s) * 65536 + number 2 (drop (at + 6) s) = number-at 2 2 s (at + 4) ∙ ap (λ (n : ℕ). number 2 (drop (at + 4) s) * 65536 + number 2 (drop n s)) e in
+    let all : number 8 (drop at s) ≡ number 4 (drop at s) * 4294967296 + number 4 (drop (at + 4) s) = number-at 4 4 s at in
+    omega (arith, high, low, all)

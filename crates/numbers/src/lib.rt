@@ -19,11 +19,13 @@ pub fn number4(piece: &[u8], place: usize) -> u32
     number2(piece, place) as u32 * 65536 + number2(piece, place + 2) as u32
 }
 
+// As four pairs: the record loop reads amounts by it, and two halves compile to more instructions.
 pub fn number8(piece: &[u8], place: usize) -> u64
     requires { ⌜ place + 8 ≤ length (now piece) ⌝ }
     ensures { λ r. ⌜ r ≡ number 8 (drop place (now (piece .entry))) ⌝ }
 {
-    number4(piece, place) as u64 * 4294967296 + number4(piece, place + 4) as u64
+    (number2(piece, place) as u64 * 281474976710656 + number2(piece, place + 2) as u64 * 4294967296)
+        + (number2(piece, place + 4) as u64 * 65536 + number2(piece, place + 6) as u64)
 }
 
 pub fn put2(room: &mut [u8], place: usize, x: u16)

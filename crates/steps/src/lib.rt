@@ -205,7 +205,7 @@ pub fn on(at: At, gone: Gone) -> At
         count: gone.count,
         serial: gone.serial,
         next: gone.next,
-        waiting: at.waiting & (gone.carried == 0),
+        waiting: if gone.carried == 0 { at.waiting } else { false },
     }
 }
 
