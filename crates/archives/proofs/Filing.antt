@@ -2,11 +2,10 @@
 use mathlib.Core.Bool.{Bool, true, false}
 use mathlib.Core.List.{List, [], _∷_, _++_, append-nil, append-assoc}
 use mathlib.Core.Path.{_≡_, refl, sym, ap, _∙_}
-use Prim.Native.Nat.{ℕ, zero, suc, _+_, _/_, _<_}
+use Prim.Native.Nat.{ℕ, zero, suc, _/_, _<_}
 use native.Mathlib.Omega.{arith}
 use native.Mathlib.Decide.{ℕ-discrete}
-use lib.ListN.{length, take, length-append}
-use lib.Seq.{take-append-seam}
+use lib.ListN.{length, length-append}
 use Rattle.sums.proofs.Choices.{pick-yes, pick-no}
 use Rattle.text.specs.Numbers.{space, newline, followed, decimal}
 use Rattle.text.specs.Words.{andSpace, sortWord}

@@ -8,7 +8,7 @@ use native.Mathlib.Omega.{arith}
 use lib.Dec.{ltb}
 use lib.ListN.{length, take}
 use Rattle.archives.specs.Entries.{entryAt}
-use Rattle.archives.specs.Files.{ended, withLine, filedTo}
+use Rattle.archives.specs.Files.{withLine, filedTo}
 use Rattle.archives.specs.Inner.{Holds}
 use Rattle.archives.proofs.Held.{holds-same, holds-as, held-length}
 use Rattle.archives.proofs.file.Statement.{statement}
