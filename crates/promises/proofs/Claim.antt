@@ -1,4 +1,4 @@
--- P1 to P11, Annexure 5, K3's list, K7's tenth, K9's charges and K10's clients, by one claim over the list: `figures`, at the end. What stands before it makes it quick to compute: by the rules each
+-- P1 to P11, Annexure 5, K3's list, K7's tenth, K9's charges, K10's clients and K14's orders, by one claim over the list: `figures`, at the end. What stands before it makes it quick to compute: by the rules each
 -- record asks whether the book is sound, which is long to compute, and holds by theorem (Quick).
 use mathlib.Core.List.{List, [], _∷_, _++_, map}
 use mathlib.Core.Path.{_≡_, refl, sym, ap, _∙_}
@@ -9,11 +9,13 @@ use Rattle.sums.specs.Choice.{pick}
 use Rattle.sums.specs.Listed.{listTo}
 use Rattle.sums.specs.Table.{first}
 use Rattle.numbers.specs.Bytes.{number}
+use Rattle.rows.specs.declared.Book.{Book}
 use Rattle.rows.specs.View.{needTM, needCM, need, blocked, deemed}
 use Rattle.rows.specs.Rows.{placeAmong, counted, freshBook, hasLiveClient, needAt, view}
 use Rattle.rows.specs.Modes.{useTM, useCM, useOf, modeAfter, looked}
 use Rattle.rows.specs.KeptNeeds.{needsAfresh}
 use Rattle.book.specs.NeedsListed.{allNeeds}
+use Rattle.book.specs.Facts.{Sound}
 use Rattle.book.proofs.FreshSound.{fresh-sound, fresh-test}
 use Rattle.dayfile.specs.declared.Record.{Record}
 use Rattle.dayfile.specs.declared.Found.{Found}
@@ -27,6 +29,7 @@ use Rattle.desk.specs.declared.Next.{Next}
 use Rattle.desk.specs.Answers.{nobody, refusalIn}
 use Rattle.desk.specs.Steps.{stepOf, onFound, nextOf}
 use Rattle.desk.proofs.Doing.{sound-next}
+use Rattle.records.proofs.SoundRun.{step-sound}
 use Rattle.closeout.specs.Round.{fromTM, askedOfCM, fromCM, unpaid}
 use Rattle.closeout.specs.Columns.{paid₁, part₂, ownColumn, tmColumn, cmColumn, uncovered, four, rowsTo}
 use Rattle.closeout.specs.Closing.{closedOf, roomOf}
@@ -35,7 +38,8 @@ use Rattle.currency.specs.Charges.{faultOf as faultIn, firstFault, chargeOf, ch
 use Rattle.currency.specs.Margins.{sumOf, refusalOf as marginRefusal, madeOf}
 use Rattle.exposure.specs.Exposures.{intradayOf}
 use Rattle.promises.specs.Sequences.{afterAll}
-use Rattle.promises.specs.Figures.{Question, blockedAfter, deemedAfter, refusalAfter, closedAfter, bytesLong, refusalRead, excessAfter, usedAfter, needsAfter, collateralAfter, marginOf, ratesOf, exposureTo}
+use Rattle.promises.specs.Archivings.{answersTo}
+use Rattle.promises.specs.Figures.{Question, blockedAfter, deemedAfter, refusalAfter, refusalsAfter, closedAfter, bytesLong, refusalRead, excessAfter, usedAfter, needsAfter, collateralAfter, marginOf, ratesOf, exposureTo}
 use Rattle.promises.specs.Figures.{cases, each, excessIn, usedIn, closedIn, zeros, byTheRules, casesByTheRules, expected, marginIn, ratesIn, exposureIn}
 use Rattle.promises.proofs.Quick.{quickStep, quick-step, all-sound, quickAll, quick-all, quickClosed, quickRoom, quick-closed, quick-room}
 
@@ -59,6 +63,21 @@ read-same s = sym (sound-next freshBook s 0 (foundAt s 0) fresh-test refl) ∙ b
     by TooFew = refl
     by (Whole r next) = ap (λ d. record { answer = d .answer; book = d .book; place = next }) (quick-step freshBook r fresh-sound)
 
+-- the refusals of records, one after the other
+unfoldable quickRefusals : Book → List Record → List ℕ
+quickRefusals b [] = []
+quickRefusals b (r ∷ rs) = refusalIn (quickStep b r .answer .outcome) ∷ quickRefusals (quickStep b r .book) rs
+
+quick-refusals : (b : Book) (rs : List Record) → Sound b → map (λ a. refusalIn (a .outcome)) (answersTo b rs) ≡ quickRefusals b rs
+unfolding answersTo quickRefusals
+quick-refusals b [] s = refl
+quick-refusals b (r ∷ rs) s =
+    ap (λ l. refusalIn (stepOf b r .answer .outcome) ∷ l) (quick-refusals (stepOf b r .book) rs (step-sound b r s))
+    ∙ ap (λ d. refusalIn (d .answer .outcome) ∷ quickRefusals (d .book) rs) (quick-step b r s)
+
+refusals-same : (rs qs : List Record) → map (λ a. refusalIn (a .outcome)) (answersTo (afterAll freshBook rs) qs) ≡ quickRefusals (quickAll freshBook rs) qs
+refusals-same rs qs = quick-refusals (afterAll freshBook rs) qs (all-sound freshBook rs fresh-sound) ∙ ap (λ b. quickRefusals b qs) (after-same rs)
+
 closed-same : (rs : List Record) (losses room : List ℕ) → closedOf (afterAll freshBook rs) losses room ≡ quickClosed (quickAll freshBook rs) losses room
 closed-same rs losses room =
     quick-closed (afterAll freshBook rs) losses room (all-sound freshBook rs fresh-sound) ∙ ap (λ b. quickClosed b losses room) (after-same rs)
@@ -72,6 +91,7 @@ unfoldable quickly : Question → List ℕ
 quickly (blockedAfter rs) = each (blocked (view (quickAll freshBook rs)))
 quickly (deemedAfter rs) = each (deemed (view (quickAll freshBook rs)))
 quickly (refusalAfter rs r) = refusalIn (quickStep (quickAll freshBook rs) r .answer .outcome) ∷ []
+quickly (refusalsAfter rs qs) = quickRefusals (quickAll freshBook rs) qs
 quickly (closedAfter rs losses) =
     closedIn (quickAll freshBook rs) losses (quickClosed (quickAll freshBook rs) losses zeros) (quickRoom (quickAll freshBook rs) losses zeros)
 quickly (bytesLong named) = sizeOf named ∷ []
@@ -89,6 +109,7 @@ unfolding byTheRules quickly
 same (blockedAfter rs) = ap (λ b. each (blocked (view b))) (after-same rs)
 same (deemedAfter rs) = ap (λ b. each (deemed (view b))) (after-same rs)
 same (refusalAfter rs r) = ap (λ d. refusalIn (d .answer .outcome) ∷ []) (more-same rs r)
+same (refusalsAfter rs qs) = refusals-same rs qs
 same (closedAfter rs losses) = λ i. closedIn (after-same rs i) losses (closed-same rs losses zeros i) (room-same rs losses zeros i)
 same (bytesLong named) = refl
 same (refusalRead s) = ap (λ n. refusalIn (n .answer .outcome) ∷ []) (read-same s)
@@ -108,9 +129,9 @@ unfolding casesByTheRules casesQuickly
 same-cases i = map (λ c. same (c .asked) i) cases
 
 computed : casesQuickly ≡ expected
-unfolding casesQuickly quickly counted cases expected quickAll placeAmong least any changeBy amended refusalBy first pick sum all needTM needCM need hasLiveClient freshBook faultOf foundAt foundFrom recordOf number got past ones onesIn rowsTo four paid₁ part₂ ownColumn tmColumn cmColumn uncovered fromTM askedOfCM fromCM unpaid looked listTo useOf useTM useCM modeAfter allNeeds needsAfresh madeOf marginRefusal firstFault faultIn rates rateOf sumOf charges chargeOf intradayOf
+unfolding casesQuickly quickly quickRefusals counted cases expected quickAll placeAmong least any changeBy amended refusalBy first pick sum all needTM needCM need hasLiveClient freshBook faultOf foundAt foundFrom recordOf number got past ones onesIn rowsTo four paid₁ part₂ ownColumn tmColumn cmColumn uncovered fromTM askedOfCM fromCM unpaid looked listTo useOf useTM useCM modeAfter allNeeds needsAfresh madeOf marginRefusal firstFault faultIn rates rateOf sumOf charges chargeOf intradayOf
 computed = refl
 
--- document 01's figures, Annexure 5's, K3's list, K7's tenth, K9's charges and K10's clients, by the rules
+-- document 01's figures, Annexure 5's, K3's list, K7's tenth, K9's charges, K10's clients and K14's orders, by the rules
 pub figures : casesByTheRules ≡ expected
 figures = same-cases ∙ computed

@@ -23,3 +23,8 @@ pub mod Archive
 pub mod PieceByPiece
 pub mod TwoDays
 pub mod BookFile
+pub mod OwnRecords
+pub mod OwnRows
+pub mod Reordering
+pub mod TwoCounters
+pub mod TwoFiles

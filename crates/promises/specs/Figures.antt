@@ -1,4 +1,4 @@
--- Document 01, 'Figures to hold against it': P1 to P11, P8 as K1 of document 02 has it; K2's case, the table of 004 Annexure 5; K3's list of needs at P4; K7's tenth; K9's charges; and K10's six clients. In paise.
+-- Document 01, 'Figures to hold against it': P1 to P11, P8 as K1 of document 02 has it; K2's case, the table of 004 Annexure 5; K3's list of needs at P4; K7's tenth; K9's charges; K10's six clients; and K14's two orders. In paise.
 -- First the records of each case; then `cases`, the list of what is asked and the figures that the documents give; then what the rules say to it.
 use mathlib.Core.List.{List, [], _∷_, _++_, map}
 use Prim.Native.Nat.{ℕ, _+_, _*_}
@@ -24,6 +24,7 @@ use Rattle.currency.specs.declared.Made.{Made}
 use Rattle.currency.specs.Margins.{madeOf, numberMade, marginMade}
 use Rattle.exposure.specs.Exposures.{intradayOf}
 use Rattle.promises.specs.Sequences.{afterAll}
+use Rattle.promises.specs.Archivings.{answersTo}
 
 -- Records, by serial, code, account named and amount: an opening (1 a TM, 2 a client), which names the CM or the TM; cash received (4), allocated (6)
 -- or released (7); a margin that is set.
@@ -130,6 +131,28 @@ securities serial code account amount = record {
 abbrev atK7 : ℕ → List Record
 atK7 amount = opening 0 1 0 ∷ opening 1 2 1 ∷ securities 2 4 2 amount ∷ securities 3 6 2 amount ∷ []
 
+-- K14, "one order carries all out and the other gives 13": the CM has received 300 and allocated none of it, TM-1 has a client, account 2. One clerk
+-- allocates for the CM, the other sets the client's margin.
+abbrev atK14 : List Record
+atK14 = opening 0 1 0 ∷ opening 1 2 1 ∷ cash 2 4 0 30000 ∷ []
+
+abbrev pub oneOrder : List Record
+oneOrder = cash 3 6 0 30000 ∷ margin 4 2 30000 ∷ []
+
+abbrev pub otherOrder : List Record
+otherOrder = margin 3 2 30000 ∷ cash 4 6 0 30000 ∷ []
+
+-- "K2's modes are excepted.": the CM has 1000, TM-1 has 100 and has received 105, its client nothing. The client's margin of 90 brings the TM to 90%, and at 86% it stays
+-- on; with the TM's deposit of 5 first 90% is never reached.
+abbrev atK14Warned : List Record
+atK14Warned = (opening 0 1 0 ∷ opening 1 2 1 ∷ []) ++ (collateralOf 2 0 100000 ++ (cash 4 4 1 10500 ∷ cash 5 6 1 10000 ∷ []))
+
+abbrev pub marginFirst : List Record
+marginFirst = margin 6 2 9000 ∷ cash 7 6 1 500 ∷ []
+
+abbrev pub depositFirst : List Record
+depositFirst = cash 6 6 1 500 ∷ margin 7 2 9000 ∷ []
+
 -- code 4, second mark byte 0xFF, serial 0, and zeros: n + 2 bytes
 abbrev full : ℕ → List ℕ
 full n = 4 ∷ 255 ∷ replicate n 0
@@ -149,6 +172,8 @@ pub data Question : Type 0 where
   deemedAfter : List Record → Question
   -- the refusal of one record more, 0 where it is carried out
   refusalAfter : List Record → Record → Question
+  -- K14: the refusals of records more, one after the other
+  refusalsAfter : List Record → List Record → Question
   -- a close-out with these losses of the four: its refusal, or 0; the four amounts of A, and of B; the total left uncovered; and the bound, the losses beyond margins
   closedAfter : List Record → List ℕ → Question
   -- how many bytes a record is long, by its second mark byte
@@ -234,6 +259,12 @@ cases =
     ∷ (exposureTo (pos 30) (below 80) gives (0 ∷ 0 ∷ []))  -- 30, -80 gives 0
     ∷ (exposureTo (below 100) (pos 80) gives (0 ∷ 0 ∷ []))  -- -100, 80 gives 0
     ∷ (exposureTo (pos 100) (below 80) gives (0 ∷ 20 ∷ []))  -- 100, -80 gives 20
+    ∷ (refusalsAfter atK14 oneOrder gives (0 ∷ 0 ∷ []))  -- K14: one order carries all out
+    ∷ (refusalsAfter atK14 otherOrder gives (13 ∷ 0 ∷ []))  -- and the other gives 13
+    ∷ (refusalsAfter atK14Warned marginFirst gives (0 ∷ 0 ∷ []))  -- K14: both orders are carried out,
+    ∷ (refusalsAfter atK14Warned depositFirst gives (0 ∷ 0 ∷ []))
+    ∷ (usedAfter (atK14Warned ++ marginFirst) 1 gives (90000 ∷ 105000 ∷ 1 ∷ []))  -- and the TM's mode is on after the first
+    ∷ (usedAfter (atK14Warned ++ depositFirst) 1 gives (90000 ∷ 105000 ∷ 0 ∷ []))  -- and off after the second
     ∷ []
 
 -- What the rules say to a question. Of the book after the records, f of CM, TM-1, A and B,
@@ -286,6 +317,7 @@ unfoldable pub byTheRules : Question → List ℕ
 byTheRules (blockedAfter rs) = each (blocked (view (after rs)))
 byTheRules (deemedAfter rs) = each (deemed (view (after rs)))
 byTheRules (refusalAfter rs r) = refusalIn (stepOf (after rs) r .answer .outcome) ∷ []
+byTheRules (refusalsAfter rs qs) = map (λ a. refusalIn (a .outcome)) (answersTo (after rs) qs)
 byTheRules (closedAfter rs losses) = closedIn (after rs) losses (closedOf (after rs) losses zeros) (roomOf (after rs) losses zeros)
 byTheRules (bytesLong named) = sizeOf named ∷ []
 byTheRules (refusalRead s) = refusalIn (nextOf freshBook s 0 .answer .outcome) ∷ []

@@ -9,3 +9,4 @@ pub mod PricesMove
 pub mod Standings
 pub mod ReaderSays
 pub mod Archivings
+pub mod Orders

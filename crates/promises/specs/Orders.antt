@@ -1,0 +1,73 @@
+-- Document 02, K14: "Two clerks' files are merged in some order." Two orders of the same records.
+use mathlib.Core.Bool.{false}
+use mathlib.Core.List.{List, [], _∷_, _++_}
+use mathlib.Core.Path.{_≡_}
+use Prim.Native.Nat.{ℕ, zero, suc, _<_}
+use lib.Dec.{eqb}
+use Rattle.sums.specs.Choice.{pick}
+use Rattle.rows.specs.declared.Book.{Book}
+use Rattle.rows.specs.Rows.{withModes}
+use Rattle.book.specs.declared.Figures.{Figures}
+use Rattle.dayfile.specs.declared.Record.{Record}
+use Rattle.dayfile.specs.declared.Found.{Found}
+use Rattle.dayfile.specs.declared.Found.the-variants.{End as NoBytes, Cut as TooFew, Whole}
+use Rattle.dayfile.specs.Reading.{foundAt}
+use Rattle.rules.specs.Numbered.{verdictOf}
+use Rattle.desk.specs.Steps.{stepOf}
+use Rattle.promises.specs.Sequences.{EachCode}
+
+-- "renumbered": a record but for its serial
+abbrev pub unnumbered : Record → Record
+unnumbered r = record { serial = 0; code = r .code; named = r .named; account = r .account; kinds = r .kinds; pledged = r .pledged; margin = r .margin }
+
+-- "each account's own records", those that name its number, in their order and without their serials
+unfoldable pub ownOf : ℕ → List Record → List Record
+ownOf number [] = []
+ownOf number (r ∷ rs) = pick (eqb (r .account) number) (unnumbered r ∷ ownOf number rs) (ownOf number rs)
+
+-- "two orders of the same records, renumbered, .. in which each account's own records keep their order": every account has the same own records
+-- in both. That the two lists then have the same records, each as often, is a law
+-- (`two-orders-are-reordered`).
+abbrev pub TwoOrders : List Record → List Record → Type 0
+TwoOrders rs qs = (number : ℕ) → ownOf number rs ≡ ownOf number qs
+
+-- the same records, each as often, in some order: the first of one list stands somewhere in the other
+pub data Reordered : List Record → List Record → Type 0 where
+  none : Reordered [] []
+  one : {r : Record} {rs : List Record} (before after : List Record) → Reordered rs (before ++ after) → Reordered (r ∷ rs) (before ++ (r ∷ after))
+
+-- "without openings": codes 1 to 3 open. Retirings, which K14 leaves out too, may be among them.
+abbrev pub WithoutOpenings : List Record → Type 0
+WithoutOpenings rs = EachCode (λ code. 3 < code) rs
+
+-- "all are carried out", one after the other
+unfoldable pub AllCarriedOut : Book → List Record → Type 0
+AllCarriedOut b [] = Unit
+AllCarriedOut b (r ∷ rs) = (verdictOf b r ≡ 0) × AllCarriedOut (stepOf b r .book) rs
+
+-- "K2's modes are excepted.": two books that are the same but for their modes; ..
+abbrev pub SameButModes : Book → Book → Type 0
+SameButModes b c = c ≡ withModes b (c .modes)
+
+-- .. and a standing but for the mode that it shows
+abbrev pub modeAside : Figures → Figures
+modeAside f = record {
+  refusal = f .refusal;
+  collateral = f .collateral;
+  need = f .need;
+  blocked = f .blocked;
+  deemed = f .deemed;
+  free = f .free;
+  mode = false;
+  shortfall = f .shortfall;
+}
+
+-- For day files: the records of a piece from a place on, up to most of them, as a run reads them
+abbrev pub listing : (ℕ → List Record) → Found → List Record
+listing go NoBytes = []
+listing go TooFew = []
+listing go (Whole r next) = r ∷ go next
+
+unfoldable pub recordsAt : List ℕ → ℕ → ℕ → List Record
+recordsAt s zero place = []
+recordsAt s (suc most) place = listing (recordsAt s most) (foundAt s place)
