@@ -32,7 +32,8 @@ module _ (b : Book) (r : Record) where
     passes = passes-all b r′ carried
 
     module _ (o : isOpening r ≡ false) where
-      put-book : stepOf b r .book ≡ settled (movedOn (withRow b (r′ .account) (amended (namedRow b r′) r′)))
+      -- the whole book then
+      pub put-book : stepOf b r .book ≡ settled (movedOn (withRow b (r′ .account) (amended (namedRow b r′) r′)))
       put-book = ap (λ d. d .book) (passed-as b r carried ∙ ap (doneBy b r) (pick-no (isOpening r) _ _ o))
 
       -- the row named is the row that the code makes of it

@@ -26,11 +26,10 @@ use Rattle.records.proofs.NumbersPut.{ran-sound}
 use Rattle.records.proofs.SoundRun.{step-sound}
 use Rattle.thinned.specs.Given.{Event, carry, archive, numbersGiven, RisingFrom}
 use Rattle.thinned.proofs.Archived.{archived-thinned, archived-sound}
-use Rattle.thinned.proofs.Archive.{archived-standing, account-kept}
 use Rattle.thinned.proofs.NeverTwice.{never-twice}
 use Rattle.promises.specs.Sequences.{afterAll}
 use Rattle.promises.specs.Archivings.{ButForArchived, AlikeButForArchived, answersTo, NoneIsNine, eventsAfter}
-use Rattle.promises.proofs.ArchivedRuns.{list-alike, piece-alike}
+use Rattle.promises.proofs.ArchivedRuns.{but-for, list-alike, piece-alike}
 
 -- At a sound book, whose retired rows are moved to the archive:
 module _ (b : Book) (s : soundB b ≡ true) where
@@ -38,15 +37,18 @@ module _ (b : Book) (s : soundB b ≡ true) where
   pub a-sound-book-stays-sound : soundB (archived b) ≡ true
   a-sound-book-stays-sound = sound← (archived b) (archived-sound b (sound→ b s))
 
+  but-for-archived : ButForArchived b (archived b)
+  but-for-archived = let h = sound→ b s in but-for h (archived-sound b h) (archived-thinned b h)
+
   -- "Every standing .. after it is the one before it": for every number, with its need, free, mode and, of account 0, the shortfall. So a number in the archive gives 7, as it
   -- did while its row was there, retired;
   pub every-standing-is-the-one-before-it : (n : ℕ) → standingOf (archived b) n ≡ standingOf b n
-  every-standing-is-the-one-before-it = archived-standing b (sound→ b s)
+  every-standing-is-the-one-before-it = but-for-archived .standings
 
   -- each account held keeps its sort and all its amounts; its TM is the one that it was, told by the place where its number now stands.
   pub every-account-held-keeps-its-amounts : (n : ℕ) → isLive b (placeOf b n) ≡ true
       → rowAt (archived b) (placeOf (archived b) n) ≡ withTM (rowAt b (placeOf b n)) (placeOf (archived b) (numberAt b (rowAt b (placeOf b n) .tm)))
-  every-account-held-keeps-its-amounts = account-kept b (sound→ b s)
+  every-account-held-keeps-its-amounts = but-for-archived .accounts
 
   -- "and every record's answer after it is the one before it, refusal 9 excepted": of any list of records, up to the first that is refused with 9 without the
   -- archiving; and the books after them are each other's but for the archived rows.

@@ -12,22 +12,20 @@ use Rattle.sums.specs.Choice.{pick}
 use Rattle.sums.proofs.Choices.{pick-yes, pick-no}
 use Rattle.rows.specs.declared.Row.{Row}
 use Rattle.rows.specs.declared.Book.{Book}
-use Rattle.rows.specs.Rows.{placeOf, rowAt, numberAt, view, withRow}
-use Rattle.rows.specs.KeptNeeds.{needsAfresh, settled}
+use Rattle.rows.specs.Rows.{placeOf, rowAt, numberAt, view}
+use Rattle.rows.specs.KeptNeeds.{needsAfresh}
 use Rattle.lookup.proofs.Places.{place-has, place-found}
 use Rattle.dayfile.specs.declared.Record.{Record}
-use Rattle.rules.specs.Refusals.{isOpening, namedRow}
-use Rattle.rules.specs.Effects.{amended, movedOn, nextSerial}
+use Rattle.rules.specs.Refusals.{isOpening}
+use Rattle.rules.specs.Effects.{amended, nextSerial}
 use Rattle.rules.specs.Numbered.{placed, verdictOf}
 use Rattle.rules.proofs.Passing.{passes-all}
-use Rattle.desk.specs.Steps.{doneBy, stepOf}
-use Rattle.desk.proofs.Effect.{passed-as}
+use Rattle.desk.specs.Steps.{stepOf}
 use Rattle.desk.proofs.Lasting.{others-stay}
-use Rattle.desk.proofs.Rows.{named-after}
+use Rattle.desk.proofs.Rows.{put-book, named-after}
 use Rattle.desk.proofs.ModesAfter.{needs-after}
-use Rattle.promises.specs.Sequences.{afterAll}
+use Rattle.promises.specs.Sequences.{afterAll, EachCode}
 use Rattle.promises.specs.Orders.{unnumbered, ownOf, WithoutOpenings, AllCarriedOut}
-use Rattle.promises.specs.Sequences.{EachCode}
 
 -- what an account's own records make of its row
 unfoldable pub amendedAll : Row → List Record → Row
@@ -47,20 +45,17 @@ module _ (b : Book) (r : Record) (carried : verdictOf b r ≡ 0) (code : 3 < r .
       by true e = e
       by false e = refl
 
-  put-book : stepOf b r .book ≡ settled (movedOn (withRow b (placeOf b (r .account)) (amended (namedRow b (placed b r)) (placed b r))))
-  put-book = ap (λ d. d .book) (passed-as b r carried ∙ ap (doneBy b r) (pick-no (isOpening r) _ _ no-opening))
-
   pub count-stays : stepOf b r .book .count ≡ b .count
-  count-stays = ap (λ x. x .count) put-book
+  count-stays = ap (λ x. x .count) (put-book b r carried no-opening)
 
   pub next-stays : stepOf b r .book .next ≡ b .next
-  next-stays = ap (λ x. x .next) put-book
+  next-stays = ap (λ x. x .next) (put-book b r carried no-opening)
 
   pub numbers-stay : stepOf b r .book .numbers ≡ b .numbers
-  numbers-stay = ap (λ x. x .numbers) put-book
+  numbers-stay = ap (λ x. x .numbers) (put-book b r carried no-opening)
 
   pub serial-moves : stepOf b r .book .serial ≡ nextSerial (b .serial)
-  serial-moves = ap (λ x. x .serial) put-book
+  serial-moves = ap (λ x. x .serial) (put-book b r carried no-opening)
 
   -- the row of an account is put anew where the record names its number, and stays otherwise
   pub row-at : (i : ℕ) → i < b .count → rowAt (stepOf b r .book) i ≡ pick (eqb (r .account) (numberAt b i)) (amended (rowAt b i) r) (rowAt b i)

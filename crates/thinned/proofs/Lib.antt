@@ -12,4 +12,3 @@ pub mod Answers
 pub mod Standings
 pub mod Accounts
 pub mod NeverTwice
-pub mod Archive
