@@ -95,6 +95,17 @@ pub fn bytes_as(table: &Table, version: Version) -> Vec<u8> {
     out
 }
 
+/// A file of version 2 with every mode off.
+pub fn without_modes(file: &[u8]) -> Vec<u8> {
+    let mut bytes = file.to_vec();
+    for at in (0..MOST_ACCOUNTS).filter_map(|place| Version::Two.at(place, MODE)) {
+        if let Some(mode) = bytes.get_mut(at) {
+            *mode = 0;
+        }
+    }
+    bytes
+}
+
 /// In version 1, where that says the same.
 pub fn first_bytes(table: &Table) -> Option<Vec<u8>> {
     let mut by_places = table.clone();

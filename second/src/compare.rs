@@ -5,6 +5,8 @@ mod archives;
 mod books;
 mod calls;
 mod margins;
+mod merges;
+mod orders;
 mod refused;
 
 use crate::book::Book;
@@ -24,7 +26,7 @@ use crate::tally::Tally;
 use std::fs;
 use std::path::{Path, PathBuf};
 
-const VALUED: [&str; 14] = [
+const VALUED: [&str; 16] = [
     "--day",
     "--standings",
     "--closeouts",
@@ -33,6 +35,8 @@ const VALUED: [&str; 14] = [
     "--archive",
     "--margins",
     "--margin-runs",
+    "--merge",
+    "--merges",
     "--calls",
     "--call-inputs",
     "--books",
@@ -57,6 +61,7 @@ pub struct Programs<'a> {
     take_over: Option<&'a str>,
     archive: Option<&'a str>,
     margins: Option<&'a str>,
+    merge: Option<&'a str>,
     calls: Option<&'a str>,
     folder: PathBuf,
 }
@@ -81,12 +86,14 @@ pub fn compare(words: &[String]) -> Result<String, String> {
         take_over: options.value("--take-over"),
         archive: options.value("--archive"),
         margins: options.value("--margins"),
+        merge: options.value("--merge"),
         calls: options.value("--calls"),
         folder: std::env::temp_dir().join(format!("second-compare-{}", std::process::id())),
     };
-    if !programs.reads_days() && programs.calls.or(programs.margins).is_none() {
+    let others = programs.calls.or(programs.margins).or(programs.merge);
+    if !programs.reads_days() && others.is_none() {
         return Err(
-            "compare: name a program with --day, --standings, --closeouts, --needs, --take-over, --archive, --margins or --calls"
+            "compare: name a program with --day, --standings, --closeouts, --needs, --take-over, --archive, --margins, --merge or --calls"
                 .to_string(),
         );
     }
@@ -100,10 +107,14 @@ pub fn compare(words: &[String]) -> Result<String, String> {
     Ok(lines?.join("\n"))
 }
 
-/// Days, then books, then calls, each where it is asked for.
+/// Days, then books, then the other programs, each where it is asked for. Beside
+/// `--merge` the programs that read days serve it, and days are for `--days`,
+/// `--millions` or `--books` to ask for.
 fn all(options: &Options, programs: &Programs) -> Result<Vec<String>, String> {
     let mut lines = Vec::new();
-    if programs.reads_days() {
+    let asked = ["--days", "--millions", "--books"];
+    let asks_days = asked.iter().any(|name| options.has(name));
+    if programs.reads_days() && (asks_days || programs.merge.is_none()) {
         lines.push(all_days(options, programs)?.summary());
         let many = options.number("--books", 0)?;
         if many > 0 {
@@ -116,6 +127,11 @@ fn all(options: &Options, programs: &Programs) -> Result<Vec<String>, String> {
     }
     if let Some(program) = programs.margins {
         lines.push(margins::all_runs(options, programs, program)?.line());
+    }
+    if let Some(program) = programs.merge {
+        lines.push(merges::all_merges(options, programs, program)?.line());
+        let orders = orders::all_orders(options, programs, program)?;
+        lines.extend(orders.map(|met| met.line()));
     }
     if let Some(program) = programs.calls {
         lines.extend(calls::all_inputs(options, programs, program)?.lines());

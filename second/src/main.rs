@@ -16,13 +16,16 @@ mod desk;
 mod difference;
 mod files;
 mod holds;
+mod kinds;
 mod looks;
 mod made;
 mod make;
 mod margins;
+mod merge;
 mod mode;
 mod moves;
 mod options;
+mod orders;
 mod print;
 mod programs;
 mod refusal;
@@ -56,6 +59,8 @@ second take_over FROM TO                 the book of FROM taken over to the new 
 second archive FROM TO ARCHIVE           the book of FROM without its retired rows, kept as TO: the
                                          refusal and how many rows moved; ARCHIVE, a text, gets a
                                          line for each that it doesn't have: NUMBER tm|client|cp TM
+second merge A B [FROM] > DAYFILE        A's records and then B's, numbered from the next serial of
+                                         FROM's book, or from 0; or which record is at fault
 second margins [--record] SERIAL ACCOUNT INITIAL < POSITIONS
                                          a client's extreme loss and initial margin, or its record;
                                          a line a position: USDINR futures 10000001; and once, if
@@ -68,10 +73,12 @@ second make KIND SEED > DAYFILE          a made-up day: busy hostile bent bounds
 second losses SEED < DAYFILE > LOSSFILE  made-up losses for the book at that day's end
 second make-calls SEED > CALLS           made-up calls
 second compare [--day P] [--standings P] [--closeouts P] [--needs P] [--take-over P]
-               [--archive P] [--margins P] [--calls P] [--margin-runs N]
+               [--archive P] [--margins P] [--merge P] [--calls P] [--margin-runs N] [--merges N]
                [--days N] [--seed S] [--millions K] [--books N] [--call-inputs N] [--trickle]
                                          other programs against this one: on made-up days, on N days
-                                         in two pieces with book files, on N inputs of made-up calls
+                                         in two pieces with book files, on N inputs of made-up calls,
+                                         on N mergings; with --merge, --day and --standings, on two
+                                         orders of N pairs of counters' files
 second bundle --days N --seed S > BUNDLE many small days in one file
 second bundled < BUNDLE > ANSWERS        the answers to all of them
 second write < TEXT > DAYFILE            a day file from its readable form
@@ -122,6 +129,7 @@ fn main() -> ExitCode {
         "margins" => desk::lines::margins(&arguments[1..], &|| input(desk::lines::MOST as u64 + 1)),
         "take_over" => programs::take_over(&arguments[1..]),
         "archive" => programs::archive(&arguments[1..]),
+        "merge" => programs::merge(&arguments[1..]),
         "make" => make_command(&words),
         "make-calls" => make_calls_command(&words),
         "losses" => losses_command(&words),

@@ -1,15 +1,18 @@
 //! The programs `day`, `standings`, `needs` and `closeouts`: over a fresh
 //! book, or over the one that FROM holds. A FROM that can't be read, or is no
 //! book, is told and nothing is printed; over one that isn't sound the day
-//! stays unread. And `take_over` and `archive`, from one book file to another.
+//! stays unread. And `take_over` and `archive`, from one book file to another, and
+//! `merge`, from two day files to one.
 
 mod archive;
+mod merge;
 
 use crate::book::{Book, MOST_ACCOUNTS};
 use crate::seen::Seen;
 use crate::table::Table;
 use crate::{bookfile, files, print, put_out, usage, Output};
 pub use archive::{archive, with_lines};
+pub use merge::{merge, MOST as MERGE_MOST};
 use std::ffi::OsString;
 use std::fs::File;
 use std::io::{self, Read};

@@ -1,9 +1,9 @@
 // The text file ARCHIVE, which the third word names.
 ghost use Prim.Native.Nat.{_≤_, _<_};
 ghost use lib.ListN.{length};
-use libc::STDERR_FILENO;
 use streams::Moved;
 use streams::files::replace_named;
+use streams::files::within;
 use streams::optional::read_named;
 
 // A line of 19 bytes for each of 65,535 numbers.
@@ -12,30 +12,14 @@ const LONGEST: usize = 1_245_165;
 // The longest file, the end of its last line, and 256 lines more.
 const ROOM: usize = 1_250_030;
 
-// Like the system's reasons, behind the name.
-fn tell_long() {
-    let mut name = io::buffer();
-    let n = os::arg(3, &mut name);
-    io::write_all(STDERR_FILENO, b"archive: cannot read the archive: ");
-    io::write_all(STDERR_FILENO, &name[..n]);
-    io::write_all(STDERR_FILENO, b": it is too long\n");
-}
-
-// Reads the file, which need not be there. One that is longer than the longest is told: one byte more is read, and what lies further on can't matter.
+// Reads the file, which need not be there.
 fn read(room: &mut [u8], longest: usize) -> Moved
     requires { ⌜ longest < length (now room) ⌝ }
     ensures { λ m. ⌜ m .count ≤ longest ⌝ }
 {
     let most = longest + 1;
     let read = read_named(b"archive", b"read the archive", 3, &mut room[..most]);
-    if longest < read.count {
-        tell_long();
-        return Moved {
-            failed: true,
-            count: 0,
-        };
-    }
-    read
+    within(b"archive", b"read the archive", 3, read, longest)
 }
 
 // Puts the lines of entries, of which there are some, into the file, but for those that it has: whether that failed. Where it has them all, nothing is written. The room comes by value, as

@@ -1,4 +1,4 @@
--- What the theorems on whole day files speak of: no promise of a public call cites it.
+-- Whole day files: what the theorems on them speak of, and what a merging writes.
 use mathlib.Core.List.{List, [], _∷_, _++_}
 use mathlib.Core.Path.{_≡_}
 use Prim.Native.Nat.{ℕ, _^_, _<_}

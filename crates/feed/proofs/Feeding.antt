@@ -10,7 +10,7 @@ use lib.Seq.{length-take-le, take-add, drop-at}
 use borrow.Author.Tests.{ltb-false}
 use Rattle.sums.specs.Choice.{pick}
 use Rattle.numbers.specs.Bytes.{Bytes}
-use Rattle.numbers.proofs.Numbers.{bytes-drop}
+use Rattle.numbers.proofs.Numbers.{bytes-take, bytes-drop}
 use Rattle.rows.specs.declared.Book.{Book}
 use Rattle.book.specs.Sound.{soundB}
 use Rattle.records.specs.declared.Ran.{Ran}
@@ -101,12 +101,6 @@ mid p n l h k =
     ap (λ m. drop p (take m l)) e
     ∙ ap (drop p) (take-add p (n - p) l)
     ∙ drop-at (take p l) (take (n - p) (drop p l)) p (length-take-le p l (omega arith))
-
-bytes-take : (n : ℕ) (l : List ℕ) → Bytes l → Bytes (take n l)
-bytes-take zero l y i = omega arith
-bytes-take (suc n) [] y i = omega arith
-bytes-take (suc n) (x ∷ l) y zero = y 0
-bytes-take (suc n) (x ∷ l) y (suc i) = bytes-take n l (λ j. y (suc j)) i
 
 bytes-append : (l m : List ℕ) → Bytes l → Bytes m → Bytes (l ++ m)
 bytes-append [] m y z i = z i

@@ -7,7 +7,7 @@ use native.Mathlib.Numerals.{add-one}
 use native.Mathlib.Omega.{arith}
 use lib.Arith.{mod-mul, digits-div, digits-lt}
 use lib.Dec.{lit<}
-use lib.ListN.{length, drop, getD}
+use lib.ListN.{length, take, drop, getD}
 use lib.Pow.{pow-add}
 use lib.Seq.{drop-at, drop-cons, drop-drop, getD-drop}
 use Rattle.numbers.specs.Bytes.{number, bytesOf, Bytes}
@@ -40,6 +40,12 @@ bytes-tail b l h i = h (suc i)
 
 pub bytes-drop : (k : ℕ) (l : List ℕ) → Bytes l → Bytes (drop k l)
 bytes-drop k l h i = rw getD-drop (h (k + i))
+
+pub bytes-take : (n : ℕ) (l : List ℕ) → Bytes l → Bytes (take n l)
+bytes-take zero l y i = omega arith
+bytes-take (suc n) [] y i = omega arith
+bytes-take (suc n) (x ∷ l) y zero = y 0
+bytes-take (suc n) (x ∷ l) y (suc i) = bytes-take n l (λ j. y (suc j)) i
 
 number-lt : (k : ℕ) (l : List ℕ) → Bytes l → number k l < 256 ^ k
 unfolding number

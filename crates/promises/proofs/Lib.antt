@@ -28,3 +28,5 @@ pub mod OwnRows
 pub mod Reordering
 pub mod TwoCounters
 pub mod TwoFiles
+pub mod Renumbered
+pub mod MergedFiles

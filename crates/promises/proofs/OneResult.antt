@@ -33,6 +33,7 @@ use Rattle.feed.specs.Books.{namesFile, freshFrom, fromHeld, wentTo, nowhere}
 use Rattle.table.proofs as table
 use Rattle.book.proofs as book
 use Rattle.archival.proofs as archival
+use Rattle.merging.proofs as merging
 use Rattle.dayfile.proofs as dayfile
 use Rattle.desk.proofs as desk
 use Rattle.run.proofs as run
@@ -182,6 +183,12 @@ of-dayfile-reader-next κs a x y u v p q =
     let same : x ≡ y = one-result (p .0) (q .0) in
     (same, ap (λ r. (r, tt)) (p .1 ∙ ap (λ z. movedTo (now (a .0)) (placeAfter z (now (a .0) .place))) same ∙ sym (q .1)))
 
+-- ---- merging
+
+-- two counters' day files made one
+pub of-merging-merge : OneResultOnly merging.merge.ended merging.merge.Reads.Learnt
+of-merging-merge κs a x y u v p q = (one-result (p .0) (q .0), ap (λ room. (tt, (tt, (tt, (room, tt))))) (one-result (p .1) (q .1)))
+
 -- ---- desk
 
 -- the answer to a record, and the book after it
@@ -295,6 +302,10 @@ of-streams-words-too-many κs a x y u v p q = (one-result p q, refl)
 -- whether a word is just these bytes
 pub of-streams-words-is-same : OneResultOnly streams.words.is_same.ended streams.words.is_same.Reads.Learnt
 of-streams-words-is-same κs a x y u v p q = (one-result p q, refl)
+
+-- what was read of a file that may have so many bytes
+pub of-streams-files-within : OneResultOnly streams.files.within.ended streams.files.within.Reads.Learnt
+of-streams-files-within κs a x y u v p q = (one-result p q, refl)
 
 -- How much of a text was written: where as many bytes were taken the results are the same, and where none failed all were.
 pub of-streams-write-all :

@@ -1,6 +1,7 @@
 -- Document 02, K14: "Two clerks' files are merged in some order." Two orders of the same records.
 use mathlib.Core.Bool.{false}
 use mathlib.Core.List.{List, [], _∷_, _++_}
+use mathlib.Core.Logic.{_⊎_}
 use mathlib.Core.Path.{_≡_}
 use Prim.Native.Nat.{ℕ, zero, suc, _<_}
 use lib.Dec.{eqb}
@@ -14,11 +15,12 @@ use Rattle.dayfile.specs.declared.Found.the-variants.{End as NoBytes, Cut as To
 use Rattle.dayfile.specs.Reading.{foundAt}
 use Rattle.rules.specs.Numbered.{verdictOf}
 use Rattle.desk.specs.Steps.{stepOf}
+use Rattle.merging.specs.Merging.{numbered}
 use Rattle.promises.specs.Sequences.{EachCode}
 
 -- "renumbered": a record but for its serial
 abbrev pub unnumbered : Record → Record
-unnumbered r = record { serial = 0; code = r .code; named = r .named; account = r .account; kinds = r .kinds; pledged = r .pledged; margin = r .margin }
+unnumbered r = numbered 0 r
 
 -- "each account's own records", those that name its number, in their order and without their serials
 unfoldable pub ownOf : ℕ → List Record → List Record
@@ -36,6 +38,10 @@ pub data Reordered : List Record → List Record → Type 0 where
   none : Reordered [] []
   one : {r : Record} {rs : List Record} (before after : List Record) → Reordered rs (before ++ after) → Reordered (r ∷ rs) (before ++ (r ∷ after))
 
+-- two counters that have no account in common: no number has records of both
+abbrev pub Apart : List Record → List Record → Type 0
+Apart rs qs = (number : ℕ) → (ownOf number rs ≡ []) ⊎ (ownOf number qs ≡ [])
+
 -- "without openings": codes 1 to 3 open. Retirings, which K14 leaves out too, may be among them.
 abbrev pub WithoutOpenings : List Record → Type 0
 WithoutOpenings rs = EachCode (λ code. 3 < code) rs
@@ -44,6 +50,11 @@ WithoutOpenings rs = EachCode (λ code. 3 < code) rs
 unfoldable pub AllCarriedOut : Book → List Record → Type 0
 AllCarriedOut b [] = Unit
 AllCarriedOut b (r ∷ rs) = (verdictOf b r ≡ 0) × AllCarriedOut (stepOf b r .book) rs
+
+-- none of them is refused with 3, one after the other
+unfoldable pub SerialsFit : Book → List Record → Type 0
+SerialsFit b [] = Unit
+SerialsFit b (r ∷ rs) = (verdictOf b r ≡ 3 → ⊥) × SerialsFit (stepOf b r .book) rs
 
 -- "K2's modes are excepted.": two books that are the same but for their modes; ..
 abbrev pub SameButModes : Book → Book → Type 0

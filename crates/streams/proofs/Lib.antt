@@ -2,3 +2,4 @@ mod Signed
 mod NamesPut
 mod SameBytes
 pub mod Taken
+pub mod Within

@@ -1,7 +1,7 @@
 -- What is made of a system call's answer, and of errno behind it. The answer itself no contract can say.
 use mathlib.Core.Bool.{Bool, true, false, _&&_}
 use Prim.Native.Nat.{ℕ}
-use lib.Dec.{eqb}
+use lib.Dec.{eqb, ltb}
 use lib.IntN.{ℤ, pos, negsuc}
 use Rattle.io.specs.Counts.{clamped}
 use Rattle.sums.specs.Choice.{pick}
@@ -40,6 +40,10 @@ nothingMoved = record { failed = true; count = 0 }
 -- a file that has no byte, or that isn't there
 abbrev pub noBytes : Moved
 noBytes = record { failed = false; count = 0 }
+
+-- what was read of a file that may have so many bytes: one that has more counts as not read
+abbrev pub withinOf : Moved → ℕ → Moved
+withinOf m longest = pick (ltb longest (m .count)) nothingMoved m
 
 -- a move and the answer of a call behind it: where that one fails, nothing counts as moved
 unfoldable pub andThen : Moved → ℤ → Moved

@@ -5,7 +5,7 @@ ghost use mathlib.Core.Path.{_≡_};
 ghost use Prim.Native.Nat.{_≤_};
 ghost use lib.ListN.{length};
 ghost use Rattle.sums.specs.Choice.{pick};
-ghost use Rattle.streams.specs.Calls.{failedBy, errorIs, nothingMoved, andThen};
+ghost use Rattle.streams.specs.Calls.{failedBy, errorIs, nothingMoved, withinOf, andThen};
 ghost use Rattle.streams.specs.Names.{besideMark};
 use crate::Moved;
 use crate::beside::create_beside;
@@ -93,6 +93,29 @@ pub fn read_named(program: &[u8], what: &[u8], word: usize, room: &mut [u8]) -> 
     let mut name = io::buffer();
     let n = os::arg(word, &mut name);
     read_file(program, what, &name[..n], os::errno(), room)
+}
+
+// Like the system's reasons, behind the name.
+fn tell_long(program: &[u8], what: &[u8], name: &[u8]) {
+    io::write_all(STDERR_FILENO, program);
+    io::write_all(STDERR_FILENO, b": cannot ");
+    io::write_all(STDERR_FILENO, what);
+    io::write_all(STDERR_FILENO, b": ");
+    io::write_all(STDERR_FILENO, name);
+    io::write_all(STDERR_FILENO, b": it is too long\n");
+}
+
+// What was read of the file that a word names, which may have so many bytes. One that has more is told: a byte more is read, and what lies further on can't matter.
+pub fn within(program: &[u8], what: &[u8], word: usize, read: Moved, longest: usize) -> Moved
+    ensures { λ m. ⌜ m ≡ withinOf read longest ⌝ }
+{
+    if longest < read.count {
+        let mut name = io::buffer();
+        let n = os::arg(word, &mut name);
+        tell_long(program, what, &name[..n]);
+        return nothing_moved();
+    }
+    read
 }
 
 // All of a text, on the disk and not only with the system.

@@ -2,7 +2,7 @@
 ghost use Prim.Native.Nat.{_+_, _*_, _≤_};
 ghost use lib.ListN.{length, take};
 ghost use Rattle.text.specs.Numbers.{followed, spaced, andSpaces};
-ghost use Rattle.text.specs.Words.{andSpace, sortWord};
+ghost use Rattle.text.specs.Words.{andSpace, sortWord, refusedAt};
 ghost use Rattle.text.specs.Inner.{Puts};
 
 mod number;
@@ -54,6 +54,17 @@ pub fn put_sort(room: &mut [u8], at: usize, sort: u16) -> usize
         2 => put_text(room, at, b"client "),
         _ => put_text(room, at, b"cp "),
     }
+}
+
+// Puts a refusal, the place of the record that it is given for and the byte after both, and gives the place after that.
+pub fn put_refused(room: &mut [u8], at: usize, refusal: u8, index: usize, mark: u8) -> usize
+    requires { ⌜ at + 52 ≤ length (now room) ⌝ }
+    ensures { λ after. ⌜ Puts (now (room .entry)) at (refusedAt refusal index mark) (now (room .exit)) after ⌝ }
+    ensures { λ after. ⌜ after ≤ at + 52 ⌝ }
+{
+    let p = put_number(room, at, refusal as u64, b' ');
+    let q = put_text(room, p, b"at record ");
+    put_number(room, q, index as u64, mark)
 }
 
 // Puts a list's first n numbers with a space behind each, and gives the place after them.

@@ -143,7 +143,7 @@ impl Night<'_> {
     }
 
     /// Runs a program on a piece and compares what it prints.
-    fn settled(
+    pub fn settled(
         &mut self,
         name: &str,
         program: &str,
@@ -276,7 +276,7 @@ impl Night<'_> {
 }
 
 /// As a program finds it in a file.
-fn handed_over(book: &Book) -> Book {
+pub fn handed_over(book: &Book) -> Book {
     Table::of(book).book().unwrap_or_else(|| book.clone())
 }
 

@@ -18,7 +18,7 @@ mod records;
 
 use crate::bookfile;
 use crate::calls::Call;
-use crate::dayfile::{OPEN_CLIENT, OPEN_CP, OPEN_TM, RETIRE};
+use crate::dayfile::{Values, OPEN_CLIENT, OPEN_CP, OPEN_TM, RETIRE};
 use crate::make::maker::Maker;
 use crate::make::mixed::any_step;
 use crate::rng::Rng;
@@ -91,6 +91,11 @@ pub fn to_archive(place: u64, rng: &mut Rng) -> Table {
     let retired = archives::RETIRED[place as usize % archives::RETIRED.len()];
     let gaps = numbers::GAPS[place as usize % numbers::GAPS.len()];
     archives::with_retired(retired, gaps, rng)
+}
+
+/// A record that no 4, 5 or 6 is given for.
+pub fn good_record(rng: &mut Rng) -> Values {
+    records::good_values(rng)
 }
 
 /// A piece for this book.

@@ -44,7 +44,7 @@ fn pledged(maker: &Maker, account: u16) -> u64 {
 }
 
 /// What the account and those that answer for it have free.
-fn slack(maker: &Maker, account: u16) -> u64 {
+pub fn slack(maker: &Maker, account: u16) -> u64 {
     let (mut at, mut free) = (usize::from(account), maker.book.free(0));
     while at != 0 {
         free += maker.book.free(at);

@@ -156,7 +156,7 @@ pub fn any_values(rng: &mut Rng) -> Values {
 }
 
 /// In range for any code, of some account.
-fn good_values(rng: &mut Rng) -> Values {
+pub fn good_values(rng: &mut Rng) -> Values {
     let code = rng.between(1, u64::from(LAST_CODE)) as u8;
     good_of(code, rng)
 }

@@ -1,7 +1,10 @@
 -- `archive::file::read` meets its contract.
 use borrow.Author.Needs.{needs}
-use mathlib.Core.Path.{sym}
+use mathlib.Core.Path.{sym, ap}
+use native.Mathlib.Omega.{arith}
 use lib.Seq.{length-take-le}
+use Rattle.streams.specs.declared.Moved.{Moved}
+use Rattle.streams.proofs.Within.{within-both}
 use Rattle.archive.proofs.file.read.Statement.{statement}
 use Rattle.archive.proofs.file.read.Tie as tie
 
@@ -23,20 +26,21 @@ slice-aggregate-read-named-3 c = sym (length-take-le _ _ (slice-relend-prefix-re
 read-named-requires : tie.Need-read-named-requires
 read-named-requires c κs = search needs
 
-tell-long-requires : tie.Need-tell-long-requires
-tell-long-requires c κs = search needs
+slice-aggregate-within : tie.Need-slice-aggregate-within
+slice-aggregate-within c = search needs
+
+slice-aggregate-within-2 : tie.Need-slice-aggregate-within-2
+slice-aggregate-within-2 c = search needs
+
+within-requires : tie.Need-within-requires
+within-requires c κs = search needs
 
 same-length : tie.Need-same-length
 same-length c = search needs
 
 returns : tie.Need-returns
-returns c = search needs
-
-same-length-2 : tie.Need-same-length-2
-same-length-2 c = search needs
-
-returns-2 : tie.Need-returns-2
-returns-2 c = search needs
+returns c =
+    omega (arith, ap (λ (x : Moved). x .count) (c .within .ensures), within-both (c .before .before .before .before .before .read-named .result) (c .before .before .before .before .before .before .before .before .before .before .args .longest) .1)
 
 pub read-spec : {M : Type 1} → statement M
 read-spec =
@@ -48,8 +52,8 @@ read-spec =
     slice-relend-prefix-read-named
     slice-aggregate-read-named-3
     read-named-requires
-    tell-long-requires
+    slice-aggregate-within
+    slice-aggregate-within-2
+    within-requires
     same-length
-    returns
-    same-length-2
-    returns-2)
+    returns)

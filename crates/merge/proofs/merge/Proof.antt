@@ -1,0 +1,53 @@
+-- `merge::merge`: what was merged lies within the room.
+use borrow.Author.Needs.{needs}
+use mathlib.Core.Path.{sym, ap}
+use native.Mathlib.Omega.{arith}
+use lib.Seq.{length-take-le}
+use Rattle.merging.specs.declared.Merged.{Merged}
+use Rattle.merging.proofs.Answers.{within-room}
+use Rattle.merge.proofs.merge.Statement.{statement}
+use Rattle.merge.proofs.merge.Tie as tie
+
+slice-aggregate-merge : tie.Need-slice-aggregate-merge
+slice-aggregate-merge c = search needs
+
+merge-requires : tie.Need-merge-requires
+merge-requires c κs = search needs
+
+tell-requires : tie.Need-tell-requires
+tell-requires c κs = search needs
+
+returns : tie.Need-returns
+returns c = search needs
+
+slice-aggregate-write-output : tie.Need-slice-aggregate-write-output
+slice-aggregate-write-output c = search needs
+
+array-share-prefix-room : tie.Need-array-share-prefix-room
+array-share-prefix-room c =
+    let m = c .before .before .before .before .merge in
+    let a = c .before .before .before .before .before .before .before .before .args in
+    omega (arith, ap (λ (x : Merged). x .length) (m .ensures .0), within-room (a .a .now) (a .b .now) (a .next) (a .blank), m .kept .1 .1 .1 .0)
+
+slice-aggregate-write-output-2 : tie.Need-slice-aggregate-write-output-2
+slice-aggregate-write-output-2 c = sym (length-take-le _ _ (array-share-prefix-room (c .before)))
+
+write-output-requires : tie.Need-write-output-requires
+write-output-requires c κs = search needs
+
+returns-2 : tie.Need-returns-2
+returns-2 c = search needs
+
+pub merge-spec : {M : Type 1} → statement M
+merge-spec =
+    tie.close
+    (tie.spec
+    slice-aggregate-merge
+    merge-requires
+    tell-requires
+    returns
+    slice-aggregate-write-output
+    array-share-prefix-room
+    slice-aggregate-write-output-2
+    write-output-requires
+    returns-2)

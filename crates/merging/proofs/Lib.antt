@@ -1,0 +1,4 @@
+pub mod Listing
+pub mod Joined
+pub mod Renumbering
+pub mod Answers
