@@ -8,6 +8,7 @@ mod margins;
 mod merges;
 mod orders;
 mod refused;
+mod statements;
 
 use crate::book::Book;
 use crate::child::{ask, Pace};
@@ -26,7 +27,7 @@ use crate::tally::Tally;
 use std::fs;
 use std::path::{Path, PathBuf};
 
-const VALUED: [&str; 16] = [
+const VALUED: [&str; 18] = [
     "--day",
     "--standings",
     "--closeouts",
@@ -37,6 +38,8 @@ const VALUED: [&str; 16] = [
     "--margin-runs",
     "--merge",
     "--merges",
+    "--statements",
+    "--statement-runs",
     "--calls",
     "--call-inputs",
     "--books",
@@ -62,6 +65,7 @@ pub struct Programs<'a> {
     archive: Option<&'a str>,
     margins: Option<&'a str>,
     merge: Option<&'a str>,
+    statements: Option<&'a str>,
     calls: Option<&'a str>,
     folder: PathBuf,
 }
@@ -71,6 +75,12 @@ impl Programs<'_> {
         let shows = self.standings.or(self.closeouts).or(self.needs);
         let books = self.take_over.or(self.archive);
         self.day.or(shows).or(books).is_some()
+    }
+
+    /// Those that take something else than a day.
+    fn reads_others(&self) -> bool {
+        let files = self.merge.or(self.statements);
+        self.calls.or(self.margins).or(files).is_some()
     }
 }
 
@@ -87,13 +97,13 @@ pub fn compare(words: &[String]) -> Result<String, String> {
         archive: options.value("--archive"),
         margins: options.value("--margins"),
         merge: options.value("--merge"),
+        statements: options.value("--statements"),
         calls: options.value("--calls"),
         folder: std::env::temp_dir().join(format!("second-compare-{}", std::process::id())),
     };
-    let others = programs.calls.or(programs.margins).or(programs.merge);
-    if !programs.reads_days() && others.is_none() {
+    if !programs.reads_days() && !programs.reads_others() {
         return Err(
-            "compare: name a program with --day, --standings, --closeouts, --needs, --take-over, --archive, --margins, --merge or --calls"
+            "compare: name a program with --day, --standings, --closeouts, --needs, --take-over, --archive, --margins, --merge, --statements or --calls"
                 .to_string(),
         );
     }
@@ -132,6 +142,9 @@ fn all(options: &Options, programs: &Programs) -> Result<Vec<String>, String> {
         lines.push(merges::all_merges(options, programs, program)?.line());
         let orders = orders::all_orders(options, programs, program)?;
         lines.extend(orders.map(|met| met.line()));
+    }
+    if let Some(program) = programs.statements {
+        lines.push(statements::all_statements(options, programs, program)?.line());
     }
     if let Some(program) = programs.calls {
         lines.extend(calls::all_inputs(options, programs, program)?.lines());

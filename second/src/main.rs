@@ -33,6 +33,7 @@ mod rng;
 mod rule;
 mod seen;
 mod shorts;
+mod statement;
 mod story;
 mod table;
 mod tally;
@@ -61,6 +62,8 @@ second archive FROM TO ARCHIVE           the book of FROM without its retired ro
                                          line for each that it doesn't have: NUMBER tm|client|cp TM
 second merge A B [FROM] > DAYFILE        A's records and then B's, numbered from the next serial of
                                          FROM's book, or from 0; or which record is at fault
+second statements TM FROM < STATEMENT    a TM's statement against the book of FROM: 0, 1, 7 or 8, or
+                                         `26 at record 3: account 17 is wanted`
 second margins [--record] SERIAL ACCOUNT INITIAL < POSITIONS
                                          a client's extreme loss and initial margin, or its record;
                                          a line a position: USDINR futures 10000001; and once, if
@@ -73,16 +76,20 @@ second make KIND SEED > DAYFILE          a made-up day: busy hostile bent bounds
 second losses SEED < DAYFILE > LOSSFILE  made-up losses for the book at that day's end
 second make-calls SEED > CALLS           made-up calls
 second compare [--day P] [--standings P] [--closeouts P] [--needs P] [--take-over P]
-               [--archive P] [--margins P] [--merge P] [--calls P] [--margin-runs N] [--merges N]
-               [--days N] [--seed S] [--millions K] [--books N] [--call-inputs N] [--trickle]
+               [--archive P] [--margins P] [--merge P] [--statements P] [--calls P]
+               [--days N] [--seed S] [--millions K] [--books N] [--trickle]
+               [--margin-runs N] [--merges N] [--statement-runs N] [--call-inputs N]
                                          other programs against this one: on made-up days, on N days
                                          in two pieces with book files, on N inputs of made-up calls,
-                                         on N mergings; with --merge, --day and --standings, on two
-                                         orders of N pairs of counters' files
+                                         on N mergings, on N statements; with --merge, --day and
+                                         --standings, on two orders of N pairs of counters' files
 second bundle --days N --seed S > BUNDLE many small days in one file
 second bundled < BUNDLE > ANSWERS        the answers to all of them
 second write < TEXT > DAYFILE            a day file from its readable form
 second read < DAYFILE > TEXT             and back
+second write-statement < TEXT > STATEMENT a statement from its readable form, a line a record:
+                                         ACCOUNT RECEIVED RETAINED PLACED HELD LODGED, or raw HEX
+second read-statement < STATEMENT > TEXT and back
 second write-calls < STORY > CALLS       calls from their readable form
 second read-calls < CALLS > STORY        and back
 
@@ -96,7 +103,7 @@ Calls, each handed the book as it is then:
   close_out room N losses LOSS ..   needs room N   take_over   archive room N
   margin SERIAL ACCOUNT INITIAL POSITION ; .., POSITION: PRODUCT SIDE NOTIONAL, PRODUCT a name or a number
   margin_with SERIAL ACCOUNT INITIAL FIGURES POSITION ; ..   exposure FIGURES, such as 50,-30
-  exposures EACH room N FIGURE ..
+  exposures EACH room N FIGURE ..   statement TM RECORD ; .., as `second write-statement` takes them
 Other bytes:
   bytes HEX   cut N   # a comment
 WORD: number sort live tm received.KIND allocated.KIND pledged margin mode need, KIND one of cash deposits
@@ -130,6 +137,7 @@ fn main() -> ExitCode {
         "take_over" => programs::take_over(&arguments[1..]),
         "archive" => programs::archive(&arguments[1..]),
         "merge" => programs::merge(&arguments[1..]),
+        "statements" => programs::statements(&arguments[1..], &all_input),
         "make" => make_command(&words),
         "make-calls" => make_calls_command(&words),
         "losses" => losses_command(&words),
@@ -138,6 +146,8 @@ fn main() -> ExitCode {
         "bundle" => bundle::bundle(&words),
         "bundled" => all_input().and_then(|input| bundle::bundled(&input)),
         "write" => all_input().and_then(|input| text::write(&input)),
+        "write-statement" => all_input().and_then(|input| statement::text::write(&input)),
+        "read-statement" => all_input().map(|input| statement::text::read(&input).into_bytes()),
         "write-calls" => all_input().and_then(|input| story::write(&input)),
         "read-calls" => all_input().map(|input| story::read(&input).into_bytes()),
         "read" => all_input().map(|input| text::read(&input).into_bytes()),

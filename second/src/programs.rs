@@ -1,11 +1,12 @@
 //! The programs `day`, `standings`, `needs` and `closeouts`: over a fresh
 //! book, or over the one that FROM holds. A FROM that can't be read, or is no
 //! book, is told and nothing is printed; over one that isn't sound the day
-//! stays unread. And `take_over` and `archive`, from one book file to another, and
-//! `merge`, from two day files to one.
+//! stays unread. And `take_over` and `archive`, from one book file to another,
+//! `merge`, from two day files to one, and `statements`, over a book.
 
 mod archive;
 mod merge;
+mod statements;
 
 use crate::book::{Book, MOST_ACCOUNTS};
 use crate::seen::Seen;
@@ -13,6 +14,7 @@ use crate::table::Table;
 use crate::{bookfile, files, print, put_out, usage, Output};
 pub use archive::{archive, with_lines};
 pub use merge::{merge, MOST as MERGE_MOST};
+pub use statements::statements;
 use std::ffi::OsString;
 use std::fs::File;
 use std::io::{self, Read};

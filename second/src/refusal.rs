@@ -1,5 +1,8 @@
 //! The refusal numbers of documents 01 and 02.
 
+/// Given by no record's check, so it stands apart.
+pub const UNSOUND: u8 = 1;
+
 /// 1 is missing: a book changed by `carry` alone stays sound, and `--check`
 /// tests that it does.
 #[derive(Clone, Copy, PartialEq, Eq, Debug)]
@@ -32,4 +35,13 @@ pub enum Refusal {
     PastFigure = 22,
     /// K11; checked after 1.
     ArchiveTooShort = 23,
+    /// K13, by record of a statement: "cut or bad mark".
+    BadForm = 24,
+    BadAmount = 25,
+    /// "Not the TM's next live client (at the end: one still wanting)."
+    WrongClient = 26,
+    WrongSums = 27,
+    WrongReceived = 28,
+    /// "Allocation below what is placed."
+    TooLittleAllocated = 29,
 }

@@ -35,6 +35,7 @@
 //!                                   FIGURES: two or four with commas between them, 50,-30
 //!     exposure FIGURES
 //!     exposures EACH room N FIGURE ..
+//!     statement TM RECORD ; ..      RECORD: as `second write-statement` takes it
 //!
 //!     bytes HEX                     bytes as they stand, for what is no call
 //!     cut N                         takes the last N bytes off again
@@ -54,6 +55,7 @@ use crate::calls::Call;
 use crate::carry::carry_values;
 use crate::dayfile::{Next, Reader, Values};
 use crate::rule::Rule;
+use crate::statement;
 use crate::table::{Table, MODE, NEED, NUMBER, WORDS};
 use crate::text::{hex_bytes, line_bytes, moved_on, parsed};
 use book::Written;
@@ -206,6 +208,9 @@ impl Story {
             ("needs", ["room", room]) => Call::Needs(book, parsed(room, "room")?),
             ("take_over", []) => Call::TakeOver(book),
             ("archive", ["room", room]) => Call::Archive(book, parsed(room, "room")?),
+            ("statement", [tm, ..]) => {
+                Call::Statement(book, parsed(tm, "account")?, statement_of(after(rest))?)
+            }
             _ => {
                 let call = desk::call(word, words)?;
                 let unknown = || format!("unknown word `{word}`, or it is said otherwise");
@@ -221,6 +226,12 @@ fn after(rest: &str) -> &str {
     rest.trim_start()
         .split_once(char::is_whitespace)
         .map_or("", |(_, after)| after)
+}
+
+/// Its records with `;` between them.
+fn statement_of(said: &str) -> Result<Vec<u8>, String> {
+    let records = said.split(';').map(statement::text::line_bytes);
+    Ok(records.collect::<Result<Vec<_>, _>>()?.concat())
 }
 
 fn numbers(words: &[&str]) -> Result<Vec<u64>, String> {

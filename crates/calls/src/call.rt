@@ -4,6 +4,7 @@ ghost use lib.ListN.{length};
 use crate::archived;
 use crate::asked;
 use crate::carried;
+use crate::checked;
 use crate::closed;
 use crate::exposed;
 use crate::margins;
@@ -41,6 +42,7 @@ fn of_book(call: u8, bytes: &[u8], table: Table, room: &mut [u8]) -> Told
         8 => closed::close_out(bytes, table, room),
         9 => asked::needs(bytes, table, room),
         10 => carried::take_over(table, room),
+        15 => checked::check(bytes, table, room),
         16 => archived::archive(bytes, table, room),
         _ => none(),
     }
@@ -84,7 +86,7 @@ fn answer_first(bytes: &[u8], room: &mut [u8]) -> Told
     ensures { λ t. ⌜ (t .size ≤ length (now (bytes .entry))) × (t .text ≤ length (now (room .exit))) ⌝ }
 {
     match bytes[0] {
-        1..=5 | 8..=10 | 16 => with_book(bytes, room),
+        1..=5 | 8..=10 | 15 | 16 => with_book(bytes, room),
         6 => pieces::read_at(bytes, room),
         7 => pieces::write(bytes, room),
         11 => margins::margin(bytes, room),

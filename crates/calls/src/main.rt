@@ -8,6 +8,7 @@ mod asked;
 mod call;
 mod carried;
 mod changed;
+mod checked;
 mod closed;
 mod exposed;
 mod held;

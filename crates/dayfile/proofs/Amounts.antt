@@ -15,14 +15,14 @@ use Rattle.dayfile.specs.Written.{field}
 use Rattle.dayfile.proofs.Marks.{bit-lt}
 use Rattle.dayfile.proofs.Good.{amount-most, amount-unnamed}
 
-pub got-named : (b : ℕ) (l : List ℕ) → (b ≡ 0 → ⊥) → got b l ≡ number 8 l
-unfolding got
-got-named zero l h = absurd (h refl)
-got-named (suc b) l h = refl
+number-got : (b : ℕ) (l : List ℕ) → b < 2 → number (8 * b) l ≡ got b l
+unfolding number got
+number-got zero l h = refl
+number-got (suc zero) l h = refl
+number-got (suc (suc b)) l h = absurd (omega arith)
 
-pub got-unnamed : (b : ℕ) (l : List ℕ) → b ≡ 0 → got b l ≡ 0
-unfolding got
-got-unnamed b l h = rw h refl
+pub number-bit : (w n : ℕ) (l : List ℕ) → number (8 * bit w n) l ≡ got (bit w n) l
+number-bit w n l = number-got (bit w n) l (bit-lt w n)
 
 -- by a bit, without a test
 pub got-times : (b : ℕ) (l : List ℕ) → b < 2 → b * number 8 l ≡ got b l

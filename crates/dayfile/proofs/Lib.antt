@@ -1,6 +1,6 @@
 mod Apart
-mod Marks
-mod Amounts
+pub mod Marks
+pub mod Amounts
 mod Looking
 mod Rooms
 mod Bodies

@@ -12,17 +12,10 @@ use crate::faults::fault_of;
 use crate::faults::size;
 use numbers::number2;
 use numbers::number8;
+use numbers::number8_if;
 use rows::Kinds;
 
-// The amount at a place where its bit is 1, or 0.
-fn amount_at(piece: &[u8], place: usize, bit: u8) -> u64
-    requires { ⌜ place + 8 * bit ≤ length (now piece) ⌝ }
-    ensures { λ r. ⌜ r ≡ got bit (drop place (now (piece .entry))) ⌝ }
-{
-    if bit == 0 { 0 } else { number8(piece, place) }
-}
-
-// The same where eight bytes follow in any case: no branch is taken by the bit.
+// The amount at a place where its bit is 1, or 0, where eight bytes follow in any case: no branch is taken by the bit.
 fn amount_near(piece: &[u8], place: usize, bit: u8) -> u64
     requires { ⌜ (place + 8 ≤ length (now piece)) × (bit < 2) ⌝ }
     ensures { λ r. ⌜ r ≡ got bit (drop place (now (piece .entry))) ⌝ }
@@ -72,13 +65,13 @@ fn record_at(piece: &[u8], place: usize, code: u8, named: u8) -> Record
         named,
         account: number2(piece, place + 2),
         kinds: Kinds {
-            cash: amount_at(piece, p.p0, named / 1 % 2),
-            deposits: amount_at(piece, p.p1, named / 2 % 2),
-            guarantees: amount_at(piece, p.p2, named / 4 % 2),
-            securities: amount_at(piece, p.p3, named / 8 % 2),
+            cash: number8_if(piece, p.p0, named / 1 % 2),
+            deposits: number8_if(piece, p.p1, named / 2 % 2),
+            guarantees: number8_if(piece, p.p2, named / 4 % 2),
+            securities: number8_if(piece, p.p3, named / 8 % 2),
         },
-        pledged: amount_at(piece, p.p4, named / 16 % 2),
-        margin: amount_at(piece, p.p5, named / 32 % 2),
+        pledged: number8_if(piece, p.p4, named / 16 % 2),
+        margin: number8_if(piece, p.p5, named / 32 % 2),
     }
 }
 

@@ -12,7 +12,7 @@ use Rattle.currency.specs.Margins.{sumOf}
 use Rattle.currency.specs.declared.Side.the-variants.{Futures}
 use Rattle.exposure.specs.Joined.{joinedSum, refusalOf, joinedOf}
 use Rattle.margins.specs.declared.lines.Line.the-variants.{Holds, Told, Bad}
-use Rattle.margins.specs.Digits.{said, decimalOf}
+use Rattle.text.specs.Decimals.{said, decimalOf}
 use Rattle.streams.specs.Words.{sameBytes}
 use Rattle.margins.specs.Words.{placeIn, partedBy}
 use Rattle.margins.specs.Products.{allCapitalsOrDigits, namesProduct}

@@ -1,5 +1,4 @@
 pub mod Least
-pub mod Saying
 pub mod Alike
 pub mod Parting
 pub mod Naming

@@ -4,13 +4,13 @@ use mathlib.Core.List.{List, [], _++_}
 use mathlib.Core.Path.{_≡_, refl, sym, ap, _∙_}
 use Prim.Native.Nat.{ℕ, zero, suc, _+_, _≤_}
 use native.Mathlib.Omega.{arith}
-use lib.ListN.{length, take, drop}
-use lib.Seq.{sets, sets-eq, length-take-le}
+use lib.ListN.{length, drop}
+use lib.Seq.{sets, sets-eq}
 use Rattle.sums.specs.Choice.{pick, unlessRefused}
 use Rattle.sums.specs.Room.{atStart}
 use Rattle.sums.proofs.Choices.{refused-by}
 use Rattle.text.specs.Inner.{Puts}
-use Rattle.text.proofs.Puts.{puts-none, puts-length}
+use Rattle.text.proofs.Puts.{puts-none, puts-as}
 use Rattle.dayfile.specs.declared.Record.{Record}
 use Rattle.dayfile.specs.declared.Wrote.the-variants.{Written, Refused}
 use Rattle.dayfile.specs.Records.{faultOf}
@@ -23,13 +23,6 @@ use Rattle.margins.specs.declared.asked.Asked.{Asked}
 use Rattle.margins.specs.declared.positions.Held.{Held}
 use Rattle.margins.specs.Printed.{lineMade, recordWritten, recordMade, refusalMade, refusedText, badText, toldMade, madeFor, printedFor, toldFor}
 
-pub puts-same : {room text text′ room′ : List ℕ} {n : ℕ} → text ≡ text′ → Puts room 0 text room′ n → Puts room 0 text′ room′ n
-puts-same e p = rw (sym e) p
-
--- what of a room is handed over is the text put there
-pub handed : {room text room′ : List ℕ} {n count : ℕ} → Puts room 0 text room′ n → count ≡ length (take n room′) → count ≡ length text
-handed {room} {text} {room′} {n} p e = omega (arith, p .next, length-take-le n room′ (omega (arith, p .within, puts-length p)))
-
 -- a good record fits a room of 70 bytes
 fits : (r : Record) → faultOf r ≡ 0 → length (writtenOf r) ≤ 70
 fits r f = omega (arith, length-written r f, size-most (r .named) (omega (arith, suits-lt (r .code) (r .named) (no-fault-good r f .suit))))
@@ -41,7 +34,7 @@ module _ (r : Record) (room : List ℕ) (room′ : List ℕ) (large : 70 ≤ len
       let start : 0 + length (writtenOf r) ≡ length (writtenOf r) = omega arith in
       let put : atStart (writtenOf r) room ≡ sets room 0 (writtenOf r) =
       sym (sets-eq (writtenOf r) room 0 (omega arith) ∙ ap (λ i. writtenOf r ++ drop i room) start) in
-      puts-same (sym e) (record { holds = er ∙ put; next = en ∙ sym start; within = omega arith })
+      puts-as (sym e) (record { holds = er ∙ put; next = en ∙ sym start; within = omega arith })
 
   pub put-written : (n : ℕ) → Written n ≡ wroteOf r room → Puts room 0 (recordWritten r) room′ n
   unfolding recordWritten roomAfter

@@ -13,15 +13,15 @@ use lib.ListN.{length, take, drop, getD}
 use Rattle.sums.specs.Choice.{pick}
 use Rattle.sums.proofs.Choices.{pick-yes, pick-no}
 use Rattle.text.specs.Numbers.{space}
-use Rattle.margins.specs.declared.digits.Decimal.{Decimal}
-use Rattle.margins.specs.declared.digits.Decimal.the-variants.{No as NoNumber}
+use Rattle.text.specs.declared.decimals.Decimal.{Decimal}
+use Rattle.text.specs.declared.decimals.Decimal.the-variants.{No as NoNumber}
 use Rattle.margins.specs.declared.sides.Word.{Word}
 use Rattle.margins.specs.declared.sides.Word.the-variants.{Is as ASide, No as NoSide}
 use Rattle.margins.specs.declared.figures.Figure.{Figure}
 use Rattle.margins.specs.declared.figures.Figure.the-variants.{Is, No}
 use Rattle.margins.specs.declared.lines.Line.{Line}
 use Rattle.margins.specs.declared.lines.Line.the-variants.{Nothing, Bad}
-use Rattle.margins.specs.Digits.{digitIn, withDigit, said, decimalOf}
+use Rattle.text.specs.Decimals.{digitIn, withDigit, said, decimalOf}
 use Rattle.streams.specs.Words.{sameBytes}
 use Rattle.margins.specs.Words.{wordsOf}
 use Rattle.margins.specs.Products.{productOf, namesProduct}

@@ -5,10 +5,10 @@ use mathlib.Core.Path.{_≡_}
 use Prim.Native.Nat.{ℕ}
 use lib.Dec.{eqb, leb}
 use Rattle.sums.specs.Choice.{pick}
-use Rattle.margins.specs.declared.digits.Decimal.{Decimal}
-use Rattle.margins.specs.declared.digits.Decimal.the-variants.{Is, No}
+use Rattle.text.specs.declared.decimals.Decimal.{Decimal}
+use Rattle.text.specs.declared.decimals.Decimal.the-variants.{Is, No}
 use Rattle.margins.specs.declared.asked.Asked.{Asked}
-use Rattle.margins.specs.Digits.{decimalOf}
+use Rattle.text.specs.Decimals.{decimalOf}
 use Rattle.streams.specs.Words.{sameBytes}
 
 -- "Words .. of another form"

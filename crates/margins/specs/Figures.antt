@@ -4,13 +4,13 @@ use Prim.Native.Nat.{ℕ}
 use lib.Dec.{eqb, leb}
 use lib.IntN.{ℤ, pos, negsuc, negℤ}
 use Rattle.sums.specs.Choice.{pick}
-use Rattle.margins.specs.declared.digits.Decimal.{Decimal}
-use Rattle.margins.specs.declared.digits.Decimal.the-variants.{Is as Number, No as NoNumber}
+use Rattle.text.specs.declared.decimals.Decimal.{Decimal}
+use Rattle.text.specs.declared.decimals.Decimal.the-variants.{Is as Number, No as NoNumber}
 use Rattle.margins.specs.declared.figures.Figure.{Figure}
 use Rattle.margins.specs.declared.figures.Figure.the-variants.{Is, No}
 use Rattle.margins.specs.declared.lines.Line.{Line}
 use Rattle.margins.specs.declared.lines.Line.the-variants.{Told, Bad}
-use Rattle.margins.specs.Digits.{decimalOf}
+use Rattle.text.specs.Decimals.{decimalOf}
 
 -- the largest of eight bytes with a sign; the least is one further below 0 than this is above
 abbrev pub largestSigned : ℕ

@@ -3,13 +3,13 @@ use mathlib.Core.List.{List, [], _∷_}
 use Prim.Native.Nat.{ℕ}
 use lib.Dec.{eqb}
 use Rattle.sums.specs.Choice.{pick}
-use Rattle.margins.specs.declared.digits.Decimal.{Decimal}
-use Rattle.margins.specs.declared.digits.Decimal.the-variants.{Is as Number, No as NoNumber}
+use Rattle.text.specs.declared.decimals.Decimal.{Decimal}
+use Rattle.text.specs.declared.decimals.Decimal.the-variants.{Is as Number, No as NoNumber}
 use Rattle.margins.specs.declared.sides.Word.{Word}
 use Rattle.margins.specs.declared.sides.Word.the-variants.{Is, No}
 use Rattle.margins.specs.declared.lines.Line.{Line}
 use Rattle.margins.specs.declared.lines.Line.the-variants.{Nothing, Holds, Bad}
-use Rattle.margins.specs.Digits.{decimalOf}
+use Rattle.text.specs.Decimals.{decimalOf}
 use Rattle.streams.specs.Words.{sameBytes}
 use Rattle.margins.specs.Words.{wordsOf}
 use Rattle.margins.specs.Products.{productOf, namesProduct}

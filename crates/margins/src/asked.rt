@@ -1,9 +1,9 @@
 // The words: `SERIAL ACCOUNT INITIAL`, with `--record` in front where the record is asked for.
 ghost use mathlib.Core.Path.{_≡_};
 ghost use Rattle.margins.specs.Asked.{notAsked, askedFor, askedByWords, Came};
-use crate::digits::Decimal;
-use crate::digits::number_of;
 use streams::words::is_same;
+use text::decimals::Decimal;
+use text::decimals::number_of;
 
 pub(crate) struct Asked {
     pub(crate) is_good: bool,

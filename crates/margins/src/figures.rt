@@ -3,10 +3,10 @@ ghost use mathlib.Core.List.{_∷_};
 ghost use mathlib.Core.Path.{_≡_};
 ghost use Rattle.margins.specs.Words.{wordsOf};
 ghost use Rattle.margins.specs.Figures.{aboveZero, belowZero, figureOf, told, figuresBehind};
-use crate::digits::Decimal;
-use crate::digits::number_of;
 use crate::lines::Line;
 use crate::words::up_to;
+use text::decimals::Decimal;
+use text::decimals::number_of;
 
 // One client's figures, as `exposure` takes them.
 pub(crate) struct Figures {

@@ -3,8 +3,6 @@ ghost use mathlib.Core.List.{_∷_};
 ghost use mathlib.Core.Path.{_≡_};
 ghost use Rattle.margins.specs.Words.{wordsOf};
 ghost use Rattle.margins.specs.Lines.{holding, positionOf, ofWords, lineSays};
-use crate::digits::Decimal;
-use crate::digits::number_of;
 use crate::figures;
 use crate::figures::Figures;
 use crate::products::names_product;
@@ -14,6 +12,8 @@ use crate::sides::side_of;
 use crate::words::up_to;
 use currency::Position;
 use streams::words::is_same;
+use text::decimals::Decimal;
+use text::decimals::number_of;
 
 // What a line says. An empty one, and one that begins with `#`, says nothing.
 pub(crate) enum Line {

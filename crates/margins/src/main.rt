@@ -15,7 +15,6 @@ use streams::standard::write_output;
 
 mod answers;
 mod asked;
-mod digits;
 mod figures;
 mod lines;
 mod positions;

@@ -1,6 +1,6 @@
 // Numbers as bytes, high byte first: read at a place of a piece, put at a place of a room. Internal: a caller sees to it that the bytes are there.
 ghost use mathlib.Core.Path.{_≡_};
-ghost use Prim.Native.Nat.{_+_, _≤_};
+ghost use Prim.Native.Nat.{_+_, _*_, _≤_, _<_};
 ghost use lib.ListN.{length, drop};
 ghost use lib.Seq.{sets};
 ghost use Rattle.numbers.specs.Bytes.{number, bytesOf};
@@ -26,6 +26,14 @@ pub fn number8(piece: &[u8], place: usize) -> u64
 {
     (number2(piece, place) as u64 * 281474976710656 + number2(piece, place + 2) as u64 * 4294967296)
         + (number2(piece, place + 4) as u64 * 65536 + number2(piece, place + 6) as u64)
+}
+
+// The number of eight bytes where the bit is 1, of none where it is 0.
+pub fn number8_if(piece: &[u8], place: usize, bit: u8) -> u64
+    requires { ⌜ (place + 8 * bit ≤ length (now piece)) × (bit < 2) ⌝ }
+    ensures { λ r. ⌜ r ≡ number (8 * bit) (drop place (now (piece .entry))) ⌝ }
+{
+    if bit == 0 { 0 } else { number8(piece, place) }
 }
 
 pub fn put2(room: &mut [u8], place: usize, x: u16)

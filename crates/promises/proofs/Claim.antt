@@ -1,26 +1,32 @@
--- P1 to P11, Annexure 5, K3's list, K7's tenth, K9's charges, K10's clients and K14's orders, by one claim over the list: `figures`, at the end. What stands before it makes it quick to compute: by the rules each
+-- P1 to P11, Annexure 5, K3's list, K7's tenth, K9's charges, K10's clients, K13's statements and K14's orders, by one claim over the list: `figures`, at the end. What stands before it makes it quick to compute: by the rules each
 -- record asks whether the book is sound, which is long to compute, and holds by theorem (Quick).
+use mathlib.Core.Bool.{not}
 use mathlib.Core.List.{List, [], _∷_, _++_, map}
 use mathlib.Core.Path.{_≡_, refl, sym, ap, _∙_}
 use Prim.Native.Nat.{ℕ}
 use lib.Count.{ones, onesIn}
+use lib.Dec.{eqb}
 use Rattle.sums.specs.Sum.{sum, all, any, least}
-use Rattle.sums.specs.Choice.{pick}
+use Rattle.sums.specs.Choice.{pick, unlessRefused}
 use Rattle.sums.specs.Listed.{listTo}
-use Rattle.sums.specs.Table.{first}
-use Rattle.numbers.specs.Bytes.{number}
+use Rattle.sums.specs.Table.{Line, _when_, first}
+use Rattle.sums.proofs.Tables.{first-later}
+use Rattle.numbers.specs.Bytes.{number, bytesOf}
 use Rattle.rows.specs.declared.Book.{Book}
 use Rattle.rows.specs.View.{needTM, needCM, need, blocked, deemed}
-use Rattle.rows.specs.Rows.{placeAmong, counted, freshBook, hasLiveClient, needAt, view}
+use Rattle.rows.specs.Rows.{rowAt, placeOf, isLive, placeAmong, counted, freshBook, hasLiveClient, needAt, view}
 use Rattle.rows.specs.Modes.{useTM, useCM, useOf, modeAfter, looked}
 use Rattle.rows.specs.KeptNeeds.{needsAfresh}
 use Rattle.book.specs.NeedsListed.{allNeeds}
+use Rattle.book.specs.Sound.{soundB}
 use Rattle.book.specs.Facts.{Sound}
 use Rattle.book.proofs.FreshSound.{fresh-sound, fresh-test}
+use Rattle.book.proofs.SoundTest.{sound←}
 use Rattle.dayfile.specs.declared.Record.{Record}
 use Rattle.dayfile.specs.declared.Found.{Found}
 use Rattle.dayfile.specs.declared.Found.the-variants.{End as NoBytes, Cut as TooFew, Whole}
 use Rattle.dayfile.specs.Records.{faultOf}
+use Rattle.dayfile.specs.Written.{field}
 use Rattle.dayfile.specs.Reading.{got, past, recordOf, foundFrom, foundAt, sizeOf}
 use Rattle.rules.specs.Effects.{amended}
 use Rattle.rules.proofs.WhatIsBeside.{refusalBy, changeBy}
@@ -33,14 +39,17 @@ use Rattle.records.proofs.SoundRun.{step-sound}
 use Rattle.closeout.specs.Round.{fromTM, askedOfCM, fromCM, unpaid}
 use Rattle.closeout.specs.Columns.{paid₁, part₂, ownColumn, tmColumn, cmColumn, uncovered, four, rowsTo}
 use Rattle.closeout.specs.Closing.{closedOf, roomOf}
+use Rattle.statement.specs.declared.Finding.{Finding}
+use Rattle.statement.specs.Forms.{bitFor, setOf, amountsOf, recordFor, partsFrom, badAmounts}
+use Rattle.statement.specs.Statements.{clientsFrom, liveClients, found, findingFrom, statementFinding}
 use Rattle.currency.specs.Rates.{rates, rateOf}
 use Rattle.currency.specs.Charges.{faultOf as faultIn, firstFault, chargeOf, charges}
 use Rattle.currency.specs.Margins.{sumOf, refusalOf as marginRefusal, madeOf}
 use Rattle.exposure.specs.Exposures.{intradayOf}
 use Rattle.promises.specs.Sequences.{afterAll}
 use Rattle.promises.specs.Archivings.{answersTo}
-use Rattle.promises.specs.Figures.{Question, blockedAfter, deemedAfter, refusalAfter, refusalsAfter, closedAfter, bytesLong, refusalRead, excessAfter, usedAfter, needsAfter, collateralAfter, marginOf, ratesOf, exposureTo}
-use Rattle.promises.specs.Figures.{cases, each, excessIn, usedIn, closedIn, zeros, byTheRules, casesByTheRules, expected, marginIn, ratesIn, exposureIn}
+use Rattle.promises.specs.Figures.{Question, blockedAfter, deemedAfter, refusalAfter, refusalsAfter, closedAfter, bytesLong, refusalRead, excessAfter, usedAfter, needsAfter, collateralAfter, marginOf, ratesOf, exposureTo, statementAfter}
+use Rattle.promises.specs.Figures.{cases, each, excessIn, usedIn, closedIn, zeros, byTheRules, casesByTheRules, expected, marginIn, ratesIn, exposureIn, findingIn}
 use Rattle.promises.proofs.Quick.{quickStep, quick-step, all-sound, quickAll, quick-all, quickClosed, quickRoom, quick-closed, quick-room}
 
 -- the ways to carry out, quickly
@@ -86,6 +95,21 @@ room-same : (rs : List Record) (losses room : List ℕ) → roomOf (afterAll fre
 room-same rs losses room =
     quick-room (afterAll freshBook rs) losses room (all-sound freshBook rs fresh-sound) ∙ ap (λ b. quickRoom b losses room) (after-same rs)
 
+-- a statement held against a book that is known to be sound
+abbrev refused7 : Book → ℕ → List Line
+refused7 b tm = (7 when not (isLive b (placeOf b tm))) ∷ (8 when not (eqb (rowAt b (placeOf b tm) .sort) 1)) ∷ []
+
+abbrev quickFinding : Book → ℕ → List ℕ → Finding
+quickFinding b tm s = unlessRefused (first (refused7 b tm)) (findingFrom b 0 (liveClients b (placeOf b tm)) s) (λ n. found n 0 0)
+
+finding-same : (rs : List Record) (s : List ℕ) → statementFinding (afterAll freshBook rs) 1 s ≡ quickFinding (quickAll freshBook rs) 1 s
+unfolding statementFinding
+finding-same rs s =
+    let b = afterAll freshBook rs in
+    ap (λ n. unlessRefused n (findingFrom b 0 (liveClients b (placeOf b 1)) s) (λ n. found n 0 0))
+    (first-later 1 (not (soundB b)) (refused7 b 1) (ap not (sound← b (all-sound freshBook rs fresh-sound))))
+    ∙ ap (λ c. quickFinding c 1 s) (after-same rs)
+
 -- what is said to each question, quickly
 unfoldable quickly : Question → List ℕ
 quickly (blockedAfter rs) = each (blocked (view (quickAll freshBook rs)))
@@ -103,6 +127,7 @@ quickly (collateralAfter rs i) = view (quickAll freshBook rs) .collateral i ∷ 
 quickly (marginOf p) = marginIn p
 quickly (ratesOf product) = ratesIn product
 quickly (exposureTo premium loss) = exposureIn premium loss
+quickly (statementAfter rs s) = findingIn (quickFinding (quickAll freshBook rs) 1 s)
 
 same : (q : Question) → byTheRules q ≡ quickly q
 unfolding byTheRules quickly
@@ -120,6 +145,7 @@ same (collateralAfter rs i) = ap (λ b. view b .collateral i ∷ []) (after-same
 same (marginOf p) = refl
 same (ratesOf product) = refl
 same (exposureTo premium loss) = refl
+same (statementAfter rs s) = ap findingIn (finding-same rs s)
 
 casesQuickly : List (List ℕ)
 casesQuickly = map (λ c. quickly (c .asked)) cases
@@ -129,9 +155,9 @@ unfolding casesByTheRules casesQuickly
 same-cases i = map (λ c. same (c .asked) i) cases
 
 computed : casesQuickly ≡ expected
-unfolding casesQuickly quickly quickRefusals counted cases expected quickAll placeAmong least any changeBy amended refusalBy first pick sum all needTM needCM need hasLiveClient freshBook faultOf foundAt foundFrom recordOf number got past ones onesIn rowsTo four paid₁ part₂ ownColumn tmColumn cmColumn uncovered fromTM askedOfCM fromCM unpaid looked listTo useOf useTM useCM modeAfter allNeeds needsAfresh madeOf marginRefusal firstFault faultIn rates rateOf sumOf charges chargeOf intradayOf
+unfolding casesQuickly quickly quickRefusals counted cases expected quickAll placeAmong least any changeBy amended refusalBy first pick sum all needTM needCM need hasLiveClient freshBook faultOf foundAt foundFrom recordOf number got past ones onesIn rowsTo four paid₁ part₂ ownColumn tmColumn cmColumn uncovered fromTM askedOfCM fromCM unpaid looked listTo useOf useTM useCM modeAfter allNeeds needsAfresh madeOf marginRefusal firstFault faultIn rates rateOf sumOf charges chargeOf intradayOf clientsFrom findingFrom recordFor setOf amountsOf bitFor field bytesOf partsFrom badAmounts
 computed = refl
 
--- document 01's figures, Annexure 5's, K3's list, K7's tenth, K9's charges, K10's clients and K14's orders, by the rules
+-- document 01's figures, Annexure 5's, K3's list, K7's tenth, K9's charges, K10's clients, K13's statements and K14's orders, by the rules
 pub figures : casesByTheRules ≡ expected
 figures = same-cases ∙ computed

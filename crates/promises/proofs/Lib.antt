@@ -23,6 +23,7 @@ pub mod Archive
 pub mod PieceByPiece
 pub mod TwoDays
 pub mod BookFile
+pub mod BrokersStatements
 pub mod OwnRecords
 pub mod OwnRows
 pub mod Reordering

@@ -34,6 +34,7 @@ use Rattle.table.proofs as table
 use Rattle.book.proofs as book
 use Rattle.archival.proofs as archival
 use Rattle.merging.proofs as merging
+use Rattle.statement.proofs as statement
 use Rattle.dayfile.proofs as dayfile
 use Rattle.desk.proofs as desk
 use Rattle.run.proofs as run
@@ -182,6 +183,12 @@ pub of-dayfile-reader-next : OneResultOnly dayfile.reader.next.ended nextSays
 of-dayfile-reader-next κs a x y u v p q =
     let same : x ≡ y = one-result (p .0) (q .0) in
     (same, ap (λ r. (r, tt)) (p .1 ∙ ap (λ z. movedTo (now (a .0)) (placeAfter z (now (a .0) .place))) same ∙ sym (q .1)))
+
+-- ---- statement
+
+-- a TM's statement held against the book
+pub of-statement-check : OneResultOnly statement.check.ended statement.check.Reads.Learnt
+of-statement-check κs a x y u v p q = (one-result p q, refl)
 
 -- ---- merging
 

@@ -1,29 +1,28 @@
 -- Two counters, one book (K14): two orders that are both carried out leave the same book but for modes.
-use mathlib.Core.Bool.{Bool, true, false, not}
+use mathlib.Core.Bool.{true}
 use mathlib.Core.List.{List, [], _∷_}
 use mathlib.Core.Path.{_≡_, refl, sym, ap, _∙_}
-use Prim.Native.Nat.{ℕ, zero, suc, _+_, _≤_, _<_}
+use Prim.Native.Nat.{ℕ, _+_, _≤_, _<_}
 use native.Mathlib.Omega.{arith}
 use native.Mathlib.Decide.{decLt}
-use lib.ListN.{length, getD}
+use lib.ListN.{length}
 use lib.Seq.{ext-getD}
-use Rattle.sums.specs.Choice.{unlessRefused}
-use Rattle.sums.specs.Table.{_when_, first}
-use Rattle.sums.proofs.Tables.{first-later}
+use Rattle.sums.specs.Table.{_when_}
 use Rattle.rows.specs.declared.Book.{Book}
-use Rattle.rows.specs.Rows.{noRow, placeOf, rowAt, numberAt, modeAt, isLive, view, withModes}
+use Rattle.rows.specs.Rows.{noRow, placeOf, rowAt, numberAt, view}
 use Rattle.rows.specs.KeptNeeds.{needsAfresh}
-use Rattle.book.specs.declared.Figures.{Figures}
 use Rattle.book.specs.Sound.{soundB}
-use Rattle.book.specs.Asked.{standingRefusal, figuresOf, noFigures, standingOf}
+use Rattle.book.specs.Asked.{standingOf}
 use Rattle.book.specs.NeedsListed.{allNeeds}
 use Rattle.book.specs.Facts.{Sound}
 use Rattle.book.proofs.SoundTest.{sound→, sound←}
 use Rattle.dayfile.specs.declared.Record.{Record}
 use Rattle.promises.specs.Sequences.{afterAll}
 use Rattle.promises.proofs.Quick.{all-sound}
-use Rattle.promises.specs.Orders.{ownOf, TwoOrders, WithoutOpenings, AllCarriedOut, SameButModes, modeAside}
-use Rattle.promises.specs.Figures.{oneOrder, otherOrder, marginFirst, depositFirst}
+use Rattle.promises.specs.Standings.{allButMode}
+use Rattle.promises.specs.Orders.{TwoOrders, WithoutOpenings, AllCarriedOut, SameButModes}
+use Rattle.promises.specs.Figures.{oneOrder, otherOrder, marginFirst, allocatedFirst}
+use Rattle.promises.proofs.Modes.{same-figures}
 use Rattle.promises.proofs.OwnRecords.{as-many, codes-both, neighbours-swapped}
 use Rattle.promises.proofs.OwnRows.{amendedAll, row-after, Kept, kept-after, onBy, serial-after, needs-after-all}
 
@@ -32,28 +31,8 @@ by-parts : (c d : Book) → Kept c d → d .serial ≡ c .serial → d .rows ≡
 by-parts c d k serial rows needs =
     λ j. record { count = k .count j; serial = serial j; rows = rows j; modes = d .modes; needs = needs j; next = k .next j; numbers = k .numbers j }
 
--- standings of two sound books that are the same but for modes
-module _ (c : Book) (sound : soundB c ≡ true) (number : ℕ) where
-  -- the table past 1, which holds at no sound book
-  past-1 : standingRefusal c number ≡ first ((7 when not (isLive c (placeOf c number))) ∷ [])
-  unfolding standingRefusal
-  past-1 = first-later 1 (not (soundB c)) ((7 when not (isLive c (placeOf c number))) ∷ []) (ap not sound)
-
-  other-modes : (modes : List Bool) → soundB (withModes c modes) ≡ true → modeAside (standingOf (withModes c modes) number) ≡ modeAside (standingOf c number)
-  unfolding standingOf standingRefusal
-  other-modes modes also =
-      ap (λ n. modeAside (unlessRefused n (figuresOf (view c) (getD modes (placeOf c number) false) (placeOf c number)) noFigures))
-      (first-later 1 (not (soundB (withModes c modes))) ((7 when not (isLive c (placeOf c number))) ∷ []) (ap not also) ∙ sym past-1)
-      ∙ by (standingRefusal c number)
-    where
-      by : (n : ℕ) → modeAside (unlessRefused n (figuresOf (view c) (getD modes (placeOf c number) false) (placeOf c number)) noFigures)
-          ≡ modeAside (unlessRefused n (figuresOf (view c) (modeAt c (placeOf c number)) (placeOf c number)) noFigures)
-      by zero = refl
-      by (suc n) = refl
-
-by-modes : (c d : Book) → soundB c ≡ true → soundB d ≡ true → SameButModes c d → (number : ℕ) → modeAside (standingOf d number) ≡ modeAside (standingOf c number)
-by-modes c d s t same number =
-    ap (λ x. modeAside (standingOf x number)) same ∙ other-modes c s number (d .modes) (sym (ap soundB same) ∙ t)
+by-modes : (c d : Book) → soundB c ≡ true → soundB d ≡ true → SameButModes c d → (number : ℕ) → allButMode (standingOf d number) ≡ allButMode (standingOf c number)
+by-modes c d s t same number = ap (λ x. allButMode (standingOf x number)) same ∙ same-figures c (d .modes) s (sym (ap soundB same) ∙ t) number
 
 -- "from one sound book take two orders of the same records, renumbered, without openings or retirings, in which each account's own records keep their
 -- order and all are carried out both times."
@@ -133,7 +112,7 @@ module _ (b : Book) (sound : soundB b ≡ true) (rs qs : List Record) (same : Tw
   the-same-needs = ap allNeeds the-same-book-but-for-modes
 
   -- .. and every account's standing, but for the mode that it shows.
-  pub the-same-standings : (number : ℕ) → modeAside (standingOf d number) ≡ modeAside (standingOf c number)
+  pub the-same-standings : (number : ℕ) → allButMode (standingOf d number) ≡ allButMode (standingOf c number)
   the-same-standings number = by-modes c d (sound← c sound-c) (sound← d sound-d) the-same-book-but-for-modes number
 
 -- "Give an example where one order carries all out and the other gives 13." The refusals are in the list of figures (Claim); the records are two orders of the same ones, ..
@@ -141,5 +120,5 @@ pub the-example-is-two-orders : TwoOrders oneOrder otherOrder
 the-example-is-two-orders = neighbours-swapped _ _ _ _ [] refl refl (λ e. omega arith)
 
 -- .. and so are those of which both orders are carried out and a mode is on after one alone: the exception is needed.
-pub so-is-the-other : TwoOrders marginFirst depositFirst
-so-is-the-other = neighbours-swapped _ _ _ _ [] refl refl (λ e. omega arith)
+pub the-example-of-modes-is-two-orders : TwoOrders marginFirst allocatedFirst
+the-example-of-modes-is-two-orders = neighbours-swapped _ _ _ _ [] refl refl (λ e. omega arith)

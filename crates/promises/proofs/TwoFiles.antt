@@ -83,7 +83,8 @@ module _ (b : Book) (sound : soundB b ≡ true) (s : List ℕ) (most : ℕ) wher
       let q = ran-sound b s most sound in
       run-all s most b 0 0 0 (omega (arith, ap (λ (x : Ran). x .done) q, ap (λ (x : Ran). x .read) q))
 
--- Two day files, up to a stated number of records each: every record read is carried out, and the records are two orders of the same ones.
+-- Two day files, up to a stated number of records each: where every record read is carried out, both times, and the records are two orders of the same ones, none an opening, the books after them
+-- are the same but for their modes.
 pub two-files : (b : Book) → soundB b ≡ true → (s x : List ℕ) (most : ℕ) → TwoOrders (recordsAt s most 0) (recordsAt x most 0)
     → WithoutOpenings (recordsAt s most 0)
     → ranOf b s most .done ≡ ranOf b s most .read

@@ -1,4 +1,4 @@
--- Document 01, 'Figures to hold against it': P1 to P11, P8 as K1 of document 02 has it; K2's case, the table of 004 Annexure 5; K3's list of needs at P4; K7's tenth; K9's charges; K10's six clients; and K14's two orders. In paise.
+-- Document 01, 'Figures to hold against it': P1 to P11, P8 as K1 of document 02 has it; K2's case, the table of 004 Annexure 5; K3's list of needs at P4; K7's tenth; K9's charges; K10's six clients; K13's statements; and K14's two orders. In paise.
 -- First the records of each case; then `cases`, the list of what is asked and the figures that the documents give; then what the rules say to it.
 use mathlib.Core.List.{List, [], _∷_, _++_, map}
 use Prim.Native.Nat.{ℕ, _+_, _*_}
@@ -13,6 +13,9 @@ use Rattle.dayfile.specs.declared.Record.{Record}
 use Rattle.dayfile.specs.Reading.{sizeOf}
 use Rattle.desk.specs.Answers.{refusalIn}
 use Rattle.desk.specs.Steps.{stepOf, nextOf}
+use Rattle.statement.specs.declared.Finding.{Finding}
+use Rattle.statement.specs.Forms.{recordFor}
+use Rattle.statement.specs.Statements.{statementFinding}
 use Rattle.closeout.specs.declared.Closed.{Closed}
 use Rattle.closeout.specs.Bound.{beyond}
 use Rattle.closeout.specs.Closing.{lossAt, closedOf, roomOf}
@@ -131,6 +134,22 @@ securities serial code account amount = record {
 abbrev atK7 : ℕ → List Record
 atK7 amount = opening 0 1 0 ∷ opening 1 2 1 ∷ securities 2 4 2 amount ∷ securities 3 6 2 amount ∷ []
 
+-- K13: A has received a paisa that isn't allocated
+abbrev atK13 : List Record
+atK13 = start ++ (cash 11 4 2 1 ∷ [])
+
+-- the record of a client, by its account and five amounts
+abbrev ofClient : ℕ → ℕ → ℕ → ℕ → ℕ → ℕ → List ℕ
+ofClient account received retained placed held lodged =
+    recordFor account (record { received = received; retained = retained; placed = placed; held = held; lodged = lodged })
+
+-- a record that is right for A, with all that is allocated placed with the corporation, and one that is right for B
+abbrev rightForA : List ℕ
+rightForA = ofClient 2 30001 0 30001 1 30000
+
+abbrev rightForB : List ℕ
+rightForB = ofClient 3 30000 10000 20000 20000 0
+
 -- K14, "one order carries all out and the other gives 13": the CM has received 300 and allocated none of it, TM-1 has a client, account 2. One clerk
 -- allocates for the CM, the other sets the client's margin.
 abbrev atK14 : List Record
@@ -143,15 +162,15 @@ abbrev pub otherOrder : List Record
 otherOrder = margin 3 2 30000 ∷ cash 4 6 0 30000 ∷ []
 
 -- "K2's modes are excepted.": the CM has 1000, TM-1 has 100 and has received 105, its client nothing. The client's margin of 90 brings the TM to 90%, and at 86% it stays
--- on; with the TM's deposit of 5 first 90% is never reached.
+-- on; with the TM's 5 more allocated first 90% is never reached.
 abbrev atK14Warned : List Record
 atK14Warned = (opening 0 1 0 ∷ opening 1 2 1 ∷ []) ++ (collateralOf 2 0 100000 ++ (cash 4 4 1 10500 ∷ cash 5 6 1 10000 ∷ []))
 
 abbrev pub marginFirst : List Record
 marginFirst = margin 6 2 9000 ∷ cash 7 6 1 500 ∷ []
 
-abbrev pub depositFirst : List Record
-depositFirst = cash 6 6 1 500 ∷ margin 7 2 9000 ∷ []
+abbrev pub allocatedFirst : List Record
+allocatedFirst = cash 6 6 1 500 ∷ margin 7 2 9000 ∷ []
 
 -- code 4, second mark byte 0xFF, serial 0, and zeros: n + 2 bytes
 abbrev full : ℕ → List ℕ
@@ -194,6 +213,8 @@ pub data Question : Type 0 where
   ratesOf : ℕ → Question
   -- K10: the refusal or 0 of a client's premium and loss, and its amount
   exposureTo : ℤ → ℤ → Question
+  -- K13: what a check finds of TM-1's statement: the refusal or 0, the record at fault, and the account wanted there
+  statementAfter : List Record → List ℕ → Question
 
 -- what is asked, and the figures that a document gives for it
 pub record Case : Type 0 where
@@ -204,7 +225,7 @@ infix 20 _gives_
 abbrev _gives_ : Question → List ℕ → Case
 q gives l = record { asked = q; figures = l }
 
--- P1 to P11, Annexure 5, K3, K7, K9 and K10, in one list
+-- P1 to P11, Annexure 5, K3, K7, K9, K10, K13 and K14, in one list
 unfoldable pub cases : List Case
 cases =
     (blockedAfter atP1 gives (0 ∷ 0 ∷ 0 ∷ 10000 ∷ []))  -- P1: B blocked 100, TM-1 0, CM 0
@@ -259,12 +280,24 @@ cases =
     ∷ (exposureTo (pos 30) (below 80) gives (0 ∷ 0 ∷ []))  -- 30, -80 gives 0
     ∷ (exposureTo (below 100) (pos 80) gives (0 ∷ 0 ∷ []))  -- -100, 80 gives 0
     ∷ (exposureTo (pos 100) (below 80) gives (0 ∷ 20 ∷ []))  -- 100, -80 gives 20
+    ∷ (statementAfter atK13 (rightForA ++ rightForB) gives (0 ∷ 0 ∷ 0 ∷ []))  -- K13: accepted
+    ∷ (statementAfter atK13 (rightForA ++ (rightForB ++ (1 ∷ []))) gives (24 ∷ 2 ∷ 0 ∷ []))  -- 24: a byte more is a record cut
+    ∷ (statementAfter atK13 (1 ∷ 32 ∷ 0 ∷ 2 ∷ replicate 8 1) gives (24 ∷ 0 ∷ 2 ∷ []))  -- 24: bit 5 is no amount
+    ∷ (statementAfter atK13 (1 ∷ 1 ∷ 0 ∷ 2 ∷ replicate 8 0) gives (25 ∷ 0 ∷ 2 ∷ []))  -- 25: an amount that is named and 0,
+    ∷ (statementAfter atK13 (rightForA ++ ofClient 3 40000000000001 0 0 0 0) gives (25 ∷ 1 ∷ 3 ∷ []))  -- and one a paisa above four ceilings
+    ∷ (statementAfter atK13 rightForA gives (26 ∷ 1 ∷ 3 ∷ []))  -- 26: B still wanting
+    ∷ (statementAfter atK13 (rightForB ++ rightForA) gives (26 ∷ 0 ∷ 2 ∷ []))  -- 26: A is the next live client
+    ∷ (statementAfter atK13 (rightForA ++ (rightForB ++ ofClient 4 1 1 0 0 0)) gives (26 ∷ 2 ∷ 0 ∷ []))  -- 26: a record too many
+    ∷ (statementAfter atK13 (rightForA ++ ofClient 3 30000 10001 20000 20000 0) gives (27 ∷ 1 ∷ 3 ∷ []))  -- 27: a paisa too much in the first sum,
+    ∷ (statementAfter atK13 (rightForA ++ ofClient 3 30000 10000 20000 19999 0) gives (27 ∷ 1 ∷ 3 ∷ []))  -- one too few in the second
+    ∷ (statementAfter atK13 (ofClient 2 30000 0 30000 0 30000 ++ rightForB) gives (28 ∷ 0 ∷ 2 ∷ []))  -- 28: A's last paisa isn't in it
+    ∷ (statementAfter atK13 (ofClient 2 30001 0 30001 0 30001 ++ rightForB) gives (29 ∷ 0 ∷ 2 ∷ []))  -- 29: a paisa placed that isn't allocated
     ∷ (refusalsAfter atK14 oneOrder gives (0 ∷ 0 ∷ []))  -- K14: one order carries all out
     ∷ (refusalsAfter atK14 otherOrder gives (13 ∷ 0 ∷ []))  -- and the other gives 13
     ∷ (refusalsAfter atK14Warned marginFirst gives (0 ∷ 0 ∷ []))  -- K14: both orders are carried out,
-    ∷ (refusalsAfter atK14Warned depositFirst gives (0 ∷ 0 ∷ []))
+    ∷ (refusalsAfter atK14Warned allocatedFirst gives (0 ∷ 0 ∷ []))
     ∷ (usedAfter (atK14Warned ++ marginFirst) 1 gives (90000 ∷ 105000 ∷ 1 ∷ []))  -- and the TM's mode is on after the first
-    ∷ (usedAfter (atK14Warned ++ depositFirst) 1 gives (90000 ∷ 105000 ∷ 0 ∷ []))  -- and off after the second
+    ∷ (usedAfter (atK14Warned ++ allocatedFirst) 1 gives (90000 ∷ 105000 ∷ 0 ∷ []))  -- and off after the second
     ∷ []
 
 -- What the rules say to a question. Of the book after the records, f of CM, TM-1, A and B,
@@ -309,6 +342,10 @@ ratesIn product = marginIn (position product Futures 100000) ++ marginIn (positi
 abbrev pub exposureIn : ℤ → ℤ → List ℕ
 exposureIn premium loss = intradayOf premium loss .refusal ∷ intradayOf premium loss .amount ∷ []
 
+-- of what a check finds all three
+abbrev pub findingIn : Finding → List ℕ
+findingIn f = f .refusal ∷ f .index ∷ f .wanted ∷ []
+
 -- the book after records from a fresh book
 abbrev after : List Record → Book
 after rs = afterAll freshBook rs
@@ -328,6 +365,7 @@ byTheRules (collateralAfter rs i) = view (after rs) .collateral i ∷ []
 byTheRules (marginOf p) = marginIn p
 byTheRules (ratesOf product) = ratesIn product
 byTheRules (exposureTo premium loss) = exposureIn premium loss
+byTheRules (statementAfter rs s) = findingIn (statementFinding (after rs) 1 s)
 
 -- The one claim (`promises.Claim.figures`) is that these two lists are the same: what the rules say to each question, and the documents' figures.
 unfoldable pub casesByTheRules : List (List ℕ)

@@ -1,5 +1,4 @@
 -- Document 02, K14: "Two clerks' files are merged in some order." Two orders of the same records.
-use mathlib.Core.Bool.{false}
 use mathlib.Core.List.{List, [], _∷_, _++_}
 use mathlib.Core.Logic.{_⊎_}
 use mathlib.Core.Path.{_≡_}
@@ -8,7 +7,6 @@ use lib.Dec.{eqb}
 use Rattle.sums.specs.Choice.{pick}
 use Rattle.rows.specs.declared.Book.{Book}
 use Rattle.rows.specs.Rows.{withModes}
-use Rattle.book.specs.declared.Figures.{Figures}
 use Rattle.dayfile.specs.declared.Record.{Record}
 use Rattle.dayfile.specs.declared.Found.{Found}
 use Rattle.dayfile.specs.declared.Found.the-variants.{End as NoBytes, Cut as TooFew, Whole}
@@ -56,29 +54,17 @@ unfoldable pub SerialsFit : Book → List Record → Type 0
 SerialsFit b [] = Unit
 SerialsFit b (r ∷ rs) = (verdictOf b r ≡ 3 → ⊥) × SerialsFit (stepOf b r .book) rs
 
--- "K2's modes are excepted.": two books that are the same but for their modes; ..
+-- "K2's modes are excepted.": two books that are the same but for their modes (a standing but for the mode that it shows is `allButMode` of Standings)
 abbrev pub SameButModes : Book → Book → Type 0
 SameButModes b c = c ≡ withModes b (c .modes)
 
--- .. and a standing but for the mode that it shows
-abbrev pub modeAside : Figures → Figures
-modeAside f = record {
-  refusal = f .refusal;
-  collateral = f .collateral;
-  need = f .need;
-  blocked = f .blocked;
-  deemed = f .deemed;
-  free = f .free;
-  mode = false;
-  shortfall = f .shortfall;
-}
-
--- For day files: the records of a piece from a place on, up to most of them, as a run reads them
+-- For day files: what stands at a place, and then what `go` gives of the place behind it
 abbrev pub listing : (ℕ → List Record) → Found → List Record
 listing go NoBytes = []
 listing go TooFew = []
 listing go (Whole r next) = r ∷ go next
 
+-- the records of a piece from a place on, up to most of them, as a run reads them
 unfoldable pub recordsAt : List ℕ → ℕ → ℕ → List Record
 recordsAt s zero place = []
 recordsAt s (suc most) place = listing (recordsAt s most) (foundAt s place)

@@ -1,4 +1,3 @@
-pub mod SameText
 pub mod Listed
 pub mod NeedLines
 pub mod Example

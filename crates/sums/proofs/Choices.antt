@@ -47,6 +47,13 @@ and-right a b e = and-split a b e .1
 pub and-join : {a b : Bool} → a ≡ true → b ≡ true → (a && b) ≡ true
 and-join {a} {b} p q = rw p q
 
+pub and-left-fails : (a b : Bool) → a ≡ false → (a && b) ≡ false
+and-left-fails a b e = rw e
+
+pub and-right-fails : (a b : Bool) → b ≡ false → (a && b) ≡ false
+and-right-fails true b e = e
+and-right-fails false b e = refl
+
 -- b fails where a holds
 pub and-fails : {a b : Bool} → a ≡ true → (a && b) ≡ false → b ≡ false
 and-fails e h = rw e at h

@@ -4,3 +4,4 @@ pub mod Widths
 pub mod Puts
 pub mod Pairs
 pub mod Lists
+mod Saying

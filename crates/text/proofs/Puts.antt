@@ -1,11 +1,11 @@
 -- Texts put into a room, one after the other and byte by byte.
 use mathlib.Core.List.{List, [], _∷_, _++_}
-use mathlib.Core.Path.{_≡_, refl, ap, _∙_}
+use mathlib.Core.Path.{_≡_, refl, sym, ap, _∙_}
 use Prim.Native.Nat.{ℕ, suc, _+_, _≤_, _<_}
 use native.Mathlib.Numerals.{add-one}
 use native.Mathlib.Omega.{arith}
 use lib.ListN.{length, set, take, drop, getD, length-append}
-use lib.Seq.{sets-eq, length-sets, take-suc, take-all}
+use lib.Seq.{sets-eq, length-sets, length-take-le, take-suc, take-all}
 use Rattle.sums.specs.Room.{atStart}
 use Rattle.text.specs.Inner.{put, Puts}
 
@@ -26,6 +26,14 @@ put-put room at (a ∷ x) y =
 
 pub puts-length : {room room₁ x : List ℕ} {at p : ℕ} → Puts room at x room₁ p → length room₁ ≡ length room
 puts-length {room} {x = x} {at = at} f = ap length (f .holds) ∙ length-sets room at x
+
+-- a text by another name
+pub puts-as : {room text text′ room′ : List ℕ} {at n : ℕ} → text ≡ text′ → Puts room at text room′ n → Puts room at text′ room′ n
+puts-as e p = rw (sym e) p
+
+-- what of a room is handed over is the text put there
+pub handed : {room text room′ : List ℕ} {n count : ℕ} → Puts room 0 text room′ n → count ≡ length (take n room′) → count ≡ length text
+handed {room} {text} {room′} {n} p e = omega (arith, p .next, length-take-le n room′ (omega (arith, p .within, puts-length p)))
 
 -- one more text, where the last one ended
 pub and-then : {room room₁ room₂ : List ℕ} {at p q : ℕ} (x y : List ℕ) → Puts room at x room₁ p → Puts room₁ p y room₂ q → Puts room at (x ++ y) room₂ q

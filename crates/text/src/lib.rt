@@ -5,6 +5,7 @@ ghost use Rattle.text.specs.Numbers.{followed, spaced, andSpaces};
 ghost use Rattle.text.specs.Words.{andSpace, sortWord, refusedAt};
 ghost use Rattle.text.specs.Inner.{Puts};
 
+pub mod decimals;
 mod number;
 
 // Puts a text at a place, and gives the place after it.

@@ -10,7 +10,8 @@ use crate::dayfile::{length, next_at, Next, Values};
 use crate::desk;
 use crate::desk::figures::{exposure, exposures, margin_with};
 use crate::mode::Mode;
-use crate::refusal::Refusal;
+use crate::refusal::{Refusal, UNSOUND};
+use crate::statement::check;
 use crate::table::Table;
 use std::fmt::Display;
 
@@ -20,9 +21,6 @@ pub struct Answered {
     pub line: String,
     pub word: String,
 }
-
-/// Refusal 1 is given by no record's check, so it stands here.
-const UNSOUND: u8 = 1;
 
 pub fn answer(call: &Call) -> Answered {
     match call {
@@ -39,6 +37,9 @@ pub fn answer(call: &Call) -> Answered {
         Call::Needs(book, room) => needs(book.book(), *room),
         Call::TakeOver(book) => take_over(book),
         Call::Archive(book, room) => archive(book, *room),
+        Call::Statement(book, tm, statement) => {
+            told(check(book.book().as_ref(), *tm, statement).refusal(), &[])
+        }
         Call::Margin(serial, account, initial, positions) => {
             margin_record(*serial, *account, desk::margin(*initial, positions))
         }

@@ -30,12 +30,14 @@ pub enum Call {
     MarginWith(u16, u16, u64, Vec<Position>, Vec<i64>),
     /// Figures a client, all clients' figures, room.
     Exposures(u8, Vec<i64>, usize),
+    /// Book, the TM's number, statement.
+    Statement(Table, u16, Vec<u8>),
     /// Book, room.
     Archive(Table, usize),
 }
 
 /// Every call by its number.
-pub const NAMES: [(u8, &str); 15] = [
+pub const NAMES: [(u8, &str); 16] = [
     (1, "is_sound"),
     (2, "standing"),
     (3, "carry_out"),
@@ -50,6 +52,7 @@ pub const NAMES: [(u8, &str); 15] = [
     (12, "exposure"),
     (13, "margin_with"),
     (14, "exposures"),
+    (15, "statement"),
     (16, "archive"),
 ];
 
@@ -78,6 +81,7 @@ impl Call {
                 Call::MarginWith(serial, account, initial, positions, input.figures()?)
             }
             14 => Call::Exposures(input.figures_each()?, input.signed_list()?, input.room()?),
+            15 => Call::Statement(input.book()?, input.short()?, input.piece()?),
             16 => Call::Archive(input.book()?, input.room()?),
             _ => return None,
         };
@@ -105,6 +109,7 @@ impl Call {
             Call::Exposure(..) => 12,
             Call::MarginWith(..) => 13,
             Call::Exposures(..) => 14,
+            Call::Statement(..) => 15,
             Call::Archive(..) => 16,
         }
     }
@@ -129,6 +134,7 @@ impl Call {
             Call::CarryOutNext(book, _, _) | Call::Day(book, _, _) => Some(book),
             Call::CloseOut(book, _, _) | Call::Needs(book, _) => Some(book),
             Call::TakeOver(book) | Call::Archive(book, _) => Some(book),
+            Call::Statement(book, _, _) => Some(book),
             Call::ReadAt(..) | Call::Write(..) | Call::Margin(..) => None,
             Call::Exposure(..) | Call::MarginWith(..) | Call::Exposures(..) => None,
         }
@@ -166,6 +172,11 @@ impl Call {
                 lay_length(out, *room);
             }
             Call::Needs(_, room) | Call::Archive(_, room) => lay_length(out, *room),
+            Call::Statement(_, tm, statement) => {
+                out.extend_from_slice(&tm.to_be_bytes());
+                lay_length(out, statement.len());
+                out.extend_from_slice(statement);
+            }
             _ => self.lay_desk(out),
         }
     }

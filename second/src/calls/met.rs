@@ -10,6 +10,7 @@ use super::call::NAMES;
 use super::{Answered, Call};
 use crate::make::asked::{Asked, ENDINGS};
 use crate::rule::Rule;
+use crate::statement;
 use crate::table::{Fault, Table};
 use edges::EDGES;
 use std::collections::BTreeMap;
@@ -30,6 +31,7 @@ const OUTCOMES: [&str; NAMES.len()] = [
     "0 22",
     "0 15 18 19 20 21 22",
     "0 15",
+    "0 1 7 8 24 25 26 27 28 29",
     "0 1 23",
 ];
 
@@ -45,9 +47,11 @@ pub struct Met {
     several: u64,
     /// Books of version 1.
     first_versions: u64,
-    endings: [u64; ENDINGS.len()],
+    /// By place in `ENDINGS`.
+    endings: BTreeMap<usize, u64>,
     desk: desk::Met,
     figures: figures::Met,
+    statements: statement::Met,
 }
 
 impl Met {
@@ -63,6 +67,12 @@ impl Met {
             self.desk.count(*initial, positions);
         }
         self.figures.count(call);
+        if let Call::Statement(book, tm, statement) = call {
+            let book = book.book();
+            let checked = statement::check(book.as_ref(), *tm, statement);
+            let met = &mut self.statements;
+            met.count(book.as_ref(), *tm, statement, &checked);
+        }
         if let Some(book) = call.book() {
             self.count_book(book, call.rule());
         }
@@ -80,8 +90,14 @@ impl Met {
 
     pub fn count_input(&mut self, asked: &Asked) {
         self.inputs += 1;
-        self.endings[asked.ending] += 1;
+        *self.endings.entry(asked.ending).or_default() += 1;
         self.first_versions += asked.first_versions;
+    }
+
+    /// How often an input ended so.
+    fn endings(&self) -> impl Iterator<Item = (&'static str, u64)> + '_ {
+        let all = ENDINGS.iter().enumerate();
+        all.map(|(place, ending)| (ending.0, self.endings.get(&place).copied().unwrap_or(0)))
     }
 
     pub fn missed(&self) -> Vec<String> {
@@ -104,14 +120,14 @@ impl Met {
             let faults = faults.iter();
             missed.extend(faults.map(|fault| format!("alone, {rule:?}: {fault:?}")));
         }
-        let endings = ENDINGS.iter().zip(self.endings);
-        let unmet = endings.filter(|(_, many)| *many == 0);
-        missed.extend(unmet.map(|(ending, _)| ending.0.to_string()));
+        let unmet = self.endings().filter(|(_, many)| *many == 0);
+        missed.extend(unmet.map(|(ending, _)| ending.to_string()));
         if self.first_versions == 0 {
             missed.push("a book of version 1".to_string());
         }
         missed.extend(self.desk.missed());
         missed.extend(self.figures.missed());
+        missed.extend(self.statements.missed());
         missed
     }
 
@@ -139,10 +155,11 @@ impl Met {
             lines.push(format!("{name}, {}", met.join(", ")));
         }
         lines.extend([self.desk.line(), self.figures.line()]);
+        lines.push(format!("statements, {}", self.statements.line()));
         lines.push(self.number_line());
-        let endings = ENDINGS.iter().zip(self.endings);
+        let endings = self.endings();
         let endings: Vec<String> = endings
-            .map(|(ending, many)| format!("{}: {many}", ending.0))
+            .map(|(ending, many)| format!("{ending}: {many}"))
             .collect();
         lines.push(format!("endings, {}", endings.join(", ")));
         lines

@@ -57,13 +57,17 @@ fn asked(words: &[OsString]) -> Option<Asked> {
         [serial, account, initial] => (serial, account, initial),
         _ => return None,
     };
-    let short = |word: &OsString| u16::try_from(number(word.to_str()?.as_bytes())?).ok();
     Some(Asked {
         as_record,
         serial: short(serial)?,
         account: short(account)?,
         initial: number(initial.to_str()?.as_bytes())?,
     })
+}
+
+/// A serial, or an account's number.
+pub fn short(word: &OsString) -> Option<u16> {
+    u16::try_from(number(word.to_str()?.as_bytes())?).ok()
 }
 
 /// "Decimal digits; a number too large for eight bytes counts as the largest."

@@ -15,6 +15,7 @@ pub mod numbers;
 mod overs;
 mod pieces;
 mod records;
+pub mod statements;
 
 use crate::bookfile;
 use crate::calls::Call;

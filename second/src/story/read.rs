@@ -6,6 +6,7 @@ use crate::bookfile;
 use crate::calls::Calls;
 use crate::desk::lines::side_word;
 use crate::desk::{Position, PRODUCTS};
+use crate::statement;
 use crate::text::{hex, read_from};
 
 /// A book and the version that it stands in.
@@ -98,6 +99,9 @@ fn call_line(call: &Call, serial: u16) -> String {
             format!("{name} room {room} losses{losses}")
         }
         Call::Needs(_, room) | Call::Archive(_, room) => format!("{name} room {room}"),
+        Call::Statement(_, tm, statement) => {
+            format!("{name} {tm} {}", joined(&statement::text::read(statement)))
+        }
         Call::Margin(serial, account, initial, positions) => {
             format!(
                 "{name} {serial} {account} {initial} {}",
@@ -134,7 +138,11 @@ fn position_words(positions: &[Position]) -> String {
 }
 
 fn piece_words(piece: &[u8], serial: u16) -> String {
-    let lines = read_from(piece, serial);
+    joined(&read_from(piece, serial))
+}
+
+/// Lines with `;` between them.
+fn joined(lines: &str) -> String {
     lines.trim_end().replace('\n', " ; ")
 }
 

@@ -56,7 +56,7 @@ fn a_whole_round_meets_everything() {
         }
         assert_eq!(met.missed(), Vec::<String>::new());
     }
-    let outcomes = 2 + 3 + 15 + 17 + 4 + 6 + 5 + 4 + 3 + 6 + 2 + 7 + 2 + 3;
+    let outcomes = 2 + 3 + 15 + 17 + 4 + 6 + 5 + 4 + 3 + 6 + 2 + 7 + 2 + 10 + 3;
     let edges = 5 + 5 + 6 + 5 + 5 + 5 + 8 + 3 + 3 + 3 + 8 + 12;
     let taken_over = 2 + 3 + 6;
     let numbers = 9 + 7 + 4 + 7 + 2 + 6 + 13 + 3 + 4;
@@ -65,6 +65,7 @@ fn a_whole_round_meets_everything() {
     // And a book of version 1.
     let all = all + 1;
     let all = all + Case::all().len() + figures::Case::all().len();
+    let all = all + crate::statement::Met::default().missed().len();
     assert_eq!(Met::default().missed().len(), all);
 }
 

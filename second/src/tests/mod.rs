@@ -24,6 +24,7 @@ mod orders;
 mod refusals;
 mod shorts;
 mod soundness;
+mod statements;
 mod stories;
 
 use crate::book::Book;

@@ -57,6 +57,8 @@ set 0 number 4
 take_over
 fresh
 archive room 4096
+statement 65535
+statement 1 2 5 3 2 2 0 ; 3 0 0 0 0 0 ; raw 010100
 bytes 00FF
 ";
     let bytes = story::write(said.as_bytes()).unwrap();

@@ -4,7 +4,7 @@ use lib.ListN.{length}
 use lib.Seq.{length-take-le}
 use Rattle.margins.specs.Printed.{printedFor}
 use Rattle.streams.proofs.Taken.{all-taken}
-use Rattle.margins.proofs.Showing.{handed}
+use Rattle.text.proofs.Puts.{handed}
 use borrow.Author.Needs.{needs}
 use Rattle.margins.proofs.hand_over.Statement.{statement}
 use Rattle.margins.proofs.hand_over.Tie as tie

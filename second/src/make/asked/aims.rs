@@ -2,7 +2,7 @@
 
 mod numbers;
 
-use super::{books, breaches, desk, figures, lists, overs, pieces, records};
+use super::{books, breaches, desk, figures, lists, overs, pieces, records, statements};
 use crate::calls::Call;
 use crate::dayfile::*;
 use crate::rng::Rng;
@@ -60,6 +60,8 @@ pub enum Aim {
     Figures(figures::Case),
     /// K11.
     Numbers(numbers::Aim),
+    /// K13.
+    Statement(statements::Case),
 }
 
 /// The refusals of a record that is handed over as values, and 0.
@@ -91,6 +93,7 @@ impl Aim {
         aims.extend(numbers::Aim::round().into_iter().map(Aim::Numbers));
         aims.extend(desk::Case::all().into_iter().map(Aim::Desk));
         aims.extend(figures::Case::all().into_iter().map(Aim::Figures));
+        aims.extend(statements::Case::all().into_iter().map(Aim::Statement));
         aims
     }
 
@@ -177,6 +180,7 @@ impl Aim {
             Aim::Figures(case) => case.call(rng),
             Aim::FaultOver(fault) => Call::TakeOver(breaches::with(fault, Rule::Old, rng)),
             Aim::Numbers(aim) => aim.call(rng),
+            Aim::Statement(case) => case.call(rng),
         }
     }
 }
@@ -201,7 +205,8 @@ fn any_record(book: Table, rng: &mut Rng) -> Call {
 /// By one of the other calls that take a book, with arguments that would do
 /// for a sound one, or wouldn't.
 fn asked_elsewhere(book: Table, rng: &mut Rng) -> Call {
-    match rng.below(7) {
+    match rng.below(8) {
+        7 => Call::Statement(book, rng.below(9) as u16, pieces::some_piece(rng)),
         0 => {
             let account = rng.near(u64::from(book.count)) as u16;
             Call::Standing(book, account)

@@ -136,7 +136,7 @@ fn amount(scale: u64, rng: &mut Rng) -> u64 {
     }
 }
 
-fn fill(place: &mut Place, scale: u64, rng: &mut Rng) {
+pub fn fill(place: &mut Place, scale: u64, rng: &mut Rng) {
     for kind in 0..KINDS {
         let received = amount(scale, rng);
         place[RECEIVED + kind] = received;

@@ -13,7 +13,7 @@ type Ending = (&'static str, fn(&mut Vec<u8>, &mut Rng));
 
 /// An odd number, so that inputs fed in small pieces (one in four) have every
 /// ending.
-pub const ENDINGS: [Ending; 31] = [
+pub const ENDINGS: [Ending; 33] = [
     ("the end", |_, _| {}),
     ("an unknown call", unknown),
     ("call 1 cut", |out, rng| cut(1, out, rng)),
@@ -31,6 +31,7 @@ pub const ENDINGS: [Ending; 31] = [
     ("call 12 cut", |out, rng| cut(12, out, rng)),
     ("call 13 cut", |out, rng| cut(13, out, rng)),
     ("call 14 cut", |out, rng| cut(14, out, rng)),
+    ("call 15 cut", |out, rng| cut(15, out, rng)),
     ("call 16 cut", |out, rng| cut(16, out, rng)),
     ("a book of version 1 cut", first_version_cut),
     ("a side above 3", no_side),
@@ -38,6 +39,7 @@ pub const ENDINGS: [Ending; 31] = [
     ("neither two nor four a client", no_each),
     ("too many figures", long_figures),
     ("a piece too long", long_piece),
+    ("a statement too long", long_statement),
     ("a room too long", long_room),
     ("a list too long", long_list),
     ("a wrong mark", |out, rng| {
@@ -122,6 +124,12 @@ fn long_piece(out: &mut Vec<u8>, rng: &mut Rng) {
         _ => Call::CarryOutNext(books::sound(rng), piece, 0),
     };
     call.lay(out);
+    good_calls(out, rng);
+}
+
+fn long_statement(out: &mut Vec<u8>, rng: &mut Rng) {
+    let statement = vec![0; PIECE_MOST + 1];
+    Call::Statement(books::sound(rng), 1, statement).lay(out);
     good_calls(out, rng);
 }
 

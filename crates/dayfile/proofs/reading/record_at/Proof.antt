@@ -1,9 +1,10 @@
 -- `dayfile::reading::record_at` meets its contract.
-use mathlib.Core.Path.{ap}
+use mathlib.Core.Path.{ap, _∙_}
 use native.Mathlib.Omega.{arith}
 use denote.Ref.{now}
 use borrow.Author.Needs.{needs}
-use Rattle.dayfile.proofs.Marks.{ones-bits}
+use Rattle.dayfile.proofs.Marks.{bit-lt, ones-bits}
+use Rattle.dayfile.proofs.Amounts.{number-bit}
 use Rattle.dayfile.specs.declared.reading.Places.{Places}
 use Rattle.dayfile.proofs.Looking.{record-at}
 use Rattle.dayfile.proofs.reading.record_at.Statement.{statement}
@@ -21,23 +22,41 @@ add-number2 c = search needs
 number2-requires-2 : tie.Need-number2-requires-2
 number2-requires-2 c κs = search needs
 
-amount-at-requires : tie.Need-amount-at-requires
-amount-at-requires c κs = omega (arith, ap (λ (p : Places). p .p0) (c .before .before .places-of .ensures), ones-bits (c .before .before .before .before .args .named), c .before .before .before .before .pre)
+number8-if-requires : tie.Need-number8-if-requires
+number8-if-requires c κs =
+    let p = c .before .before in
+    let s = p .before .before in
+    (omega (arith, ap (λ (q : Places). q .p0) (p .places-of .ensures), ones-bits (s .args .named), s .pre), bit-lt 0 (s .args .named))
 
-amount-at-requires-2 : tie.Need-amount-at-requires-2
-amount-at-requires-2 c κs = omega (arith, ap (λ (p : Places). p .p1) (c .before .before .before .places-of .ensures), ones-bits (c .before .before .before .before .before .args .named), c .before .before .before .before .before .pre)
+number8-if-requires-2 : tie.Need-number8-if-requires-2
+number8-if-requires-2 c κs =
+    let p = c .before .before .before in
+    let s = p .before .before in
+    (omega (arith, ap (λ (q : Places). q .p1) (p .places-of .ensures), ones-bits (s .args .named), s .pre), bit-lt 1 (s .args .named))
 
-amount-at-requires-3 : tie.Need-amount-at-requires-3
-amount-at-requires-3 c κs = omega (arith, ap (λ (p : Places). p .p2) (c .before .before .before .before .places-of .ensures), ones-bits (c .before .before .before .before .before .before .args .named), c .before .before .before .before .before .before .pre)
+number8-if-requires-3 : tie.Need-number8-if-requires-3
+number8-if-requires-3 c κs =
+    let p = c .before .before .before .before in
+    let s = p .before .before in
+    (omega (arith, ap (λ (q : Places). q .p2) (p .places-of .ensures), ones-bits (s .args .named), s .pre), bit-lt 2 (s .args .named))
 
-amount-at-requires-4 : tie.Need-amount-at-requires-4
-amount-at-requires-4 c κs = omega (arith, ap (λ (p : Places). p .p3) (c .before .before .before .before .before .places-of .ensures), ones-bits (c .before .before .before .before .before .before .before .args .named), c .before .before .before .before .before .before .before .pre)
+number8-if-requires-4 : tie.Need-number8-if-requires-4
+number8-if-requires-4 c κs =
+    let p = c .before .before .before .before .before in
+    let s = p .before .before in
+    (omega (arith, ap (λ (q : Places). q .p3) (p .places-of .ensures), ones-bits (s .args .named), s .pre), bit-lt 3 (s .args .named))
 
-amount-at-requires-5 : tie.Need-amount-at-requires-5
-amount-at-requires-5 c κs = omega (arith, ap (λ (p : Places). p .p4) (c .before .before .before .before .before .before .places-of .ensures), ones-bits (c .before .before .before .before .before .before .before .before .args .named), c .before .before .before .before .before .before .before .before .pre)
+number8-if-requires-5 : tie.Need-number8-if-requires-5
+number8-if-requires-5 c κs =
+    let p = c .before .before .before .before .before .before in
+    let s = p .before .before in
+    (omega (arith, ap (λ (q : Places). q .p4) (p .places-of .ensures), ones-bits (s .args .named), s .pre), bit-lt 4 (s .args .named))
 
-amount-at-requires-6 : tie.Need-amount-at-requires-6
-amount-at-requires-6 c κs = omega (arith, ap (λ (p : Places). p .p5) (c .before .before .before .before .before .before .before .places-of .ensures), ones-bits (c .before .before .before .before .before .before .before .before .before .args .named), c .before .before .before .before .before .before .before .before .before .pre)
+number8-if-requires-6 : tie.Need-number8-if-requires-6
+number8-if-requires-6 c κs =
+    let p = c .before .before .before .before .before .before .before in
+    let s = p .before .before in
+    (omega (arith, ap (λ (q : Places). q .p5) (p .places-of .ensures), ones-bits (s .args .named), s .pre), bit-lt 5 (s .args .named))
 
 returns : tie.Need-returns
 returns c =
@@ -46,12 +65,12 @@ returns c =
     rw (
       c .before .before .before .before .before .before .before .number2 .ensures,
       c .before .before .before .before .before .before .number22 .ensures,
-      c .before .before .before .before .before .amount-at .ensures,
-      c .before .before .before .before .amount-at2 .ensures,
-      c .before .before .before .amount-at3 .ensures,
-      c .before .before .amount-at4 .ensures,
-      c .before .amount-at5 .ensures,
-      c .amount-at6 .ensures,
+      c .before .before .before .before .before .number8-if .ensures ∙ number-bit 0 (a .named) _,
+      c .before .before .before .before .number8-if2 .ensures ∙ number-bit 1 (a .named) _,
+      c .before .before .before .number8-if3 .ensures ∙ number-bit 2 (a .named) _,
+      c .before .before .number8-if4 .ensures ∙ number-bit 3 (a .named) _,
+      c .before .number8-if5 .ensures ∙ number-bit 4 (a .named) _,
+      c .number8-if6 .ensures ∙ number-bit 5 (a .named) _,
       p .places-of .ensures,
     )
     (record-at (a .code) (a .named) (now (a .piece)) (a .place))
@@ -64,10 +83,10 @@ record-at-spec =
     number2-requires
     add-number2
     number2-requires-2
-    amount-at-requires
-    amount-at-requires-2
-    amount-at-requires-3
-    amount-at-requires-4
-    amount-at-requires-5
-    amount-at-requires-6
+    number8-if-requires
+    number8-if-requires-2
+    number8-if-requires-3
+    number8-if-requires-4
+    number8-if-requires-5
+    number8-if-requires-6
     returns)

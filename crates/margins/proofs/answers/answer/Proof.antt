@@ -1,8 +1,8 @@
 -- `margins::answers::answer` meets its contract.
 use mathlib.Core.Path.{refl}
 use native.Mathlib.Omega.{arith}
-use Rattle.text.proofs.Puts.{puts-none}
-use Rattle.margins.proofs.Showing.{puts-same, none-printed, bad-told, made-printed, made-told}
+use Rattle.text.proofs.Puts.{puts-none, puts-as}
+use Rattle.margins.proofs.Showing.{none-printed, bad-told, made-printed, made-told}
 use borrow.Author.Needs.{needs}
 use Rattle.margins.proofs.answers.answer.Statement.{statement}
 use Rattle.margins.proofs.answers.answer.Tie as tie
@@ -14,7 +14,7 @@ same-length : tie.Need-same-length
 same-length c = search needs
 
 returns : tie.Need-returns
-returns c = (puts-same (none-printed _ _ (c .before .before .before .before .if1 .taken)) (puts-none _ 0 refl (omega arith)), puts-same (bad-told _ _ (c .before .before .before .before .if1 .taken)) (c .before .before .put-bad .ensures))
+returns c = (puts-as (none-printed _ _ (c .before .before .before .before .if1 .taken)) (puts-none _ 0 refl (omega arith)), puts-as (bad-told _ _ (c .before .before .before .before .if1 .taken)) (c .before .before .put-bad .ensures))
 
 made-for-requires : tie.Need-made-for-requires
 made-for-requires c κs = search needs
@@ -35,7 +35,7 @@ returns-2 : tie.Need-returns-2
 returns-2 c =
     let good = c .before .before .before .before .before .before .before .before .before .if1 .left in
     let call = c .before .before .before .before .before .before .before .before .made-for .ensures in
-    (puts-same (made-printed _ _ _ good call) (c .before .before .before .before .before .before .put-made .ensures), puts-same (made-told _ _ _ good call) (c .before .before .put-told .ensures))
+    (puts-as (made-printed _ _ _ good call) (c .before .before .before .before .before .before .put-made .ensures), puts-as (made-told _ _ _ good call) (c .before .before .put-told .ensures))
 
 pub answer-spec : {M : Type 1} → statement M
 answer-spec =

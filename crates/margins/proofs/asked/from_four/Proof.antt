@@ -2,9 +2,8 @@
 use mathlib.Core.Path.{sym, _∙_}
 use borrow.Author.Tests.{eq-eqb, ne-eqb, not-true, not-false}
 use lib.Dec.{eqb}
-use Rattle.sums.proofs.Choices.{pick-first, pick-second, and-join}
+use Rattle.sums.proofs.Choices.{pick-first, pick-second, and-join, and-left-fails, and-right-fails}
 use Rattle.margins.specs.Asked.{askedByWords}
-use Rattle.margins.proofs.Saying.{and-left-fails, and-right-fails}
 use borrow.Author.Needs.{needs}
 use Rattle.margins.proofs.asked.from_four.Statement.{statement}
 use Rattle.margins.proofs.asked.from_four.Tie as tie

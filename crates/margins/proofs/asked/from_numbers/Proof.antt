@@ -5,9 +5,8 @@ use Prim.Native.Nat.{_%_, _≤_}
 use native.Mathlib.Omega.{arith}
 use borrow.Author.Tests.{ltb-true, ltb-false, le-leb, lt-leb}
 use lib.Dec.{leb, ltb}
-use Rattle.sums.proofs.Choices.{or-split, or-fails, and-join, pick-first, pick-second}
+use Rattle.sums.proofs.Choices.{or-split, or-fails, and-join, and-left-fails, and-right-fails, pick-first, pick-second}
 use Rattle.margins.specs.Asked.{askedFor}
-use Rattle.margins.proofs.Saying.{and-left-fails, and-right-fails}
 use borrow.Author.Needs.{needs}
 use Rattle.margins.proofs.asked.from_numbers.Statement.{statement}
 use Rattle.margins.proofs.asked.from_numbers.Tie as tie

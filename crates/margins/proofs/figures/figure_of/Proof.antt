@@ -2,7 +2,7 @@
 use mathlib.Core.Path.{sym, ap, _∙_}
 use denote.Ref.{now}
 use Rattle.margins.specs.declared.figures.Figure.the-variants.{Is}
-use Rattle.margins.specs.Digits.{decimalOf}
+use Rattle.text.specs.Decimals.{decimalOf}
 use Rattle.margins.specs.Figures.{aboveZero, belowZero, onSide}
 use Rattle.margins.proofs.Least.{kept}
 use Rattle.margins.proofs.Parting.{behind}

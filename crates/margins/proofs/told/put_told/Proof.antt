@@ -3,9 +3,9 @@ use mathlib.Core.Path.{refl, sym, _∙_}
 use native.Mathlib.Omega.{arith}
 use borrow.Author.Tests.{not-true, not-false}
 use Rattle.sums.specs.Choice.{pick}
-use Rattle.text.proofs.Puts.{puts-none}
+use Rattle.text.proofs.Puts.{puts-none, puts-as}
 use Rattle.margins.specs.Printed.{toldMade}
-use Rattle.margins.proofs.Showing.{puts-same, told-refused}
+use Rattle.margins.proofs.Showing.{told-refused}
 use borrow.Author.Needs.{needs}
 use Rattle.margins.proofs.told.put_told.Statement.{statement}
 use Rattle.margins.proofs.told.put_told.Tie as tie
@@ -28,7 +28,7 @@ same-length : tie.Need-same-length
 same-length c = search needs
 
 returns-3 : tie.Need-returns-3
-returns-3 c = rw (not-false (c .before .before .before .before .before .before .before .before .args .as-record) (c .before .before .before .before .before .before .if1 .left)) (puts-same (told-refused _ _ (c .before .before .before .before .before .refusal-of .ensures) (c .before .before .before .before .if2 .left)) (c .before .before .put-refused .ensures))
+returns-3 c = rw (not-false (c .before .before .before .before .before .before .before .before .args .as-record) (c .before .before .before .before .before .before .if1 .left)) (puts-as (told-refused _ _ (c .before .before .before .before .before .refusal-of .ensures) (c .before .before .before .before .if2 .left)) (c .before .before .put-refused .ensures))
 
 pub put-told-spec : {M : Type 1} → statement M
 put-told-spec =

@@ -6,9 +6,8 @@ use native.Mathlib.Numerals.{add-one}
 use native.Mathlib.Omega.{arith}
 use lib.ListN.{length, getD}
 use Rattle.text.specs.Inner.{Puts}
-use Rattle.text.proofs.Puts.{puts-none, and-then, puts-length}
+use Rattle.text.proofs.Puts.{puts-none, and-then, puts-length, puts-as}
 use Rattle.report.specs.Reports.{needLine, needLines}
-use Rattle.report.proofs.SameText.{puts-as}
 use Rattle.report.proofs.need.put_list.Statement.{statement}
 use Rattle.report.proofs.need.put_list.Tie as tie
 

@@ -12,9 +12,8 @@ use Rattle.table.specs.declared.Table.{Table}
 use Rattle.table.specs.Words.{marksOf, rowIn, turnedBack}
 use Rattle.table.proofs.Gathered.{row-in}
 use Rattle.text.specs.Inner.{Puts}
-use Rattle.text.proofs.Puts.{puts-none, and-then, puts-length}
+use Rattle.text.proofs.Puts.{puts-none, and-then, puts-length, puts-as}
 use Rattle.report.specs.Reports.{standingLine, lineAt, standingLines}
-use Rattle.report.proofs.SameText.{puts-as}
 use Rattle.report.proofs.standing.put_standings.Statement.{statement}
 use Rattle.report.proofs.standing.put_standings.Tie as tie
 
