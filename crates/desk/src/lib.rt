@@ -12,6 +12,7 @@ pub use dayfile::Record;
 use rows::Book;
 pub use rows::Kinds;
 use steps::At;
+use steps::following::collaterals;
 pub use table::Table;
 use table::modes::look_all;
 use table::needs::deemed_under;
@@ -99,6 +100,7 @@ fn step_at(t: Table, r: Record) -> Carried
     let mut excess = [0u64; 256];
     deemed_under(&sort, &tm, &amounts, count, true, &mut excess);
     let mut modes = look_all(&sort, &tm, &amounts, count, &excess, &was);
+    let mut kept = collaterals(&amounts);
     let at = At {
         count,
         serial: t.serial,
@@ -110,6 +112,7 @@ fn step_at(t: Table, r: Record) -> Carried
         &mut live,
         &mut tm,
         &mut amounts,
+        &mut kept,
         &mut modes,
         &mut needs,
         &mut numbers,

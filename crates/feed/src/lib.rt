@@ -102,6 +102,7 @@ fn in_turns(program: &[u8], printing: bool, t: Table) -> Day
     let mut excess = [0u64; 256];
     deemed_under(&sort, &tm, &amounts, t.count, true, &mut excess);
     let mut modes = look_all(&sort, &tm, &amounts, t.count, &excess, &was);
+    let mut kept = steps::following::collaterals(&amounts);
     let mut at = starting(t.count, t.serial, t.next);
     let mut rest: usize = 0;
     let mut read: u64 = 0;
@@ -116,6 +117,7 @@ fn in_turns(program: &[u8], printing: bool, t: Table) -> Day
             &mut live,
             &mut tm,
             &mut amounts,
+            &mut kept,
             &mut modes,
             &mut needs,
             &mut accounts,

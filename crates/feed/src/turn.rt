@@ -45,6 +45,7 @@ pub(crate) fn carry_on(
     live: &mut [bool; 256],
     tm: &mut [u16; 256],
     w: &mut [u64; 2560],
+    kept: &mut [u64; 256],
     modes: &mut [bool; 256],
     needs: &mut [u64; 256],
     accounts: &mut [u16; 256],
@@ -56,9 +57,9 @@ pub(crate) fn carry_on(
     printing: bool,
     numbers: &mut [u16; 3200],
 ) -> Went
-    requires { ⌜ Going at (marksFrom (now sort) (now live) (now tm)) (now w) (now was) (now modes) (now needs) (now accounts) (now excess) × (length (now numbers) ≡ 3200) ⌝ }
+    requires { ⌜ Going at (marksFrom (now sort) (now live) (now tm)) (now w) (now kept) (now was) (now modes) (now needs) (now accounts) (now excess) × (length (now numbers) ≡ 3200) ⌝ }
     ensures { λ x. ⌜ ranIn x (marksFrom (now (sort .exit)) (now (live .exit)) (now (tm .exit))) (now (w .exit)) (now (was .entry)) (now (modes .exit)) (now (needs .exit)) (now (accounts .exit)) ≡ runOf (now (held .entry)) (min left 640) (bookAt at (marksFrom (now (sort .entry)) (now (live .entry)) (now (tm .entry))) (now (w .entry)) (now (was .entry)) (now (modes .entry)) (now (needs .entry)) (now (accounts .entry))) 0 0 0 ⌝ }
-    ensures { λ x. ⌜ Going (x .at) (marksFrom (now (sort .exit)) (now (live .exit)) (now (tm .exit))) (now (w .exit)) (now (was .entry)) (now (modes .exit)) (now (needs .exit)) (now (accounts .exit)) (now (excess .exit)) ⌝ }
+    ensures { λ x. ⌜ Going (x .at) (marksFrom (now (sort .exit)) (now (live .exit)) (now (tm .exit))) (now (w .exit)) (now (kept .exit)) (now (was .entry)) (now (modes .exit)) (now (needs .exit)) (now (accounts .exit)) (now (excess .exit)) ⌝ }
     ensures { λ x. ⌜ (x .read ≤ 640) × (length (now (numbers .exit)) ≡ 3200) × (printing ≡ true → linesTo (now (numbers .exit)) (x .read) ≡ linesOf (answersOf (now (held .entry)) (min left 640) (bookAt at (marksFrom (now (sort .entry)) (now (live .entry)) (now (tm .entry))) (now (w .entry)) (now (was .entry)) (now (modes .entry)) (now (needs .entry)) (now (accounts .entry))) 0)) ⌝ }
 {
     go(
@@ -66,6 +67,7 @@ pub(crate) fn carry_on(
         live,
         tm,
         w,
+        kept,
         modes,
         needs,
         accounts,

@@ -22,16 +22,16 @@ pub turn-on : (s : List ℕ) (most : ℕ) (numbered : Bool) (room₀ : List ℕ)
     (room : List ℕ) (at : At) (m : Marks) (w : List ℕ) (was modes : List Bool) (needs numbers : List ℕ) (place read done : ℕ)
     → Loop s most numbered room₀ b₀ place₀ read₀ done₀ room (bookAt at m w was modes needs numbers) place read done
     → (r : Record) (next : ℕ) → read < most → foundAt s place ≡ Whole r next
-    → (x : Gone) (n : Marks) (u : List ℕ) (after : List Bool) (needs′ numbers′ excess : List ℕ) → Stepped at m w was modes needs numbers (placed (bookAt at m w was modes needs numbers) r) x n u after needs′ numbers′ excess
+    → (x : Gone) (n : Marks) (u kept : List ℕ) (after : List Bool) (needs′ numbers′ excess : List ℕ) → Stepped at m w was modes needs numbers (placed (bookAt at m w was modes needs numbers) r) x n u kept after needs′ numbers′ excess
     → (room′ : List ℕ) → room′ ≡ pick numbered (putLineNumbers room read (r .serial ∷ r .code ∷ r .account ∷ x .refusal ∷ x .given ∷ [])) room
     → Loop s most numbered room₀ b₀ place₀ read₀ done₀ room′ (bookAt (atAfter at x) n u was after needs′ numbers′) next (read + 1) (done + x .carried)
-turn-on s most numbered room₀ b₀ place₀ read₀ done₀ room at m w was modes needs numbers place read done g r next l f x n u after needs′ numbers′ excess h room′ e =
+turn-on s most numbered room₀ b₀ place₀ read₀ done₀ room at m w was modes needs numbers place read done g r next l f x n u kept after needs′ numbers′ excess h room′ e =
     let b = bookAt at m w was modes needs numbers in
     subst (λ k. Loop s most numbered room₀ b₀ place₀ read₀ done₀ room′ (bookAt (atAfter at x) n u was after needs′ numbers′) next (read + 1) (done + k)) (sym (h .carried))
     (turn-one-more s most numbered room₀ b₀ place₀ read₀ done₀ room b place read done g r next (actOf b r) room′ _ l f refl
     (e ∙ ap (λ q. pick numbered (putLineNumbers room read (r .serial ∷ r .code ∷ r .account ∷ q ∷ x .given ∷ [])) room) (h .refusal)
     ∙ ap (λ q. pick numbered (putLineNumbers room read (r .serial ∷ r .code ∷ r .account ∷ refusalShown (actOf b r) ∷ q ∷ [])) room) (h .given)) (h .book))
 
-pub step-given-few : {at : At} {m : Marks} {w : List ℕ} {was modes : List Bool} {needs numbers : List ℕ} {r : Record} {x : Gone} {n : Marks} {u : List ℕ} {after : List Bool} {needs′ numbers′ excess : List ℕ}
-    → Stepped at m w was modes needs numbers r x n u after needs′ numbers′ excess → x .carried ≤ 1
+pub step-given-few : {at : At} {m : Marks} {w : List ℕ} {was modes : List Bool} {needs numbers : List ℕ} {r : Record} {x : Gone} {n : Marks} {u kept : List ℕ} {after : List Bool} {needs′ numbers′ excess : List ℕ}
+    → Stepped at m w was modes needs numbers r x n u kept after needs′ numbers′ excess → x .carried ≤ 1
 step-given-few {at} {m} {w} {was} {modes} {needs} {numbers} {r} h = omega (arith, h .carried, carried-most (changeOf (bookAt at m w was modes needs numbers) r))

@@ -62,6 +62,7 @@ pub fn go(
     live: &mut [bool; 256],
     tm: &mut [u16; 256],
     w: &mut [u64; 2560],
+    kept: &mut [u64; 256],
     modes: &mut [bool; 256],
     needs: &mut [u64; 256],
     numbers: &mut [u16; 256],
@@ -73,9 +74,9 @@ pub fn go(
     room: &mut [u16],
     numbered: bool,
 ) -> Went
-    requires { ⌜ Going first (marksFrom (now sort) (now live) (now tm)) (now w) (now was) (now modes) (now needs) (now numbers) (now excess) × (numbered ≡ true → 5 * most ≤ length (now room)) ⌝ }
+    requires { ⌜ Going first (marksFrom (now sort) (now live) (now tm)) (now w) (now kept) (now was) (now modes) (now needs) (now numbers) (now excess) × (numbered ≡ true → 5 * most ≤ length (now room)) ⌝ }
     ensures { λ x. ⌜ ranIn x (marksFrom (now (sort .exit)) (now (live .exit)) (now (tm .exit))) (now (w .exit)) (now (was .entry)) (now (modes .exit)) (now (needs .exit)) (now (numbers .exit)) ≡ runOf (now (piece .entry)) most (bookAt first (marksFrom (now (sort .entry)) (now (live .entry)) (now (tm .entry))) (now (w .entry)) (now (was .entry)) (now (modes .entry)) (now (needs .entry)) (now (numbers .entry))) 0 0 0 ⌝ }
-    ensures { λ x. ⌜ Going (x .at) (marksFrom (now (sort .exit)) (now (live .exit)) (now (tm .exit))) (now (w .exit)) (now (was .entry)) (now (modes .exit)) (now (needs .exit)) (now (numbers .exit)) (now (excess .exit)) × (now (room .exit) ≡ pick numbered (putNumbersFrom (now (piece .entry)) most (bookAt first (marksFrom (now (sort .entry)) (now (live .entry)) (now (tm .entry))) (now (w .entry)) (now (was .entry)) (now (modes .entry)) (now (needs .entry)) (now (numbers .entry))) 0 0 (now (room .entry))) (now (room .entry))) ⌝ }
+    ensures { λ x. ⌜ Going (x .at) (marksFrom (now (sort .exit)) (now (live .exit)) (now (tm .exit))) (now (w .exit)) (now (kept .exit)) (now (was .entry)) (now (modes .exit)) (now (needs .exit)) (now (numbers .exit)) (now (excess .exit)) × (now (room .exit) ≡ pick numbered (putNumbersFrom (now (piece .entry)) most (bookAt first (marksFrom (now (sort .entry)) (now (live .entry)) (now (tm .entry))) (now (w .entry)) (now (was .entry)) (now (modes .entry)) (now (needs .entry)) (now (numbers .entry))) 0 0 (now (room .entry))) (now (room .entry))) ⌝ }
 {
     let mut at = first;
     let mut place: usize = 0;
@@ -97,7 +98,20 @@ pub fn go(
                 if most <= read {
                     break Closing::Long;
                 }
-                let gone = step(sort, live, tm, w, modes, needs, numbers, excess, was, at, r);
+                let gone = step(
+                    sort,
+                    live,
+                    tm,
+                    w,
+                    kept,
+                    modes,
+                    needs,
+                    numbers,
+                    excess,
+                    was,
+                    at,
+                    r,
+                );
                 if numbered {
                     put_line_numbers(room, read, r, gone);
                 }

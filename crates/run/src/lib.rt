@@ -46,6 +46,7 @@ fn run(t: Table, piece: &[u8], most: u64, room: &mut [u16], numbered: bool) -> E
     let mut excess = [0u64; 256];
     deemed_under(&sort, &tm, &amounts, count, true, &mut excess);
     let mut modes = look_all(&sort, &tm, &amounts, count, &excess, &was);
+    let mut kept = steps::following::collaterals(&amounts);
     let first = At {
         count,
         serial: t.serial,
@@ -57,6 +58,7 @@ fn run(t: Table, piece: &[u8], most: u64, room: &mut [u16], numbered: bool) -> E
         &mut live,
         &mut tm,
         &mut amounts,
+        &mut kept,
         &mut modes,
         &mut needs,
         &mut numbers,

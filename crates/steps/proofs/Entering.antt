@@ -19,6 +19,9 @@ use Rattle.book.proofs.RowTests.{sound-ranged}
 use Rattle.book.proofs.Settled.{sound-rows, none-beyond}
 use Rattle.steps.specs.declared.At.{At}
 use Rattle.steps.specs.Steps.{Going}
+use Rattle.steps.specs.Looks.{Keeps, AllRanging}
+use Rattle.steps.proofs.Placing.{sound-placed}
+use native.Mathlib.Omega.{arith}
 
 module _ (count serial : ℕ) (m : Marks) (w : List ℕ) (modes : List Bool) (needs : List ℕ) (next : ℕ) (numbers : List ℕ) (h : Sound (bookFrom count serial m w modes needs next numbers)) where
   abbrev seen : View
@@ -33,13 +36,26 @@ module _ (count serial : ℕ) (m : Marks) (w : List ℕ) (modes : List Bool) (ne
   pub looks-up : (excess : List ℕ) → DeemedUnder (inTenths seen) excess → NoneBeyond seen × DeemedUnder (inTenths seen) excess
   looks-up excess u = (subst NoneBeyond (sym is-seen) (none-beyond (bookFrom count serial m w modes needs next numbers) (sound-rows _ h)), u)
 
-  pub sound-enters : Sized m w → length modes ≡ 256 → length needs ≡ 256 → (excess : List ℕ) (after : List Bool) → DeemedUnder (inTenths seen) excess → after ≡ looked seen modes
-      → Going (record { count = count; serial = serial; next = next; waiting = true }) m w modes after needs numbers excess
+  pub all-ranging : Sized m w → AllRanging w
+  all-ranging z i l =
+      let k = sound-placed count serial m w modes needs next numbers z (sound-rows _ h) .ranges i l in
+      record {
+        inside = l;
+        cash = omega (arith, k .received, k .allocated);
+        deposits = omega (arith, k .received, k .allocated);
+        guarantees = omega (arith, k .received, k .allocated);
+        securities = omega (arith, k .received, k .allocated);
+        pledged = k .pledged;
+      }
+
+  pub sound-enters : Sized m w → length modes ≡ 256 → length needs ≡ 256 → (kept : List ℕ) → Keeps w kept → (excess : List ℕ) (after : List Bool) → DeemedUnder (inTenths seen) excess → after ≡ looked seen modes
+      → Going (record { count = count; serial = serial; next = next; waiting = true }) m w kept modes after needs numbers excess
   unfolding pick
-  sound-enters s l n excess after e k = record {
+  sound-enters s l n kept keeps excess after e k = record {
     size = s;
     many = l;
     wide = n;
+    keeps = keeps;
     sound = h;
     in-excess = subst (λ v. DeemedUnder (inTenths v) excess) is-seen e;
     looks = k ∙ ap (λ v. looked v modes) is-seen;

@@ -20,6 +20,7 @@ use Rattle.table.specs.Words.{Marks, bookFrom}
 use Rattle.table.specs.Facts.{Sized}
 use Rattle.steps.specs.declared.At.{At}
 use Rattle.steps.specs.declared.Gone.{Gone}
+use Rattle.steps.specs.Looks.{Keeps}
 
 -- the words, the modes, the kept needs and the numbers are a sound book's
 pub record Ready (count serial : ℕ) (m : Marks) (w : List ℕ) (modes : List Bool) (needs : List ℕ) (next : ℕ) (numbers : List ℕ) : Type 0 where
@@ -83,19 +84,20 @@ bookAt at m w was modes needs numbers = bookFrom (at .count) (at .serial) m w (m
 abbrev pub atAfter : At → Gone → At
 atAfter at x = record { count = x .count; serial = x .serial; next = x .next; waiting = at .waiting && eqb (x .carried) 0 }
 
--- the arrays are a sound book's. Beside it stand what is in excess under each account, in tenths, and the modes that a look leaves
-pub record Going (at : At) (m : Marks) (w : List ℕ) (was modes : List Bool) (needs numbers excess : List ℕ) : Type 0 where
+-- the arrays are a sound book's. Beside it stand each account's collateral, what is in excess under each account, in tenths, and the modes that a look leaves
+pub record Going (at : At) (m : Marks) (w kept : List ℕ) (was modes : List Bool) (needs numbers excess : List ℕ) : Type 0 where
   pub size : Sized m w
   pub many : length was ≡ 256
   pub wide : length needs ≡ 256
+  pub keeps : Keeps w kept
   pub sound : Sound (bookAt at m w was modes needs numbers)
   pub in-excess : DeemedUnder (inTenths (view (bookAt at m w was modes needs numbers))) excess
   pub looks : modes ≡ looked (view (bookAt at m w was modes needs numbers)) (modesIn (at .waiting) was modes)
 
 -- a record at such arrays, its account told by the place of its row, came to x, and left the arrays after it
-pub record Stepped (at : At) (m : Marks) (w : List ℕ) (was modes : List Bool) (needs numbers : List ℕ) (r : Record) (x : Gone) (n : Marks) (u : List ℕ) (after : List Bool) (needs′ numbers′ excess : List ℕ) : Type 0 where
+pub record Stepped (at : At) (m : Marks) (w : List ℕ) (was modes : List Bool) (needs numbers : List ℕ) (r : Record) (x : Gone) (n : Marks) (u kept : List ℕ) (after : List Bool) (needs′ numbers′ excess : List ℕ) : Type 0 where
   pub refusal : x .refusal ≡ refusalShown (changeOf (bookAt at m w was modes needs numbers) r)
   pub given : x .given ≡ givenShown (at .next) (changeOf (bookAt at m w was modes needs numbers) r)
   pub carried : x .carried ≡ carriedShown (changeOf (bookAt at m w was modes needs numbers) r)
   pub book : bookAt (atAfter at x) n u was after needs′ numbers′ ≡ bookAfter (bookAt at m w was modes needs numbers) (r .account) (changeOf (bookAt at m w was modes needs numbers) r)
-  pub ready : Going (atAfter at x) n u was after needs′ numbers′ excess
+  pub ready : Going (atAfter at x) n u kept was after needs′ numbers′ excess

@@ -11,14 +11,14 @@ use codes::amend;
 use codes::early;
 use codes::own::open;
 use dayfile::Record;
-use looking::look_after;
-use looking::mode_of;
-use looking::past_if;
-use looking::settle_needs;
+use following::follow;
+use following::mode_of;
 use lookup::place_among;
+use rows::needs::slot;
 use rules::naming;
+use table::places::word_at;
 
-mod looking;
+pub mod following;
 
 // Where a book stands: how many rows it has, the next serial, the next number, and whether no record was carried out since it was handed over.
 pub struct At {
@@ -143,6 +143,7 @@ fn step_placed(
     live: &mut [bool; 256],
     tm: &mut [u16; 256],
     w: &mut [u64; 2560],
+    kept: &mut [u64; 256],
     modes: &mut [bool; 256],
     needs: &mut [u64; 256],
     numbers: &mut [u16; 256],
@@ -151,15 +152,28 @@ fn step_placed(
     at: At,
     r: Record,
 ) -> Gone
-    requires { ⌜ Going at (marksFrom (now sort) (now live) (now tm)) (now w) (now was) (now modes) (now needs) (now numbers) (now excess) ⌝ }
-    ensures { λ x. ⌜ Stepped at (marksFrom (now (sort .entry)) (now (live .entry)) (now (tm .entry))) (now (w .entry)) (now (was .entry)) (now (modes .entry)) (now (needs .entry)) (now (numbers .entry)) r x (marksFrom (now (sort .exit)) (now (live .exit)) (now (tm .exit))) (now (w .exit)) (now (modes .exit)) (now (needs .exit)) (now (numbers .exit)) (now (excess .exit)) ⌝ }
+    requires { ⌜ Going at (marksFrom (now sort) (now live) (now tm)) (now w) (now kept) (now was) (now modes) (now needs) (now numbers) (now excess) ⌝ }
+    ensures { λ x. ⌜ Stepped at (marksFrom (now (sort .entry)) (now (live .entry)) (now (tm .entry))) (now (w .entry)) (now (was .entry)) (now (modes .entry)) (now (needs .entry)) (now (numbers .entry)) r x (marksFrom (now (sort .exit)) (now (live .exit)) (now (tm .exit))) (now (w .exit)) (now (kept .exit)) (now (modes .exit)) (now (needs .exit)) (now (numbers .exit)) (now (excess .exit)) ⌝ }
 {
     let still = (r.code <= 5) | (r.code == 11);
-    let past = past_if(still, sort, live, tm, w, needs, r.account);
+    let i = slot(r.account);
+    let m0 = word_at(w, 9, i);
     let gone = carry(sort, live, tm, w, modes, needs, numbers, was, at, r);
     if !still & (gone.refusal == 0) {
-        settle_needs(sort, live, tm, w, needs, past);
-        look_after(sort, live, tm, w, modes, excess, was, at.waiting, past);
+        follow(
+            sort,
+            live,
+            tm,
+            w,
+            kept,
+            modes,
+            needs,
+            excess,
+            was,
+            at.waiting,
+            i,
+            m0,
+        );
     }
     gone
 }
@@ -170,6 +184,7 @@ pub fn step(
     live: &mut [bool; 256],
     tm: &mut [u16; 256],
     w: &mut [u64; 2560],
+    kept: &mut [u64; 256],
     modes: &mut [bool; 256],
     needs: &mut [u64; 256],
     numbers: &mut [u16; 256],
@@ -178,8 +193,8 @@ pub fn step(
     at: At,
     r: Record,
 ) -> Gone
-    requires { ⌜ Going at (marksFrom (now sort) (now live) (now tm)) (now w) (now was) (now modes) (now needs) (now numbers) (now excess) ⌝ }
-    ensures { λ x. ⌜ Stepped at (marksFrom (now (sort .entry)) (now (live .entry)) (now (tm .entry))) (now (w .entry)) (now (was .entry)) (now (modes .entry)) (now (needs .entry)) (now (numbers .entry)) (placed (bookAt at (marksFrom (now (sort .entry)) (now (live .entry)) (now (tm .entry))) (now (w .entry)) (now (was .entry)) (now (modes .entry)) (now (needs .entry)) (now (numbers .entry))) r) x (marksFrom (now (sort .exit)) (now (live .exit)) (now (tm .exit))) (now (w .exit)) (now (modes .exit)) (now (needs .exit)) (now (numbers .exit)) (now (excess .exit)) ⌝ }
+    requires { ⌜ Going at (marksFrom (now sort) (now live) (now tm)) (now w) (now kept) (now was) (now modes) (now needs) (now numbers) (now excess) ⌝ }
+    ensures { λ x. ⌜ Stepped at (marksFrom (now (sort .entry)) (now (live .entry)) (now (tm .entry))) (now (w .entry)) (now (was .entry)) (now (modes .entry)) (now (needs .entry)) (now (numbers .entry)) (placed (bookAt at (marksFrom (now (sort .entry)) (now (live .entry)) (now (tm .entry))) (now (w .entry)) (now (was .entry)) (now (modes .entry)) (now (needs .entry)) (now (numbers .entry))) r) x (marksFrom (now (sort .exit)) (now (live .exit)) (now (tm .exit))) (now (w .exit)) (now (kept .exit)) (now (modes .exit)) (now (needs .exit)) (now (numbers .exit)) (now (excess .exit)) ⌝ }
 {
     let place = place_among(numbers, at.count, r.account);
     step_placed(
@@ -187,6 +202,7 @@ pub fn step(
         live,
         tm,
         w,
+        kept,
         modes,
         needs,
         numbers,

@@ -16,7 +16,7 @@ use Rattle.table.proofs.Turning.{back-and-over}
 use Rattle.book.proofs.SoundTest.{sound←}
 use Rattle.steps.specs.declared.At.{At}
 use Rattle.steps.specs.Steps.{bookAt, Going}
-use Rattle.steps.proofs.Entering.{adds-up, looks-up, sound-enters}
+use Rattle.steps.proofs.Entering.{adds-up, looks-up, all-ranging, sound-enters}
 use Rattle.records.specs.declared.Ran.{Ran}
 use Rattle.records.specs.Inner.{ranIn}
 use Rattle.records.proofs.NumbersPut.{ran-sound}
@@ -27,14 +27,14 @@ use Rattle.feed.proofs.in_turns.Statement.{statement}
 use Rattle.feed.proofs.in_turns.Tie as tie
 
 abbrev Inv-loop : tie.InvT-loop
-Inv-loop program printing space₀ numbers₀ text₀ sort₀ live₀ tm₀ amounts₀ needs₀ accounts₀ was excess₀ modes₀ at₀ rest₀ read₀ done₀ printed₀ ended₀ space numbers text sort live tm amounts needs accounts excess modes at rest read done printed ended =
+Inv-loop program printing space₀ numbers₀ text₀ sort₀ live₀ tm₀ amounts₀ needs₀ accounts₀ was excess₀ modes₀ kept₀ at₀ rest₀ read₀ done₀ printed₀ ended₀ space numbers text sort live tm amounts needs accounts excess modes kept at rest read done printed ended =
     Feeding printing (bookFrom (at₀ .count) (at₀ .serial) (marksFrom sort₀ live₀ tm₀) amounts₀ was needs₀ (at₀ .next) accounts₀) space (bookAt at (marksFrom sort live tm) amounts was modes needs accounts) rest read done printed
-    × Going at (marksFrom sort live tm) amounts was modes needs accounts excess
+    × Going at (marksFrom sort live tm) amounts kept was modes needs accounts excess
     × (length numbers ≡ 3200)
     × (length text ≡ 20480)
 
 abbrev μ-loop : tie.MeasureT-loop
-μ-loop program printing space₀ numbers₀ text₀ sort₀ live₀ tm₀ amounts₀ needs₀ accounts₀ was excess₀ modes₀ at₀ rest₀ read₀ done₀ printed₀ ended₀ space numbers text sort live tm amounts needs accounts excess modes at rest read done printed ended =
+μ-loop program printing space₀ numbers₀ text₀ sort₀ live₀ tm₀ amounts₀ needs₀ accounts₀ was excess₀ modes₀ kept₀ at₀ rest₀ read₀ done₀ printed₀ ended₀ space numbers text sort live tm amounts needs accounts excess modes kept at rest read done printed ended =
     1_000_000 - read
 
 -- THE PLACES, each named once.
@@ -50,6 +50,9 @@ sized u = u .before .before .before .before .before
 abbrev summed : tie.After-look-all Inv-loop μ-loop → tie.After-deemed-under Inv-loop μ-loop
 summed l = l .before .before .before .before .before .before
 
+abbrev looked : tie.After-collaterals Inv-loop μ-loop → tie.After-look-all Inv-loop μ-loop
+looked k = k .before .before
+
 abbrev started : tie.At-loop Inv-loop μ-loop → tie.After-starting Inv-loop μ-loop
 started t = t .before
 
@@ -57,7 +60,7 @@ abbrev turn : tie.After-refill Inv-loop μ-loop → tie.At-loop Inv-loop μ-loop
 turn f = f .before .before
 
 abbrev filled : tie.After-carry-on Inv-loop μ-loop → tie.After-refill Inv-loop μ-loop
-filled c = c .before .before .before .before .before .before .before .before .before .before .before .before .before .before
+filled c = c .before .before .before .before .before .before .before .before .before .before .before .before .before .before .before
 
 abbrev carried : tie.After-print-lines Inv-loop μ-loop → tie.After-carry-on Inv-loop μ-loop
 carried w = w .before .before .before .before
@@ -70,7 +73,7 @@ judged k = k .before .before .before
 
 -- the book that was handed over
 abbrev handed : tie.At-loop Inv-loop μ-loop → Table
-handed t = called (sized (summed (started t .before))) .args .t
+handed t = called (sized (summed (looked (started t .before)))) .args .t
 
 -- the same by the words that the loop starts from
 abbrev first : tie.At-loop Inv-loop μ-loop → Book
@@ -83,10 +86,10 @@ is-first t =
 
 -- what the turn came to
 abbrev ran : tie.After-carry-on Inv-loop μ-loop → Ran
-ran c = let x = c .carry-on .last in ranIn (c .carry-on .result) (marksFrom (x .0) (x .1 .0) (x .1 .1 .0)) (x .1 .1 .1 .0) (handed (turn (filled c)) .modes) (x .1 .1 .1 .1 .0) (x .1 .1 .1 .1 .1 .0) (x .1 .1 .1 .1 .1 .1 .0)
+ran c = let x = c .carry-on .last in ranIn (c .carry-on .result) (marksFrom (x .0) (x .1 .0) (x .1 .1 .0)) (x .1 .1 .1 .0) (handed (turn (filled c)) .modes) (x .1 .1 .1 .1 .1 .0) (x .1 .1 .1 .1 .1 .1 .0) (x .1 .1 .1 .1 .1 .1 .1 .0)
 
 piece : (c : tie.After-carry-on Inv-loop μ-loop) → (let f = filled c in let v = turn f .loop in
-    Piece (called (sized (summed (started (turn f) .before))) .args .printing) (first (turn f)) (v .space) (bookAt (v .at) (marksFrom (v .sort) (v .live) (v .tm)) (v .amounts) (handed (turn f) .modes) (v .modes) (v .needs) (v .accounts)) (v .rest) (v .read) (v .done) (v .printed) (f .refill .last .1 .0) (v .rest + f .refill .result .count) (ran c))
+    Piece (called (sized (summed (looked (started (turn f) .before)))) .args .printing) (first (turn f)) (v .space) (bookAt (v .at) (marksFrom (v .sort) (v .live) (v .tm)) (v .amounts) (handed (turn f) .modes) (v .modes) (v .needs) (v .accounts)) (v .rest) (v .read) (v .done) (v .printed) (f .refill .last .1 .0) (v .rest + f .refill .result .count) (ran c))
 piece c =
     let g = turn (filled c) .loop .inv in
     let f = filled c .refill in
@@ -134,20 +137,28 @@ look-all-requires c κs =
     let h = s .pre in
     (adds-up (t .count) (t .serial) (marksOf t) (t .amounts) (t .modes) (t .needs) (t .next) (t .numbers) h, looks-up (t .count) (t .serial) (marksOf t) (t .amounts) (t .modes) (t .needs) (t .next) (t .numbers) h _ (u .deemed-under .ensures))
 
+collaterals-requires : tie.Need-collaterals-requires Inv-loop μ-loop
+collaterals-requires c κs =
+    let z = sized (summed (c .before)) in
+    let s = called z in
+    let t = s .args .t in
+    all-ranging (t .count) (t .serial) (marksOf t) (t .amounts) (t .modes) (t .needs) (t .next) (t .numbers) (s .pre) (z .before .before .sizes .ensures)
+
 starting-requires : tie.Need-starting-requires Inv-loop μ-loop
 starting-requires c κs = search needs
 
 loop-holds : tie.Need-loop-holds Inv-loop μ-loop
 unfolding pick
 loop-holds c =
-    let l = c .before in
+    let k = c .before in
+    let l = looked k in
     let u = summed l in
     let z = sized u in
     let s = called z in
     let t = s .args .t in
     rw (c .starting .ensures) (
       nothing-read (s .args .printing) (turnedBack t) _ (sound← _ (s .pre)) (sym (blanked z .blank .ensures)),
-      sound-enters (t .count) (t .serial) (marksOf t) (t .amounts) (t .modes) (t .needs) (t .next) (t .numbers) (s .pre) (z .before .before .sizes .ensures) (z .before .size .ensures) (z .size2 .ensures) _ _ (u .deemed-under .ensures) (l .look-all .ensures),
+      sound-enters (t .count) (t .serial) (marksOf t) (t .amounts) (t .modes) (t .needs) (t .next) (t .numbers) (s .pre) (z .before .before .sizes .ensures) (z .before .size .ensures) (z .size2 .ensures) _ (k .collaterals .ensures) _ _ (u .deemed-under .ensures) (l .look-all .ensures),
       length-replicate {A = ℕ} 3200 0,
       length-replicate {A = ℕ} 20480 0,
     )
@@ -164,16 +175,16 @@ add-held c =
     omega (arith, f .refill .ensures .0, f .refill .kept .1 .0, turn f .loop .inv .0 .size)
 
 array-share-prefix-space : tie.Need-array-share-prefix-space Inv-loop μ-loop
-array-share-prefix-space c = c .before .before .before .before .before .before .before .before .before .before .before .refill .ensures .0
+array-share-prefix-space c = c .before .before .before .before .before .before .before .before .before .before .before .before .refill .ensures .0
 
 slice-aggregate-carry-on : tie.Need-slice-aggregate-carry-on Inv-loop μ-loop
-slice-aggregate-carry-on c = sym (length-take-le _ _ (c .before .before .before .before .before .before .before .before .before .before .before .before .refill .ensures .0))
+slice-aggregate-carry-on c = sym (length-take-le _ _ (c .before .before .before .before .before .before .before .before .before .before .before .before .before .refill .ensures .0))
 
 sub-carry-on : tie.Need-sub-carry-on Inv-loop μ-loop
-sub-carry-on c = read-upto (turn (c .before .before .before .before .before .before .before .before .before .before .before .before) .loop .inv .0)
+sub-carry-on c = read-upto (turn (c .before .before .before .before .before .before .before .before .before .before .before .before .before) .loop .inv .0)
 
 carry-on-requires : tie.Need-carry-on-requires Inv-loop μ-loop
-carry-on-requires c κs = let i = turn (c .before .before .before .before .before .before .before .before .before .before .before .before .before) .loop .inv in (i .1, i .2)
+carry-on-requires c κs = let i = turn (c .before .before .before .before .before .before .before .before .before .before .before .before .before .before) .loop .inv in (i .1, i .2)
 
 slice-aggregate-print-lines : tie.Need-slice-aggregate-print-lines Inv-loop μ-loop
 slice-aggregate-print-lines c = sym (turn (filled (c .before .before .before)) .loop .inv .3)
@@ -243,7 +254,7 @@ returns-2 c =
     let at = t .carry-on .result .at in
     let n = marksFrom (x .0) (x .1 .0) (x .1 .1 .0) in
     came-over (is-first (turn (filled t))) (last-turn-came (piece t) _ (shown s) _ (s .stops .result) (s .stops .ensures) (c .before .if2 .taken) _
-    (ap (λ (l : List Bool). turned (bookFrom (at .count) (at .serial) n (x .1 .1 .1 .0) l (x .1 .1 .1 .1 .1 .0) (at .next) (x .1 .1 .1 .1 .1 .1 .0))) (sym (c .modes-of .ensures)) ∙ back-and-over _ (t .carry-on .ensures .1 .0 .size)))
+    (ap (λ (l : List Bool). turned (bookFrom (at .count) (at .serial) n (x .1 .1 .1 .0) l (x .1 .1 .1 .1 .1 .1 .0) (at .next) (x .1 .1 .1 .1 .1 .1 .1 .0))) (sym (c .modes-of .ensures)) ∙ back-and-over _ (t .carry-on .ensures .1 .0 .size)))
 
 pub in-turns-spec : {M : Type 1} → statement M
 in-turns-spec =
@@ -257,6 +268,7 @@ in-turns-spec =
     size-requires-2
     deemed-under-requires
     look-all-requires
+    collaterals-requires
     starting-requires
     loop-holds
     slice-aggregate-refill

@@ -19,12 +19,12 @@ use Rattle.records.proofs.go.Statement.{statement}
 use Rattle.records.proofs.go.Tie as tie
 
 abbrev Inv-loop : tie.InvT-loop
-Inv-loop sort₀ live₀ tm₀ w₀ modes₀ needs₀ numbers₀ excess₀ was piece most room₀ numbered at₀ place₀ read₀ done₀ sort live tm w modes needs numbers excess room at place read done =
+Inv-loop sort₀ live₀ tm₀ w₀ kept₀ modes₀ needs₀ numbers₀ excess₀ was piece most room₀ numbered at₀ place₀ read₀ done₀ sort live tm w kept modes needs numbers excess room at place read done =
     Loop piece most numbered room₀ (bookAt at₀ (marksFrom sort₀ live₀ tm₀) w₀ was modes₀ needs₀ numbers₀) place₀ read₀ done₀ room (bookAt at (marksFrom sort live tm) w was modes needs numbers) place read done
-    × Going at (marksFrom sort live tm) w was modes needs numbers excess
+    × Going at (marksFrom sort live tm) w kept was modes needs numbers excess
 
 abbrev μ-loop : tie.MeasureT-loop
-μ-loop sort₀ live₀ tm₀ w₀ modes₀ needs₀ numbers₀ excess₀ was piece most room₀ numbered at₀ place₀ read₀ done₀ sort live tm w modes needs numbers excess room at place read done =
+μ-loop sort₀ live₀ tm₀ w₀ kept₀ modes₀ needs₀ numbers₀ excess₀ was piece most room₀ numbered at₀ place₀ read₀ done₀ sort live tm w kept modes needs numbers excess room at place read done =
     most - read
 
 -- THE PLACES, each named once: seen from where the piece was looked at, and from where a record was carried out.
@@ -35,7 +35,7 @@ abbrev called : tie.At-loop Inv-loop μ-loop → tie.Start Inv-loop μ-loop
 called t = t .before .before .before
 
 abbrev more : tie.After-step Inv-loop μ-loop → tie.Else2 Inv-loop μ-loop
-more s = s .before .before .before .before .before .before .before .before .before
+more s = s .before .before .before .before .before .before .before .before .before .before
 
 abbrev whole : tie.Else2 Inv-loop μ-loop → tie.After-found Inv-loop μ-loop
 whole e = e .before .before
@@ -87,7 +87,7 @@ enum-known-found : tie.Need-enum-known-found Inv-loop μ-loop
 enum-known-found c = search needs
 
 step-requires : tie.Need-step-requires Inv-loop μ-loop
-step-requires c κs = turn (looked (whole (c .before .before .before .before .before .before .before .before))) .loop .inv .1
+step-requires c κs = turn (looked (whole (c .before .before .before .before .before .before .before .before .before))) .loop .inv .1
 
 put-line-numbers-requires : tie.Need-put-line-numbers-requires Inv-loop μ-loop
 put-line-numbers-requires c κs =
@@ -116,7 +116,7 @@ loop-again c =
     let v = its-turn s .loop in
     rw e (
       turn-on _ _ _ _ _ _ _ _ (v .room) (v .at) _ (v .w) _ (v .modes) (v .needs) (v .numbers) (v .place) (v .read) (v .done) (v .inv .0) _ _ (more s .if2 .left)
-          (met (looked (whole (more s))) _ (whole (more s) .found .given .1)) _ _ _ _ _ _ _ (s .step .ensures) _ (numbers-are (c .before .before)),
+          (met (looked (whole (more s))) _ (whole (more s) .found .given .1)) _ _ _ _ _ _ _ _ (s .step .ensures) _ (numbers-are (c .before .before)),
       s .step .ensures .ready,
     )
 

@@ -5,7 +5,7 @@ use mathlib.Core.Path.{_≡_, refl, ap, _∙_}
 use borrow.Author.Needs.{needs}
 use Rattle.sums.specs.Choice.{pick}
 use Rattle.table.specs.Words.{marksFrom, marksOf, bookFrom}
-use Rattle.steps.proofs.Entering.{adds-up, looks-up, sound-enters}
+use Rattle.steps.proofs.Entering.{adds-up, looks-up, all-ranging, sound-enters}
 use Rattle.records.specs.declared.Ran.{Ran}
 use Rattle.run.proofs.Turned.{left-over}
 use Rattle.run.proofs.run.Statement.{statement}
@@ -21,8 +21,8 @@ summed l = l .before .before .before .before .before .before
 abbrev called : tie.After-size2 → tie.Start
 called s = s .before .before .before .before .before .before .before .before .before .before .before .before
 
-abbrev looked : tie.After-go → tie.After-look-all
-looked g = g .before .before .before .before .before .before .before .before .before .before .before
+abbrev looked : tie.After-collaterals → tie.After-look-all
+looked k = k .before .before
 
 sizes-requires : tie.Need-sizes-requires
 sizes-requires c κs = search needs
@@ -47,14 +47,22 @@ look-all-requires c κs =
     let t = s .args .t in
     (adds-up (t .count) (t .serial) (marksOf t) (t .amounts) (t .modes) (t .needs) (t .next) (t .numbers) (s .pre .0), looks-up (t .count) (t .serial) (marksOf t) (t .amounts) (t .modes) (t .needs) (t .next) (t .numbers) (s .pre .0) _ (u .deemed-under .ensures))
 
+collaterals-requires : tie.Need-collaterals-requires
+collaterals-requires c κs =
+    let z = sized (summed (c .before)) in
+    let s = called z in
+    let t = s .args .t in
+    all-ranging (t .count) (t .serial) (marksOf t) (t .amounts) (t .modes) (t .needs) (t .next) (t .numbers) (s .pre .0) (z .before .before .sizes .ensures)
+
 go-requires : tie.Need-go-requires
 go-requires c κs =
-    let l = c .before .before .before .before .before .before .before .before .before .before in
+    let k = c .before .before .before .before .before .before .before .before .before .before .before in
+    let l = looked k in
     let u = summed l in
     let z = sized u in
     let s = called z in
     let t = s .args .t in
-    (sound-enters (t .count) (t .serial) (marksOf t) (t .amounts) (t .modes) (t .needs) (t .next) (t .numbers) (s .pre .0) (z .before .before .sizes .ensures) (z .before .size .ensures) (z .size2 .ensures) _ _ (u .deemed-under .ensures) (l .look-all .ensures), s .pre .1)
+    (sound-enters (t .count) (t .serial) (marksOf t) (t .amounts) (t .modes) (t .needs) (t .next) (t .numbers) (s .pre .0) (z .before .before .sizes .ensures) (z .before .size .ensures) (z .size2 .ensures) _ (k .collaterals .ensures) _ _ (u .deemed-under .ensures) (l .look-all .ensures), s .pre .1)
 
 modes-of-requires : tie.Need-modes-of-requires
 modes-of-requires c κs = search needs
@@ -70,7 +78,7 @@ returns c =
     let w = g .go .result in
     let n = marksFrom (x .0) (x .1 .0) (x .1 .1 .0) in (
       left-over _ _ (g .go .ensures .1 .0 .size)
-          (ap {B = Ran} (λ (l : List Bool). record { book = bookFrom (w .at .count) (w .at .serial) n (x .1 .1 .1 .0) l (x .1 .1 .1 .1 .1 .0) (w .at .next) (x .1 .1 .1 .1 .1 .1 .0); place = w .place; closing = w .closing; read = w .read; done = w .done }) (c .modes-of .ensures) ∙ g .go .ensures .0),
+          (ap {B = Ran} (λ (l : List Bool). record { book = bookFrom (w .at .count) (w .at .serial) n (x .1 .1 .1 .0) l (x .1 .1 .1 .1 .1 .1 .0) (w .at .next) (x .1 .1 .1 .1 .1 .1 .1 .0); place = w .place; closing = w .closing; read = w .read; done = w .done }) (c .modes-of .ensures) ∙ g .go .ensures .0),
       g .go .ensures .1 .1,
     )
 
@@ -83,6 +91,7 @@ run-spec =
     size-requires-2
     deemed-under-requires
     look-all-requires
+    collaterals-requires
     go-requires
     modes-of-requires
     same-length

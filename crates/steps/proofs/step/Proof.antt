@@ -17,7 +17,7 @@ step-placed-requires c κs = search needs
 returns : tie.Need-returns
 returns c =
     let n = c .before in
-    let p = n .before .before .before .before .before .before .before .before .before in
+    let p = n .before .before .before .before .before .before .before .before .before .before in
     rw (n .naming .ensures ∙ ap (λ q. naming q (p .before .before .args .r)) (p .place-among .ensures)) at (c .step-placed .ensures)
 
 pub step-spec : {M : Type 1} → statement M

@@ -9,7 +9,7 @@ use Rattle.feed.proofs.turn.carry_on.Tie as tie
 
 -- THE PLACES, each named once.
 abbrev called : tie.After-at-once → tie.Start
-called o = o .before .before .before .before .before .before .before .before .before .before
+called o = o .before .before .before .before .before .before .before .before .before .before .before
 
 abbrev limited : tie.After-go → tie.After-at-once
 limited g = g .before .before
@@ -31,7 +31,7 @@ returns c =
         c .go .ensures .1 .0,
         (
           few-read _ _ _ _ (omega arith) read,
-          c .go .kept .1 .1 .1 .1 .1 .1 .1 .1 .1 .1 .1 .1 .0 ∙ s .pre .1,
+          c .go .kept .1 .1 .1 .1 .1 .1 .1 .1 .1 .1 .1 .1 .1 .0 ∙ s .pre .1,
           λ t. lines-of-turn _ _ _ _ (omega arith) read (s .args .numbers .now) _ (s .pre .1) _ _ e (c .go .ensures .1 .1) t,
         ),
       ),

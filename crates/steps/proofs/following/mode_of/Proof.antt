@@ -1,11 +1,11 @@
--- `steps::looking::mode_of` meets its contract.
+-- `steps::following::mode_of` meets its contract.
 use borrow.Author.Needs.{needs}
-use mathlib.Core.Path.{sym, ap, _∙_}
+use mathlib.Core.Path.{sym, ap}
 use lib.ListN.{getD}
 use Rattle.sums.proofs.Choices.{pick-yes, pick-no}
 use mathlib.Core.Bool.{false}
-use Rattle.steps.proofs.looking.mode_of.Statement.{statement}
-use Rattle.steps.proofs.looking.mode_of.Tie as tie
+use Rattle.steps.proofs.following.mode_of.Statement.{statement}
+use Rattle.steps.proofs.following.mode_of.Tie as tie
 
 element-copy-out-result : tie.Need-element-copy-out-result
 element-copy-out-result c = search needs
