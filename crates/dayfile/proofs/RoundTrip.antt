@@ -49,7 +49,7 @@ module _ (r : Record) (f : faultOf r ≡ 0) (w : WordsFit r) where
 
 -- ---- a whole day file
 
-end-read : (s : List ℕ) (at : ℕ) → length s ≤ at → readAt s at ≡ End
+pub end-read : (s : List ℕ) (at : ℕ) → length s ≤ at → readAt s at ≡ End
 unfolding readAt readOf
 end-read s at h = rw (at-end s at h)
 

@@ -1,9 +1,9 @@
 -- Two files behind one another read as the records of both.
 use mathlib.Core.List.{List, [], _∷_, _++_, append-assoc}
 use mathlib.Core.Path.{_≡_, refl, sym, ap, _∙_}
-use Prim.Native.Nat.{ℕ, zero, suc, _+_, _≤_, _<_, _^_}
+use Prim.Native.Nat.{ℕ, zero, suc, _+_, _≤_, _<_}
 use native.Mathlib.Omega.{arith}
-use lib.ListN.{length, take, drop}
+use lib.ListN.{length, drop}
 use Rattle.numbers.specs.Bytes.{Bytes}
 use Rattle.numbers.proofs.Numbers.{bytes-drop, number-two}
 use Rattle.dayfile.specs.declared.Record.{Record}
@@ -13,10 +13,10 @@ use Rattle.dayfile.specs.declared.Read.the-variants.{End, Cut, Good, Bad}
 use Rattle.dayfile.specs.Files.{WordsFit, AllGood, none, also, Reads, done, more, fileOf}
 use Rattle.dayfile.specs.Reading.{recordOf, foundAt, readAt}
 use Rattle.dayfile.specs.Written.{writtenOf}
-use Rattle.dayfile.proofs.RoundTrip.{read-found, read-file, file-reads}
+use Rattle.dayfile.proofs.RoundTrip.{end-read, read-found, read-file, file-reads}
 use Rattle.dayfile.proofs.Places.{whole-stands, next-least}
 use Rattle.merging.specs.Merging.{Listed, onward, listedFrom, listedIn}
-use Rattle.merging.proofs.Listing.{end-read, bad-not-0}
+use Rattle.merging.proofs.Listing.{bad-not-0}
 
 -- ---- listed and read
 

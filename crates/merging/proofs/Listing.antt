@@ -13,17 +13,13 @@ use Rattle.dayfile.specs.declared.Read.{Read}
 use Rattle.dayfile.specs.declared.Read.the-variants.{End, Cut, Good, Bad}
 use Rattle.dayfile.specs.Records.{faultOf}
 use Rattle.dayfile.specs.Reading.{sizeOf, foundAt, judged, readOf, readAt, numberOf}
-use Rattle.dayfile.proofs.RoundTrip.{read-found}
-use Rattle.dayfile.proofs.Places.{whole-stands, named-from, next-is, next-least, next-within, end-at, at-end}
+use Rattle.dayfile.proofs.RoundTrip.{end-read, read-found}
+use Rattle.dayfile.proofs.Places.{whole-stands, named-from, next-is, next-least, next-within, end-at}
 use Rattle.merging.specs.declared.Looked.{Looked}
 use Rattle.merging.specs.Merging.{Listed, ended, onward, listedFrom, listedIn}
 use Rattle.merging.specs.Inner.{looked}
 
 -- ---- what is read at a place
-
-pub end-read : (s : List ℕ) (at : ℕ) → length s ≤ at → readAt s at ≡ End
-unfolding readAt readOf
-end-read s at h = rw (at-end s at h)
 
 -- the second mark byte of a record that stands there whole
 named-there : (s : List ℕ) (at : ℕ) {r : Record} {next : ℕ} → foundAt s at ≡ Whole r next → r .named ≡ getD s (at + 1) 0
