@@ -9,10 +9,9 @@ use lib.Dec.{eqb}
 use lib.ListN.{length, set}
 use borrow.Author.Tests.{eqb-true, ne-eqb}
 use Rattle.sums.specs.Sum.{only}
-use Rattle.sums.specs.Choice.{pick}
 use Rattle.sums.proofs.Choices.{pick-no}
 use Rattle.sums.proofs.Lists.{puts-three}
-use Rattle.rows.specs.View.{View, isTM, needTM, needCM}
+use Rattle.rows.specs.View.{View, isTM, needTM}
 use Rattle.rows.specs.Facts.{Shaped, NoneBeyond, NeedsKept}
 use Rattle.rows.specs.Inner.{Slot}
 use Rattle.rows.specs.KeptNeeds.{keptNeed, needsAfresh}

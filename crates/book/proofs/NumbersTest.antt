@@ -5,11 +5,10 @@ use mathlib.Core.List.{List}
 use Prim.Native.Nat.{ℕ, zero, suc, _-_, _≤_, _<_}
 use native.Mathlib.Omega.{arith}
 use native.Mathlib.Decide.{ℕ-discrete, decLt}
-use lib.Dec.{eqb, ltb, leb}
+use lib.Dec.{eqb, ltb}
 use lib.ListN.{length, getD, List·getD-eq-default}
 use borrow.Author.Tests.{eqb-true, eq-eqb, ne-eqb, leb-true, le-leb, ltb-true, lt-ltb, le-ltb}
 use Rattle.sums.specs.Choice.{pick}
-use Rattle.sums.specs.Sum.{all}
 use Rattle.sums.proofs.Sums.{all-at, all-from}
 use Rattle.sums.proofs.Choices.{pick-yes, pick-no, and-left, and-right, and-join}
 use Rattle.book.specs.Sound.{goodNumber, numbersSound}

@@ -1,10 +1,10 @@
 -- One round's bound: what is left uncovered in all is at most the losses beyond the margins, and what the CM lacks.
 use mathlib.Core.Path.{_≡_, refl, _∙_}
 use mathlib.Core.Bool.{Bool, true, false}
-use Prim.Native.Nat.{ℕ, _+_, _-_, _≤_, _<_, min}
+use Prim.Native.Nat.{ℕ, _+_, _-_, _≤_, min}
 use native.Mathlib.Omega.{arith}
 use Rattle.sums.specs.Sum.{sum, only}
-use Rattle.sums.proofs.Sums.{sum-le, sum-eq, sum-zero, sum-add, only-add, waterfall}
+use Rattle.sums.proofs.Sums.{sum-le, sum-eq, sum-add, only-add, waterfall}
 use Rattle.rows.specs.View.{View, isTM, isCP, isClientOf, members, ofClients, ownDeemed, needTM, deemedTM, needCM}
 use Rattle.rows.specs.Facts.{Shaped}
 use Rattle.rows.proofs.BySort.{members-le}

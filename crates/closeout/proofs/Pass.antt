@@ -1,6 +1,6 @@
 -- The pass over the accounts in rising number: where it stands at account i, and its turn.
 use mathlib.Core.Path.{_≡_, refl, sym, _∙_, ap}
-use mathlib.Core.Bool.{Bool, true, false, not}
+use mathlib.Core.Bool.{false, not}
 use mathlib.Core.List.{List, _++_}
 use Prim.Native.Nat.{ℕ, _+_, _-_, _*_, _≤_, _<_, min}
 use native.Mathlib.Omega.{arith}
@@ -18,8 +18,8 @@ use Rattle.book.specs.Facts.{Sound}
 use Rattle.closeout.specs.declared.pays.Paid.{Paid}
 use Rattle.closeout.specs.declared.pays.Both.{Both}
 use Rattle.closeout.specs.declared.pays.Purses.{Purses}
-use Rattle.closeout.specs.Round.{own, leftTM, fromTM, leftCM, fromCM}
-use Rattle.closeout.specs.Columns.{isClientOrCP, ownPayment, withPurses, purses₁, part₁, paid₁, purses₂, part₂, uncovered, four, rowsTo, total}
+use Rattle.closeout.specs.Round.{own, leftTM, leftCM, fromCM}
+use Rattle.closeout.specs.Columns.{isClientOrCP, ownPayment, purses₁, part₁, paid₁, purses₂, part₂, uncovered, four, rowsTo, total}
 use Rattle.closeout.specs.Closing.{lossAt}
 use Rattle.closeout.specs.Inner.{paidOf, shortBy, paidBy, bothOf, roundsBy, afterOwn, fourOf, putAt}
 use Rattle.closeout.proofs.Payments.{fromTM-other}

@@ -1,24 +1,22 @@
 -- K1's round one pays what closeout's columns say of the losses within the margins; so a covered book pays all of it, any other
 -- all but what the CM lacks, and nobody pays more than is blocked.
-use mathlib.Core.Path.{_≡_, refl, sym, _∙_, ap}
-use mathlib.Core.Bool.{Bool, true, false, not, _||_}
-use mathlib.Core.Logic.{⊎-elim}
-use Prim.Native.Nat.{ℕ, zero, suc, _+_, _-_, _≤_, _<_, min}
+use mathlib.Core.Path.{_≡_, refl, _∙_, ap}
+use mathlib.Core.Bool.{Bool, true, false, not}
+use Prim.Native.Nat.{ℕ, _+_, _-_, _≤_, _<_, min}
 use native.Mathlib.Omega.{arith}
-use lib.Dec.{eqb}
 use borrow.Author.Tests.{eqb-true}
 use Rattle.sums.specs.Sum.{sum, only}
 use Rattle.sums.proofs.Sums.{sum-eq, sum-le, sum-zero, sum-term, only-le}
-use Rattle.rows.specs.View.{View, isClient, isCP, isClientOf, ofClients, ownDeemed, needTM, needCM, need, blocked}
+use Rattle.rows.specs.View.{View, isClient, isClientOf, ofClients, ownDeemed, needTM, needCM, need, blocked}
 use Rattle.rows.specs.Facts.{Shaped}
 use Rattle.rows.proofs.Cover.{Covered}
-use Rattle.rows.proofs.BySort.{client-sort, client-tm, need-CM, need-TM}
+use Rattle.rows.proofs.BySort.{client-sort, need-CM, need-TM}
 use Rattle.closeout.specs.Round.{own, short, leftTM, fromTM, askedOfCM, leftCM, fromCM, unpaid}
 use Rattle.closeout.specs.Bound.{beyond}
-use Rattle.closeout.proofs.Payments.{amounts-add-up, fromTM-client, fromTM-other}
+use Rattle.closeout.proofs.Payments.{amounts-add-up, fromTM-client}
 use Rattle.closeout.proofs.Limits.{TM-pays, CM-pays}
 use Rattle.closeout.proofs.Fund.{asked-le, fund}
-use Rattle.closeout.specs.Columns.{isClientOrCP, ownPayment, withPurses, purses₁, part₁, paid₁}
+use Rattle.closeout.specs.Columns.{isClientOrCP, withPurses, purses₁, part₁, paid₁}
 
 -- a loss a of margin m and collateral c: what is left within the margin once own collateral has paid what it can of the loss
 own-short : (a m c : ℕ) → min a m - min a c ≡ min a m - min (min a m) c

@@ -17,9 +17,8 @@ use Rattle.rows.specs.Facts.{Shaped}
 use Rattle.rows.specs.DeemedUnder.{accountAt}
 use Rattle.rows.specs.Rows.{rowAt, collateral, view}
 use Rattle.closeout.specs.Round.{own, short, leftTM, fromTM, askedOfCM, leftCM, fromCM, unpaid}
-use Rattle.closeout.specs.Columns.{ownPayment, purses₁, part₁, paid₁, purses₂, part₂, ownColumn, tmColumn, cmColumn, uncovered, four}
+use Rattle.closeout.specs.Columns.{ownPayment, purses₁, part₁, paid₁, purses₂, part₂, ownColumn, tmColumn, cmColumn, four}
 use Rattle.closeout.specs.declared.pays.Paid.{Paid}
-use Rattle.closeout.specs.declared.pays.Both.{Both}
 use Rattle.closeout.specs.declared.pays.Purses.{Purses}
 use Rattle.closeout.specs.Inner.{paidOf, tmBy, askedBy, paidBy, clientOrCPBy, ownPaymentBy, part₁By, purseBy, freeBy, part₂By, bothOf, roundsBy, afterOwn, fourOf}
 use Rattle.closeout.proofs.Payments.{beyond-min}

@@ -1,7 +1,7 @@
 -- K1's two rounds together: the columns add up, nobody pays more than there is, what is left open in all is at most the shortfall
 -- and the losses beyond the margins, and where there is no shortfall an account's is at most its own part beyond its margin.
-use mathlib.Core.Path.{_≡_, refl, sym, _∙_, ap}
-use mathlib.Core.Bool.{Bool, true, false, not, _||_}
+use mathlib.Core.Path.{_≡_, _∙_, ap}
+use mathlib.Core.Bool.{Bool, true, false, not}
 use Prim.Native.Nat.{ℕ, _+_, _-_, _*_, _≤_, _<_, min}
 use native.Mathlib.Omega.{arith}
 use Rattle.sums.specs.Sum.{sum, only}
@@ -14,7 +14,7 @@ use Rattle.closeout.specs.Bound.{beyond}
 use Rattle.closeout.proofs.Payments.{amounts-add-up, fromTM-other}
 use Rattle.closeout.proofs.Limits.{TM-pays, CM-pays}
 use Rattle.closeout.proofs.ZeroColumns.{CM-third-is-0}
-use Rattle.closeout.specs.Columns.{isClientOrCP, ownPayment, withPurses, purses₁, part₁, paid₁, purses₂, part₂, ownColumn, tmColumn, cmColumn, uncovered}
+use Rattle.closeout.specs.Columns.{isClientOrCP, ownPayment, purses₁, part₁, paid₁, purses₂, part₂, ownColumn, tmColumn, cmColumn, uncovered}
 use Rattle.closeout.proofs.RoundOne.{round-one-open, pays-all, TM-blocked, CM-blocked}
 
 rest-of : (a b c u n : ℕ) → a + b + c + u ≡ n → n - a - b - c ≡ u

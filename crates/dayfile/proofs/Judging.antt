@@ -6,7 +6,7 @@ use Prim.Native.Nat.{ℕ, zero, suc, _*_, _≤_, _<_}
 use native.Mathlib.Omega.{arith}
 use native.Mathlib.Decide.{decLe, ℕ-discrete}
 use lib.Dec.{leb, eqb}
-use borrow.Author.Tests.{le-leb, lt-leb, ne-eqb, leb-true, eqb-true}
+use borrow.Author.Tests.{le-leb, lt-leb, ne-eqb, leb-true}
 use Rattle.sums.specs.Choice.{pick}
 use Rattle.sums.proofs.Choices.{and-split, and-join, test-clash}
 use Rattle.rows.specs.Rows.{ceiling}

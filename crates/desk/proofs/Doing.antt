@@ -1,16 +1,14 @@
 -- A step by the change that its record makes: the answer and the book, for each of refused, put and opened.
 use mathlib.Core.Bool.{true, false, not}
 use mathlib.Core.List.{List}
-use mathlib.Core.Logic.{_⊎_, inl, inr}
 use mathlib.Core.Path.{_≡_, refl, sym, ap, _∙_}
-use Prim.Native.Nat.{ℕ, _+_, _≤_, _<_}
-use borrow.Author.Tests.{ne-eqb, le-leb, lt-leb}
+use Prim.Native.Nat.{ℕ}
+use borrow.Author.Tests.{ne-eqb}
 use Rattle.sums.specs.Choice.{pick, unlessRefused}
 use native.Mathlib.Omega.{arith}
 use lib.Dec.{eqb}
 use Rattle.sums.proofs.Choices.{pick-first, pick-second, pick-no}
 use Rattle.sums.proofs.Tables.{first-here}
-use Rattle.rows.specs.declared.Row.{Row}
 use Rattle.rows.specs.declared.Book.{Book}
 use Rattle.rows.specs.Rows.{placeOf}
 use Rattle.book.specs.Sound.{soundB}
@@ -30,8 +28,7 @@ use Rattle.table.specs.Words.{marksOf, turnedBack}
 use Rattle.table.specs.Facts.{Sized}
 use Rattle.table.proofs.Turning.{turned-from}
 use Rattle.desk.specs.declared.Outcome.{Outcome}
-use Rattle.desk.specs.declared.Outcome.the-variants.{CarriedOut, Opened, Refused}
-use Rattle.desk.specs.declared.Answer.{Answer}
+use Rattle.desk.specs.declared.Outcome.the-variants.{CarriedOut, Refused}
 use Rattle.desk.specs.declared.Done.{Done}
 use Rattle.desk.specs.declared.Next.{Next}
 use Rattle.desk.specs.declared.Carried.{Carried}

@@ -6,7 +6,7 @@ use mathlib.Core.Path.{_≡_, refl, sym, ap, _∙_}
 use Prim.Native.Nat.{ℕ, _+_, _-_, _≤_, _<_}
 use native.Mathlib.Omega.{arith}
 use lib.Dec.{leb}
-use lib.ListN.{length, drop}
+use lib.ListN.{length}
 use borrow.Author.Tests.{leb-true, leb-false}
 use Rattle.sums.proofs.Choices.{test-clash}
 use Rattle.numbers.specs.Bytes.{Bytes}
@@ -14,7 +14,6 @@ use Rattle.rows.specs.declared.Book.{Book}
 use Rattle.book.specs.Facts.{Sound}
 use Rattle.records.specs.declared.Closing.{Closing}
 use Rattle.records.specs.declared.Closing.the-variants.{End, Cut, Long, Unsound}
-use Rattle.records.specs.declared.Ran.{Ran}
 use Rattle.records.specs.Runs.{ranOf, onFrom}
 use Rattle.records.proofs.SoundRun.{ran-keeps}
 use Rattle.records.proofs.Stops.{Stopped, ran-stops, ran-moves, ran-enough}

@@ -12,11 +12,10 @@ use Rattle.sums.specs.Choice.{pick, unlessRefused}
 use Rattle.sums.specs.Room.{atStart}
 use Rattle.sums.proofs.Choices.{pick-yes, pick-no, refused-by}
 use Rattle.numbers.specs.Bytes.{Bytes}
-use Rattle.dayfile.specs.declared.Record.{Record}
 use Rattle.dayfile.specs.Files.{fileOf}
 use Rattle.merging.specs.declared.Merged.{Merged}
 use Rattle.merging.specs.declared.Looked.{Looked}
-use Rattle.merging.specs.Merging.{Listed, listedIn, renumbered, mergedFile, notMerged, faultIn, written, mergedOf, roomMerged}
+use Rattle.merging.specs.Merging.{listedIn, renumbered, mergedFile, notMerged, faultIn, written, mergedOf, roomMerged}
 use Rattle.merging.specs.Inner.{looked, renumberedIn}
 use Rattle.merging.proofs.Joined.{both-file, joined}
 use Rattle.merging.proofs.Renumbering.{length-renumbered}

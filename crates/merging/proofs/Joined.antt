@@ -1,9 +1,9 @@
 -- Two files behind one another read as the records of both.
 use mathlib.Core.List.{List, [], _∷_, _++_, append-assoc}
 use mathlib.Core.Path.{_≡_, refl, sym, ap, _∙_}
-use Prim.Native.Nat.{ℕ, zero, suc, _+_, _≤_, _<_}
+use Prim.Native.Nat.{ℕ, zero, suc, _+_, _≤_}
 use native.Mathlib.Omega.{arith}
-use lib.ListN.{length, drop}
+use lib.ListN.{length}
 use Rattle.numbers.specs.Bytes.{Bytes}
 use Rattle.numbers.proofs.Numbers.{bytes-drop, number-two}
 use Rattle.dayfile.specs.declared.Record.{Record}

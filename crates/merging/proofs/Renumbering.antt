@@ -1,14 +1,14 @@
 -- New serials put into a file that stands in a room.
 use mathlib.Core.List.{List, [], _∷_, _++_, append-assoc, append-nil}
 use mathlib.Core.Path.{_≡_, refl, sym, ap, _∙_}
-use Prim.Native.Nat.{ℕ, suc, _+_, _≤_, _<_}
+use Prim.Native.Nat.{ℕ, _+_, _≤_, _<_}
 use native.Mathlib.Omega.{arith}
-use lib.ListN.{length, take, drop, getD, length-append}
+use lib.ListN.{length, drop, getD, length-append}
 use lib.Seq.{sets, sets-eq, take-at, drop-append-seam, drop-drop}
 use Rattle.numbers.specs.Bytes.{bytesOf}
 use Rattle.numbers.proofs.Numbers.{length-bytesOf, two-at}
 use Rattle.dayfile.specs.declared.Record.{Record}
-use Rattle.dayfile.specs.Files.{AllGood, none, also, fileOf}
+use Rattle.dayfile.specs.Files.{AllGood, also, fileOf}
 use Rattle.dayfile.specs.Reading.{sizeOf}
 use Rattle.dayfile.specs.Written.{bodyOf, writtenOf}
 use Rattle.dayfile.proofs.Lengths.{length-written}

@@ -1,19 +1,15 @@
 -- K11, room for new accounts: document 02's sentences as theorems. What the call gives, and the archive after it: `archival::archive`'s promise.
 use mathlib.Core.Bool.{true}
 use mathlib.Core.List.{List, [], _∷_}
-use mathlib.Core.Path.{_≡_, sym, ap, _∙_}
+use mathlib.Core.Path.{_≡_}
 use Prim.Native.Nat.{ℕ, _+_, _*_, _<_}
 use lib.ListN.{length, getD}
-use Rattle.sums.specs.Choice.{pick}
-use Rattle.sums.specs.Sum.{only}
-use Rattle.sums.proofs.Choices.{pick-yes}
 use Rattle.rows.specs.declared.Book.{Book}
-use Rattle.rows.specs.Rows.{rowAt, numberAt, placeOf, isLive, freshBook}
+use Rattle.rows.specs.Rows.{rowAt, numberAt, placeOf, isLive}
 use Rattle.book.specs.Sound.{soundB}
 use Rattle.book.specs.Facts.{Sound}
 use Rattle.book.specs.Asked.{standingOf}
 use Rattle.book.proofs.SoundTest.{sound→, sound←}
-use Rattle.book.proofs.FreshSound.{fresh-sound}
 use Rattle.gaps.specs.Gaps.{placeAfter, withTM, archived}
 use Rattle.archiving.specs.Archiving.{isRetired, retiredOf, archivedRow, archiveOf}
 use Rattle.archiving.proofs.Entries.{archive-length, entry-at}

@@ -11,15 +11,14 @@ use Rattle.dayfile.specs.declared.Record.{Record}
 use Rattle.dayfile.specs.declared.Found.{Found}
 use Rattle.dayfile.specs.declared.Found.the-variants.{End as NoBytes, Cut as TooFew, Whole}
 use Rattle.dayfile.specs.Reading.{foundAt}
-use Rattle.rules.specs.declared.Change.the-variants.{Refuse, Put, Open}
+use Rattle.rules.specs.declared.Change.the-variants.{Put, Open}
 use Rattle.rules.specs.Refusals.{isOpening}
 use Rattle.rules.specs.Numbered.{verdictOf}
 use Rattle.desk.specs.declared.Answer.{Answer}
 use Rattle.desk.specs.Answers.{answerOf, refusalIn, carriedIn}
 use Rattle.desk.specs.Steps.{stepOf}
 use Rattle.desk.proofs.Effect.{answer-number, refused-as, passed-as}
-use Rattle.records.specs.declared.Ran.{Ran}
-use Rattle.records.specs.Runs.{endedWith, stopped, onward, runOf}
+use Rattle.records.specs.Runs.{stopped, onward, runOf}
 use Rattle.records.specs.LineNumbers.{answering, answersOf}
 use Rattle.thinned.proofs.Thinned.{Thinned}
 use Rattle.thinned.proofs.Answers.{same-answer, thinned-on, sound-on}

@@ -14,7 +14,6 @@ use Rattle.bookfile.specs.Reading.{isBook, bookIn, readOf}
 use Rattle.bookfile.specs.Facts.{Fits, byPlaces, isTwo, isOne, writtenAsOne}
 use Rattle.bookfile.proofs.RoundTrip.{read-written, written-read, written-once, written-long, room-reads}
 use Rattle.bookfile.proofs.VersionOne.{one-read, one-is-book, one-written, one-sound, one-sound-alone}
-use Rattle.feed.specs.declared.Day.{Day}
 use Rattle.feed.specs.Fed.{wholeDay}
 
 -- Reading what was written gives the book back.

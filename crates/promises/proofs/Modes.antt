@@ -28,8 +28,7 @@ use Rattle.book.specs.Asked.{standingRefusal, noFigures, figuresOf, standingOf}
 use Rattle.book.proofs.SoundTest.{sound→}
 use Rattle.book.proofs.StandingRefusals.{unsound-refused, dead-refused, standing-number}
 use Rattle.dayfile.specs.declared.Record.{Record}
-use Rattle.rules.specs.Refusals.{refusalOf}
-use Rattle.rules.specs.Effects.{changeOf, movedOn, bookAfter}
+use Rattle.rules.specs.Effects.{movedOn, bookAfter}
 use Rattle.rules.specs.declared.Change.{Change}
 use Rattle.rules.specs.declared.Change.the-variants.{Refuse, Put, Open}
 use Rattle.rules.specs.Numbered.{placed, rowNamed, verdictOf, actOf}

@@ -29,7 +29,7 @@ use Rattle.book.proofs.StandingRefusals.{unsound-refused}
 use Rattle.book.proofs.NeedsAnswers.{needs-unsound, needs-no-room}
 use Rattle.book.proofs.EveningAnswers.{unsound-evening}
 use Rattle.dayfile.specs.declared.Record.{Record}
-use Rattle.rules.specs.Refusals.{isOpening, namedRow, refusals, refusalOf}
+use Rattle.rules.specs.Refusals.{isOpening, refusals, refusalOf}
 use Rattle.rules.specs.Effects.{amended, effectOf, movedOn, changedBy, bookAfter}
 use Rattle.rules.specs.declared.Change.the-variants.{Put, Open}
 use Rattle.rules.specs.Numbered.{placed, rowNamed, verdictOf}

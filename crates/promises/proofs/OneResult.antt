@@ -24,7 +24,6 @@ use Rattle.dayfile.specs.Reader.{movedTo}
 use Rattle.sums.specs.Choice.{pick}
 use Rattle.numbers.specs.Bytes.{Bytes}
 use Rattle.streams.specs.declared.Moved.{Moved}
-use Rattle.streams.specs.declared.standard.Helped.{Helped}
 use Rattle.streams.specs.Words.{isThere, tooMany, sameBytes, helpWord}
 use Rattle.streams.proofs.Taken.{all-taken}
 use Rattle.bookfile.specs.Reading.{readOf}

@@ -15,7 +15,7 @@ use Rattle.book.proofs.SoundTest.{sound←}
 use Rattle.dayfile.specs.declared.Record.{Record}
 use Rattle.rules.specs.Refusals.{besideOf}
 use Rattle.rules.specs.Numbered.{placed, rowNamed}
-use Rattle.rules.proofs.WhatIsBeside.{IsBeside, changeBy, beside-is, change-beside}
+use Rattle.rules.proofs.WhatIsBeside.{changeBy, beside-is, change-beside}
 use Rattle.records.proofs.SoundRun.{step-sound}
 use Rattle.desk.specs.declared.Done.{Done}
 use Rattle.desk.specs.Steps.{doneBy, stepOf}

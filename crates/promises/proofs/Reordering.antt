@@ -1,5 +1,4 @@
 -- Two lists in which every account has the same own records have the same records, each as often.
-use mathlib.Core.Bool.{Bool, true, false}
 use mathlib.Core.List.{List, [], _∷_, _++_, map, map-append}
 use mathlib.Core.Path.{_≡_, refl, sym, ap, subst, _∙_}
 use Prim.Native.Nat.{ℕ}
@@ -7,7 +6,6 @@ use native.Mathlib.Omega.{arith}
 use native.Mathlib.Decide.{ℕ-discrete}
 use lib.Dec.{eqb}
 use lib.ListN.{length}
-use borrow.Author.Tests.{eq-eqb, ne-eqb, eqb-true}
 use Rattle.sums.specs.Choice.{pick}
 use Rattle.dayfile.specs.declared.Record.{Record}
 use Rattle.promises.specs.Orders.{unnumbered, ownOf, TwoOrders, Reordered, none, one}

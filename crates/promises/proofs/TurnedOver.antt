@@ -1,8 +1,7 @@
 -- Document 02, K12: "Prove that turning over and back changes nothing, and that every call answers as on the old order and leaves the
 -- old one's book, turned over." Each call promises what the old order's definition says at `turnedBack t`; here t is any book of the old order, turned over.
-use mathlib.Core.Bool.{Bool}
 use mathlib.Core.List.{List}
-use mathlib.Core.Path.{_≡_, refl, ap}
+use mathlib.Core.Path.{_≡_, ap}
 use Prim.Native.Nat.{ℕ}
 use Rattle.rows.specs.declared.Book.{Book}
 use Rattle.rows.specs.Rows.{places}

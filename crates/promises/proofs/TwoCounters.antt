@@ -2,12 +2,11 @@
 use mathlib.Core.Bool.{true}
 use mathlib.Core.List.{List, [], _∷_}
 use mathlib.Core.Path.{_≡_, refl, sym, ap, _∙_}
-use Prim.Native.Nat.{ℕ, _+_, _≤_, _<_}
+use Prim.Native.Nat.{ℕ, _<_}
 use native.Mathlib.Omega.{arith}
 use native.Mathlib.Decide.{decLt}
 use lib.ListN.{length}
 use lib.Seq.{ext-getD}
-use Rattle.sums.specs.Table.{_when_}
 use Rattle.rows.specs.declared.Book.{Book}
 use Rattle.rows.specs.Rows.{noRow, placeOf, rowAt, numberAt, view}
 use Rattle.rows.specs.KeptNeeds.{needsAfresh}

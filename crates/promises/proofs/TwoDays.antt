@@ -9,7 +9,7 @@ use native.Mathlib.Omega.{arith}
 use lib.ListN.{length, length-append}
 use Rattle.sums.specs.Choice.{pick}
 use Rattle.rows.specs.declared.Book.{Book}
-use Rattle.table.specs.Words.{turned, turnedBack}
+use Rattle.table.specs.Words.{turnedBack}
 use Rattle.table.proofs.Turning.{over-and-back}
 use Rattle.book.specs.Sound.{soundB}
 use Rattle.book.specs.Facts.{Sound}

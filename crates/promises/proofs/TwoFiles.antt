@@ -2,9 +2,8 @@
 use mathlib.Core.Bool.{true}
 use mathlib.Core.List.{List, [], _∷_}
 use mathlib.Core.Path.{_≡_, refl, sym, ap, _∙_}
-use Prim.Native.Nat.{ℕ, zero, suc, _+_, _≤_, _<_}
+use Prim.Native.Nat.{ℕ, zero, suc, _+_, _≤_}
 use native.Mathlib.Omega.{arith}
-use native.Mathlib.Nat.{zero-add}
 use lib.ListN.{length}
 use Rattle.sums.specs.Choice.{unlessRefused}
 use Rattle.rows.specs.declared.Book.{Book}
@@ -24,7 +23,7 @@ use Rattle.desk.specs.Steps.{stepOf}
 use Rattle.desk.proofs.Effect.{answer-number}
 use Rattle.records.specs.declared.Ran.{Ran}
 use Rattle.records.specs.Runs.{stopped, onward, runOf, ranOf}
-use Rattle.records.proofs.Stops.{Stopped, run-stops}
+use Rattle.records.proofs.Stops.{run-stops}
 use Rattle.records.proofs.NumbersPut.{ran-sound}
 use Rattle.promises.specs.Sequences.{afterAll}
 use Rattle.promises.specs.Orders.{TwoOrders, WithoutOpenings, AllCarriedOut, SameButModes, listing, recordsAt}

@@ -1,19 +1,17 @@
 -- Demand 3 by payers: whose collateral the losses of a close-out come out of, and how much of it in all. What the fund pays: `the-fund-pays-at-most` of
 -- DemandThree.
-use mathlib.Core.Bool.{true}
 use mathlib.Core.List.{List}
 use mathlib.Core.Logic.{_⊎_}
-use mathlib.Core.Path.{_≡_, refl, sym, ap, _∙_}
+use mathlib.Core.Path.{_≡_, sym, _∙_}
 use Prim.Native.Nat.{ℕ, _+_, _≤_, _<_, min}
 use native.Mathlib.Omega.{arith}
 use Rattle.sums.specs.Sum.{sum}
 use Rattle.sums.proofs.Sums.{sum-eq}
 use Rattle.rows.specs.declared.Book.{Book}
-use Rattle.rows.specs.View.{View, isClientOf}
 use Rattle.rows.specs.Facts.{Shaped}
 use Rattle.rows.specs.Rows.{rowAt, collateral, view}
 use Rattle.rows.proofs.BySort.{client-sort, client-tm}
-use Rattle.closeout.specs.Columns.{ownColumn, tmColumn, cmColumn, uncovered, four, total}
+use Rattle.closeout.specs.Columns.{uncovered, four, total}
 use Rattle.closeout.specs.Bound.{cellOf}
 use Rattle.closeout.specs.Closing.{lossAt, closeOutRefusal, closedOf}
 use Rattle.closeout.proofs.Cells.{cell-of-rows, four-long}

@@ -1,17 +1,16 @@
 -- A run leaves a sound book, counts the records that it answered, and is one `carry_out_next` after the other.
-use mathlib.Core.Bool.{Bool, true, false}
+use mathlib.Core.Bool.{true}
 use mathlib.Core.List.{List}
 use mathlib.Core.Path.{_≡_, refl, sym, ap, _∙_}
 use Prim.Native.Nat.{ℕ, zero, suc, _+_}
 use native.Mathlib.Nat.{zero-add}
 use native.Mathlib.Omega.{arith}
 use lib.ListN.{length}
-use Rattle.sums.specs.Choice.{pick}
 use Rattle.sums.proofs.Choices.{pick-yes}
 use Rattle.rows.specs.declared.Book.{Book}
 use Rattle.book.specs.Sound.{soundB}
 use Rattle.book.specs.Facts.{Sound}
-use Rattle.book.proofs.SoundTest.{sound→, sound←}
+use Rattle.book.proofs.SoundTest.{sound←}
 use Rattle.dayfile.specs.declared.Record.{Record}
 use Rattle.dayfile.specs.declared.Found.{Found}
 use Rattle.dayfile.specs.declared.Found.the-variants.{End as NoBytes, Cut as TooFew, Whole}

@@ -3,7 +3,6 @@
 use mathlib.Core.Bool.{Bool, false}
 use mathlib.Core.List.{List}
 use mathlib.Core.Path.{_≡_, refl, sym, ap, _∙_}
-use Prim.Native.Nat.{ℕ}
 use lib.ListN.{getD}
 use Rattle.sums.specs.Choice.{unlessRefused}
 use Rattle.sums.specs.Table.{first}

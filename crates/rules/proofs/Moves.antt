@@ -1,6 +1,6 @@
 -- What a verdict needs beside the row named, and what a record moves, by the list of what is deemed under each account: no table is added up. The list moves at two places, in tenths too.
 -- After it K2's look and K3's kept needs move at most three places, and what is put at them is told by the list.
-use mathlib.Core.Bool.{Bool, true, false, not, _&&_}
+use mathlib.Core.Bool.{Bool, true, false, not}
 use mathlib.Core.List.{List}
 use mathlib.Core.Path.{_≡_, refl, sym, ap, subst, _∙_}
 use Prim.Native.Nat.{ℕ, _+_, _≤_, _<_}

@@ -1,19 +1,18 @@
 -- K8: of a record that passes only codes 12 and 13 can raise the shortfall. A rising margin under code 10 leaves none, and every other code leaves collateral at least what was blocked of
 -- it and raises no margin.
-use mathlib.Core.Bool.{Bool, true, false, not, _&&_, _||_}
+use mathlib.Core.Bool.{Bool, true, false, _&&_, _||_}
 use mathlib.Core.Logic.{_⊎_, inl, inr}
 use mathlib.Core.Path.{_≡_, refl, sym, ap, subst, _∙_}
-use Prim.Native.Nat.{ℕ, zero, suc, _+_, _-_, _≤_, _<_}
+use Prim.Native.Nat.{ℕ, _+_, _-_, _≤_}
 use native.Mathlib.Omega.{arith}
 use lib.Dec.{leb, ltb, eqb}
-use borrow.Author.Tests.{ltb-false, leb-false, eq-eqb, not-false}
-use Rattle.sums.specs.Choice.{pick, unlessRefused}
+use borrow.Author.Tests.{ltb-false, eq-eqb}
+use Rattle.sums.specs.Choice.{pick}
 use Rattle.sums.proofs.Choices.{pick-yes, pick-no, test-clash}
 use Rattle.rows.specs.declared.Row.{Row}
 use Rattle.rows.specs.declared.Book.{Book}
 use Rattle.rows.specs.View.{needCM, blocked}
-use Rattle.rows.specs.Rows.{rowAt, collateral, view, openedRow, withAllocated, withPledged, withMargin, withRow, withNew, lessKinds}
-use Rattle.rows.specs.Ranges.{kindsWithin}
+use Rattle.rows.specs.Rows.{collateral, view, withAllocated, withPledged, withRow, withNew, lessKinds}
 use Rattle.rows.proofs.Counted.{counted-rises}
 use Rattle.rows.specs.declared.Rule.the-variants.{New}
 use Rattle.book.specs.Asked.{shortfall}
@@ -25,8 +24,8 @@ use Rattle.book.proofs.SoundAfter.{in-table}
 use Rattle.dayfile.specs.declared.Record.{Record}
 use Rattle.rules.specs.declared.Change.{Change}
 use Rattle.rules.specs.declared.Change.the-variants.{Refuse, Put, Open}
-use Rattle.rules.specs.Refusals.{isOpening, namedRow, rowLeft, leftBelow, needPasses, newMargin, refusalOf}
-use Rattle.rules.specs.Effects.{amended, changeOf, movedOn, changedBy, bookAfter}
+use Rattle.rules.specs.Refusals.{isOpening, namedRow, leftBelow, needPasses, newMargin}
+use Rattle.rules.specs.Effects.{amended, changeOf, movedOn, bookAfter}
 use Rattle.rules.proofs.Codes.{Code, openTM, openClient, openCP, receive, handBack, allocate, release, pledge, unpledge, margin, retire, setPledged, setMargin, known-code-cases}
 use Rattle.rules.proofs.Passing.{Passes}
 use Rattle.rules.proofs.Amending.{by-receive, by-hand-back, by-allocate, by-release, by-pledge, by-unpledge, by-margin, by-retire}

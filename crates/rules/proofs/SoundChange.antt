@@ -1,12 +1,12 @@
 -- Every record, carried out or refused, leaves a sound book sound.
-use mathlib.Core.Bool.{Bool, true, false, not, _&&_, _||_}
+use mathlib.Core.Bool.{Bool, true, false, not, _||_}
 use mathlib.Core.Logic.{_⊎_, inl, inr}
-use mathlib.Core.Path.{_≡_, refl, sym, ap, subst, _∙_}
-use Prim.Native.Nat.{ℕ, zero, suc, _+_, _-_, _≤_}
+use mathlib.Core.Path.{_≡_, refl}
+use Prim.Native.Nat.{ℕ, zero, suc, _+_, _-_}
 use native.Mathlib.Omega.{arith}
 use native.Mathlib.Decide.{ℕ-discrete}
 use lib.Dec.{leb, ltb, eqb}
-use borrow.Author.Tests.{ltb-false, leb-false, eqb-true, eq-eqb, eqb-false, not-false}
+use borrow.Author.Tests.{ltb-false, leb-false, eqb-true, eqb-false, not-false}
 use Rattle.sums.specs.Choice.{pick, unlessRefused}
 use Rattle.sums.proofs.Choices.{or-fails, pick-yes, pick-no}
 use Rattle.rows.specs.declared.Row.{Row}
@@ -22,7 +22,7 @@ use Rattle.book.proofs.Settled.{sound-rows, settled-sound}
 use Rattle.dayfile.specs.declared.Record.{Record}
 use Rattle.rules.specs.declared.Change.{Change}
 use Rattle.rules.specs.declared.Change.the-variants.{Refuse, Put, Open}
-use Rattle.rules.specs.Refusals.{isOpening, noneLeft, namedRow, rowLeft, leftBelow, needPasses, newMargin, refusalOf}
+use Rattle.rules.specs.Refusals.{isOpening, noneLeft, namedRow, refusalOf}
 use Rattle.rules.specs.Effects.{amended, effectOf, changeOf, nextSerial, movedOn, changedBy, bookAfter}
 use Rattle.rules.proofs.Faults.{amounts-in}
 use Rattle.rules.proofs.Codes.{Code, openTM, openClient, openCP, receive, handBack, allocate, release, pledge, unpledge, margin, retire, setPledged, setMargin, known-code-cases}

@@ -1,6 +1,6 @@
 -- Entering the arrays of a sound book: what adding up uses and looking ask of them, and that with these beside them a step can be made.
 use mathlib.Core.Bool.{Bool, true}
-use mathlib.Core.List.{List, []}
+use mathlib.Core.List.{List}
 use mathlib.Core.Path.{_≡_, sym, ap, subst, _∙_}
 use Prim.Native.Nat.{ℕ}
 use lib.ListN.{length}
@@ -17,7 +17,6 @@ use Rattle.table.proofs.Seen.{seen-view, seen-ranged}
 use Rattle.book.specs.Facts.{Sound}
 use Rattle.book.proofs.RowTests.{sound-ranged}
 use Rattle.book.proofs.Settled.{sound-rows, none-beyond}
-use Rattle.steps.specs.declared.At.{At}
 use Rattle.steps.specs.Steps.{Going}
 use Rattle.steps.specs.Looks.{Keeps, AllRanging}
 use Rattle.steps.proofs.Placing.{sound-placed}

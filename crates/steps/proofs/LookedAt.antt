@@ -1,6 +1,6 @@
 -- A record decided on the words, K3's kept needs and K2's look after it are together what the record does to the book.
 use mathlib.Core.Bool.{Bool, true, false, _&&_, _||_, and-true, and-false}
-use mathlib.Core.List.{List, []}
+use mathlib.Core.List.{List}
 use mathlib.Core.Path.{_≡_, refl, sym, ap, subst, _∙_}
 use Prim.Native.Nat.{ℕ, _+_, _*_, _≤_, _<_}
 use native.Mathlib.Omega.{arith}
@@ -27,7 +27,7 @@ use Rattle.table.proofs.Gathered.{row-in, rows-length}
 use lib.Seq.{getD-set-other}
 use Rattle.book.specs.Facts.{SoundRows}
 use Rattle.book.proofs.OneRow.{at-all}
-use Rattle.book.proofs.Settled.{sound-rows, all-off, sound-under}
+use Rattle.book.proofs.Settled.{sound-rows, sound-under}
 use Rattle.book.proofs.UnderMost.{under-most}
 use Rattle.dayfile.specs.declared.Record.{Record}
 use Rattle.dayfile.specs.Records.{knownCode}
@@ -39,12 +39,11 @@ use Rattle.rules.proofs.Deciding.{put-passes, made-put, made-open, open-below, 
 use Rattle.rules.proofs.Codes.{Code, openTM, openClient, openCP, receive, handBack, allocate, release, pledge, unpledge, margin, retire, setPledged, setMargin, known-code-cases}
 use Rattle.rules.proofs.Amending.{by-receive, by-hand-back, by-retire}
 use Rattle.rules.proofs.Moves.{put-deemed, put-looks, put-needs, open-deemed, open-looks, open-needs}
-use Rattle.rules.proofs.ModesAside.{same-change}
 use Rattle.rules.proofs.SoundChange.{change-sound}
 use Rattle.steps.specs.declared.At.{At}
 use Rattle.steps.specs.declared.Gone.{Gone}
 use Rattle.codes.specs.declared.settling.DeemedUnderAfter.{DeemedUnderAfter}
-use Rattle.steps.specs.Steps.{Ready, Decided, carriedShown, refusalShown, givenShown, modesIn, bookAt, atAfter, Going, Stepped}
+use Rattle.steps.specs.Steps.{Ready, Decided, carriedShown, refusalShown, modesIn, bookAt, atAfter, Going, Stepped}
 use Rattle.codes.specs.Own.{accountIn, deemedUnderAt, deemedUnderIn, deemedUnderAfter}
 use Rattle.steps.specs.Looks.{Placed, Past, PastOf, Keeps, lookIn, excessAfter, excessSince, lookedSince, deemedUnderSince, neededSince}
 use Rattle.steps.proofs.Placing.{sound-placed}

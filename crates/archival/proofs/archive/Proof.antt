@@ -33,12 +33,6 @@ filling c = c .before .before .before .before .before .before .before
 abbrev filled : tie.After-slice-known2 → tie.After-put-archived
 filled c = c .before .before
 
-is-sound-requires : tie.Need-is-sound-requires
-is-sound-requires c κs = search needs
-
-refused-requires : tie.Need-refused-requires
-refused-requires c κs = search needs
-
 returns : tie.Need-returns
 returns c =
     let t = c .before in
@@ -60,15 +54,6 @@ counted c =
 
 retired-requires : tie.Need-retired-requires
 retired-requires c κs = sound (c .before .before) .most
-
-cast-if2 : tie.Need-cast-if2
-cast-if2 c = search needs
-
-mul-if2 : tie.Need-mul-if2
-mul-if2 c = search needs
-
-refused-requires-2 : tie.Need-refused-requires-2
-refused-requires-2 c κs = search needs
 
 returns-2 : tie.Need-returns-2
 returns-2 c =
@@ -92,9 +77,6 @@ put-archived-requires c κs =
 without-retired-requires : tie.Need-without-retired-requires
 without-retired-requires c κs = sound (passed (filling (filled c .before) .before))
 
-same-length : tie.Need-same-length
-same-length c = search needs
-
 returns-3 : tie.Need-returns-3
 returns-3 c =
     let p = filled (c .before) in
@@ -107,16 +89,6 @@ returns-3 c =
 pub archive-spec : {M : Type 1} → statement M
 archive-spec =
     tie.close
-    (tie.spec
-    is-sound-requires
-    refused-requires
-    returns
-    retired-requires
-    cast-if2
-    mul-if2
-    refused-requires-2
-    returns-2
-    put-archived-requires
-    without-retired-requires
-    same-length
-    returns-3)
+    (tie.spec (λ c κs. search needs) (λ c κs. search needs) returns retired-requires (λ c. search needs)
+    (λ c. search needs) (λ c κs. search needs) returns-2 put-archived-requires without-retired-requires
+    (λ c. search needs) returns-3)

@@ -5,13 +5,10 @@ use Rattle.table.proofs.Turning.{back-and-over}
 use Rattle.archival.proofs.refused.Statement.{statement}
 use Rattle.archival.proofs.refused.Tie as tie
 
-sizes-requires : tie.Need-sizes-requires
-sizes-requires c κs = search needs
-
 returns : tie.Need-returns
 returns c =
     let a = c .before .before .before .before .before .args in
     ap (λ t. record { refusal = a .refusal; moved = 0; table = t }) (sym (back-and-over (a .t) (c .sizes .ensures)))
 
 pub refused-spec : {M : Type 1} → statement M
-refused-spec = tie.close (tie.spec sizes-requires returns)
+refused-spec = tie.close (tie.spec (λ c κs. search needs) returns)

@@ -12,15 +12,6 @@ sized c = c .before .before .before .before .before .before .before
 abbrev start : tie.After-size2 → tie.Start
 start c = c .before .before .before .before .before .before .before .before .before .before
 
-sizes-requires : tie.Need-sizes-requires
-sizes-requires c κs = search needs
-
-size-requires : tie.Need-size-requires
-size-requires c κs = search needs
-
-size-requires-2 : tie.Need-size-requires-2
-size-requires-2 c κs = search needs
-
 close-gaps-requires : tie.Need-close-gaps-requires
 close-gaps-requires c κs =
     let z = sized c in
@@ -32,4 +23,5 @@ returns c = closed-table (start (sized (c .before)) .args .t) _ (c .close-gaps .
 
 pub without-retired-spec : {M : Type 1} → statement M
 without-retired-spec =
-    tie.close (tie.spec sizes-requires size-requires size-requires-2 close-gaps-requires returns)
+    tie.close
+    (tie.spec (λ c κs. search needs) (λ c κs. search needs) (λ c κs. search needs) close-gaps-requires returns)

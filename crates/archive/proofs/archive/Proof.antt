@@ -16,18 +16,6 @@ fits c =
     let m = moved-fits (turnedBack (c .before .before .args .t)) (replicate 768 0) in
     omega (arith, ap (λ (x : Archived). x .moved) (c .archive .ensures .0), m, c .archive .kept .1 .0)
 
-slice-aggregate-archive : tie.Need-slice-aggregate-archive
-slice-aggregate-archive c = search needs
-
-archive-requires : tie.Need-archive-requires
-archive-requires c κs = search needs
-
-cast-n : tie.Need-cast-n
-cast-n c = search needs
-
-mul-n : tie.Need-mul-n
-mul-n c = search needs
-
 array-share-prefix-entries : tie.Need-array-share-prefix-entries
 array-share-prefix-entries c = fits (c .before .before .before)
 
@@ -39,38 +27,9 @@ fails-requires c κs =
     let a = c .before .before .before .before in
     omega (arith, sym (slice-aggregate-fails c), fits a, a .archive .kept .1 .0)
 
-returns : tie.Need-returns
-returns c = search needs
-
-slice-aggregate-to-word : tie.Need-slice-aggregate-to-word
-slice-aggregate-to-word c = search needs
-
-to-word-requires : tie.Need-to-word-requires
-to-word-requires c κs = search needs
-
-returns-2 : tie.Need-returns-2
-returns-2 c = search needs
-
-tell-requires : tie.Need-tell-requires
-tell-requires c κs = search needs
-
-returns-3 : tie.Need-returns-3
-returns-3 c = search needs
-
 pub archive-spec : {M : Type 1} → statement M
 archive-spec =
     tie.close
-    (tie.spec
-    slice-aggregate-archive
-    archive-requires
-    cast-n
-    mul-n
-    array-share-prefix-entries
-    slice-aggregate-fails
-    fails-requires
-    returns
-    slice-aggregate-to-word
-    to-word-requires
-    returns-2
-    tell-requires
-    returns-3)
+    (tie.spec (λ c. search needs) (λ c κs. search needs) (λ c. search needs) (λ c. search needs)
+    array-share-prefix-entries slice-aggregate-fails fails-requires (λ c. search needs) (λ c. search needs)
+    (λ c κs. search needs) (λ c. search needs) (λ c κs. search needs) (λ c. search needs))

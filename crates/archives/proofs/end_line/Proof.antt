@@ -10,25 +10,10 @@ returns c =
     let a = c .before .args in
     (none-ended (a .room .now) (a .n) (c .if1 .taken) (omega arith), omega arith)
 
-sub-if2 : tie.Need-sub-if2
-sub-if2 c = search needs
-
-slice-read-if2 : tie.Need-slice-read-if2
-slice-read-if2 c = search needs
-
 returns-2 : tie.Need-returns-2
 returns-2 c =
     let a = c .before .before .before .args in
     (was-ended (a .room .now) (a .n) (omega arith) (omega arith) (c .if2 .taken), omega arith)
-
-slice-write-room : tie.Need-slice-write-room
-slice-write-room c = search needs
-
-add-result : tie.Need-add-result
-add-result c = search needs
-
-same-length : tie.Need-same-length
-same-length c = search needs
 
 returns-3 : tie.Need-returns-3
 returns-3 c =
@@ -38,12 +23,5 @@ returns-3 c =
 pub end-line-spec : {M : Type 1} → statement M
 end-line-spec =
     tie.close
-    (tie.spec
-    returns
-    sub-if2
-    slice-read-if2
-    returns-2
-    slice-write-room
-    add-result
-    same-length
-    returns-3)
+    (tie.spec returns (λ c. search needs) (λ c. search needs) returns-2 (λ c. search needs) (λ c. search needs)
+    (λ c. search needs) returns-3)

@@ -22,15 +22,6 @@ made c = holds-more (holds-same _ 0 (omega arith)) (c .put-entry .ensures .0)
 long : (c : tie.After-put-entry) → length (take (c .put-entry .result) (c .put-entry .last .0)) ≡ c .put-entry .result
 long c = length-take-le _ _ (made c .within)
 
-slice-aggregate-put-entry : tie.Need-slice-aggregate-put-entry
-slice-aggregate-put-entry c = search needs
-
-put-entry-requires : tie.Need-put-entry-requires
-put-entry-requires c κs = search needs
-
-array-share-prefix-line : tie.Need-array-share-prefix-line
-array-share-prefix-line c = search needs
-
 slice-aggregate-with-line : tie.Need-slice-aggregate-with-line
 slice-aggregate-with-line c = sym (long (c .before .before .before))
 
@@ -38,9 +29,6 @@ with-line-requires : tie.Need-with-line-requires
 with-line-requires c κs =
     let p = c .before .before .before in
     omega (arith, long p, p .put-entry .ensures .1)
-
-same-length : tie.Need-same-length
-same-length c = search needs
 
 returns : tie.Need-returns
 returns c =
@@ -54,11 +42,5 @@ returns c =
 pub with-entry-spec : {M : Type 1} → statement M
 with-entry-spec =
     tie.close
-    (tie.spec
-    slice-aggregate-put-entry
-    put-entry-requires
-    array-share-prefix-line
-    slice-aggregate-with-line
-    with-line-requires
-    same-length
-    returns)
+    (tie.spec (λ c. search needs) (λ c κs. search needs) (λ c. search needs) slice-aggregate-with-line
+    with-line-requires (λ c. search needs) returns)

@@ -24,9 +24,6 @@ its-row c =
     let a = start c .args in
     row-in (marksFrom (a .sort .now) (a .live .now) (a .tm .now)) (a .w .now) (a .i) (start c .pre .0) ∙ sym (c .row-at .ensures)
 
-row-at-requires : tie.Need-row-at-requires
-row-at-requires c κs = search needs
-
 returns : tie.Need-returns
 returns c =
     let s = start (c .before) in
@@ -35,20 +32,11 @@ returns c =
 tm-number-requires : tie.Need-tm-number-requires
 tm-number-requires c κs = omega (arith, ap (λ r. r .tm) (c .before .row-at .ensures), start (c .before) .pre .1)
 
-mul-put-three : tie.Need-mul-put-three
-mul-put-three c = search needs
-
-element-copy-out-put-three : tie.Need-element-copy-out-put-three
-element-copy-out-put-three c = search needs
-
 put-three-requires : tie.Need-put-three-requires
 put-three-requires c κs =
     let left = c .before .before .before in
     let s = start (left .before) in
     rw (retired-entry (book s) (s .args .i) (its-row (left .before)) (left .if1 .left) (c .before .before .tm-number .ensures)) at (s .pre .2)
-
-same-length : tie.Need-same-length
-same-length c = search needs
 
 returns-2 : tie.Need-returns-2
 returns-2 c =
@@ -61,12 +49,5 @@ returns-2 c =
 pub put-one-spec : {M : Type 1} → statement M
 put-one-spec =
     tie.close
-    (tie.spec
-    row-at-requires
-    returns
-    tm-number-requires
-    mul-put-three
-    element-copy-out-put-three
-    put-three-requires
-    same-length
-    returns-2)
+    (tie.spec (λ c κs. search needs) returns tm-number-requires (λ c. search needs) (λ c. search needs)
+    put-three-requires (λ c. search needs) returns-2)

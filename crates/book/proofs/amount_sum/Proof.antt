@@ -15,9 +15,6 @@ use Rattle.book.proofs.EveningAnswers.{unsound-evening, sound-evening, 
 use Rattle.book.proofs.amount_sum.Statement.{statement}
 use Rattle.book.proofs.amount_sum.Tie as tie
 
-table-sound-requires : tie.Need-table-sound-requires
-table-sound-requires c κs = search needs
-
 -- where the call begins
 abbrev start : tie.After-table-sound → tie.Start
 start c = c .before .before .before .before .before .before .before .before .before
@@ -38,12 +35,6 @@ holds c = sym (tested (c .before)) ∙ not-false _ (c .if1 .left)
 
 ranged : (c : tie.Else1) → Ranged (turnedBack (start (c .before) .args .t1))
 ranged c = sound-test-ranged (turnedBack (start (c .before) .args .t1)) (holds c)
-
-cast-n : tie.Need-cast-n
-cast-n c = search needs
-
-amount-number-requires : tie.Need-amount-number-requires
-amount-number-requires c κs = search needs
 
 amount-sum-requires : tie.Need-amount-sum-requires
 amount-sum-requires c κs =
@@ -66,4 +57,4 @@ returns-2 c =
 pub amount-sum-spec : {M : Type 1} → statement M
 amount-sum-spec =
     tie.close
-    (tie.spec table-sound-requires returns cast-n amount-number-requires amount-sum-requires returns-2)
+    (tie.spec (λ c κs. search needs) returns (λ c. search needs) (λ c κs. search needs) amount-sum-requires returns-2)

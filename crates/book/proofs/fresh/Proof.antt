@@ -13,9 +13,6 @@ use Rattle.table.proofs.Turning.{turned-from}
 use Rattle.book.proofs.fresh.Statement.{statement}
 use Rattle.book.proofs.fresh.Tie as tie
 
-array-write-live : tie.Need-array-write-live
-array-write-live c = search needs
-
 -- each array as it is made
 abbrev marks : Marks
 marks = marksFrom (replicate 256 0) (set (replicate 256 false) 0 true) (replicate 256 0)
@@ -39,4 +36,4 @@ returns c =
     (ap (λ l. record { count = 1; serial = 0; rows = l; modes = replicate 256 false; needs = replicate 256 0; next = 1; numbers = replicate 256 0 }) (list-is (rowIn marks words) 256 noRow (freshBook .rows) refl (λ i l. row i)))
 
 pub fresh-spec : {M : Type 1} → statement M
-fresh-spec = tie.close (tie.spec array-write-live returns)
+fresh-spec = tie.close (tie.spec (λ c. search needs) returns)

@@ -18,9 +18,6 @@ use Rattle.book.proofs.NeedsAnswers.{needs-by, needs-unsound, needs-no-
 use Rattle.book.proofs.needs.Statement.{statement}
 use Rattle.book.proofs.needs.Tie as tie
 
-table-sound-requires : tie.Need-table-sound-requires
-table-sound-requires c κs = search needs
-
 -- where the call begins
 abbrev start : tie.After-table-sound → tie.Start
 start c = c .before .before .before .before .before .before .before .before .before .before
@@ -40,9 +37,6 @@ returns c =
 holds : (c : tie.Else1) → soundB (turnedBack (start (c .before) .args .t1)) ≡ true
 holds c = sym (tested (c .before)) ∙ not-false _ (c .if1 .left)
 
-cast-if2 : tie.Need-cast-if2
-cast-if2 c = search needs
-
 returns-2 : tie.Need-returns-2
 returns-2 c =
     let a = start (c .before .before) .args in
@@ -59,9 +53,6 @@ put-needs-requires c κs =
       (subst (λ w. NeedsKept w (t .needs)) (sym v) (s .kept), omega (arith, fits .if2 .left)),
     )
 
-same-length : tie.Need-same-length
-same-length c = search needs
-
 returns-3 : tie.Need-returns-3
 unfolding allNeeds
 returns-3 c =
@@ -75,11 +66,5 @@ returns-3 c =
 pub needs-spec : {M : Type 1} → statement M
 needs-spec =
     tie.close
-    (tie.spec
-    table-sound-requires
-    returns
-    cast-if2
-    returns-2
-    put-needs-requires
-    same-length
+    (tie.spec (λ c κs. search needs) returns (λ c. search needs) returns-2 put-needs-requires (λ c. search needs)
     returns-3)

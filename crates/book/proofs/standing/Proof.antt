@@ -21,12 +21,6 @@ use Rattle.book.proofs.StandingRefusals.{unsound-refused, dead-refused,
 use Rattle.book.proofs.standing.Statement.{statement}
 use Rattle.book.proofs.standing.Tie as tie
 
-table-sound-requires : tie.Need-table-sound-requires
-table-sound-requires c κs = search needs
-
-refused-requires : tie.Need-refused-requires
-refused-requires c κs = search needs
-
 -- where the call begins
 abbrev start : tie.After-table-sound → tie.Start
 start c = c .before .before .before .before .before .before .before .before .before
@@ -66,9 +60,6 @@ place-among-requires c κs =
     let s = sound→ (turnedBack (start (c .before .before) .args .t1)) (holds (c .before)) in
     record { most = s .most; up = s .numbered .rises }
 
-refused-requires-2 : tie.Need-refused-requires-2
-refused-requires-2 c κs = search needs
-
 -- an account that isn't live where its number names a place
 dead : (c : tie.After-place-among) → isLive (turnedBack (handed c)) (place c) ≡ false → standingRefusal (turnedBack (handed c)) (start (tried c .before) .args .account) ≡ 7
 dead c e =
@@ -81,9 +72,6 @@ returns-2 c =
     let b = turnedBack (handed at) in
     standing-by b (start (tried at .before) .args .account) 7 (dead at (simp (le-ltb (place at) (b .count) (c .before .if2 .taken)))) (c .refused2 .ensures)
 
-cast-i : tie.Need-cast-i
-cast-i c = search needs
-
 element-copy-out-if3 : tie.Need-element-copy-out-if3
 element-copy-out-if3 c = omega (arith, ranged (tried (c .before)) .most)
 
@@ -94,9 +82,6 @@ row : (c : tie.Else2) →
 row c =
     let t = handed (c .before) in
     row-in (marksOf t) (t .amounts) (place (c .before)) (omega (arith, ranged (tried (c .before)) .most, c .if2 .left))
-
-refused-requires-3 : tie.Need-refused-requires-3
-refused-requires-3 c κs = search needs
 
 returns-3 : tie.Need-returns-3
 returns-3 c =
@@ -147,19 +132,6 @@ returns-4 c =
 pub standing-spec : {M : Type 1} → statement M
 standing-spec =
     tie.close
-    (tie.spec
-    table-sound-requires
-    refused-requires
-    returns
-    place-among-requires
-    refused-requires-2
-    returns-2
-    cast-i
-    element-copy-out-if3
-    refused-requires-3
-    returns-3
-    element-copy-out-mode
-    mul-kept
-    element-copy-out-kept
-    figures-requires
-    returns-4)
+    (tie.spec (λ c κs. search needs) (λ c κs. search needs) returns place-among-requires (λ c κs. search needs)
+    returns-2 (λ c. search needs) element-copy-out-if3 (λ c κs. search needs) returns-3 element-copy-out-mode mul-kept
+    element-copy-out-kept figures-requires returns-4)

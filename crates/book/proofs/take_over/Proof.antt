@@ -1,5 +1,5 @@
 -- `book::take_over` meets its contract: 1 where the old rule's test or its cover fails, and otherwise the needs worked out afresh.
-use mathlib.Core.Bool.{Bool, true, false, _&&_, and-false}
+use mathlib.Core.Bool.{Bool, true, _&&_, and-false}
 use mathlib.Core.Path.{_≡_, refl, sym, ap, subst, _∙_}
 use native.Mathlib.Omega.{arith}
 use lib.Dec.{leb}
@@ -7,8 +7,7 @@ use lib.ListN.{getD}
 use borrow.Author.Needs.{needs}
 use borrow.Author.Tests.{lt-leb, le-leb, not-true, not-false}
 use Rattle.sums.proofs.Choices.{and-join, and-left, and-right}
-use Rattle.rows.specs.declared.Rule.the-variants.{Old, New}
-use Rattle.rows.specs.declared.Book.{Book}
+use Rattle.rows.specs.declared.Rule.the-variants.{Old}
 use Rattle.rows.specs.View.{needCM}
 use Rattle.rows.specs.Rows.{viewBy, view}
 use Rattle.rows.specs.Facts.{Shaped, NoneBeyond}
@@ -42,12 +41,6 @@ passed c = c .before .before .before .before
 abbrev handed : tie.After-table-kept → Table
 handed c = start c .args .t1
 
-sizes-requires : tie.Need-sizes-requires
-sizes-requires c κs = search needs
-
-table-kept-requires : tie.Need-table-kept-requires
-table-kept-requires c κs = search needs
-
 -- well formed, and its needs kept by the old rule
 abbrev keptOld : Table → Bool
 keptOld t = formedB (turnedBack t) && keptBy Old (turnedBack t)
@@ -76,9 +69,6 @@ account-at-requires : tie.Need-account-at-requires
 account-at-requires c κs =
     let e = c .before .before .before in
     (omega arith, ranged (handed (e .before)) (rows e) .ranges 0 (rows e .shaped .some))
-
-element-copy-out-if2 : tie.Need-element-copy-out-if2
-element-copy-out-if2 c = search needs
 
 -- the cover that is tested is the book's by the old rule
 covers : (c : tie.After-account-at) → (let t = handed (passed c .before) in coveredBy Old (turnedBack t) ≡ leb (getD (t .needs) 0 0) (c .account-at .result .collateral))
@@ -116,12 +106,5 @@ returns-3 c =
 pub take-over-spec : {M : Type 1} → statement M
 take-over-spec =
     tie.close
-    (tie.spec
-    sizes-requires
-    table-kept-requires
-    returns
-    account-at-requires
-    element-copy-out-if2
-    returns-2
-    needs-afresh-requires
-    returns-3)
+    (tie.spec (λ c κs. search needs) (λ c κs. search needs) returns account-at-requires (λ c. search needs) returns-2
+    needs-afresh-requires returns-3)

@@ -12,9 +12,6 @@ use Rattle.closeout.proofs.HeldRows.{held-sound, held-same}
 use Rattle.closeout.proofs.close_out.Statement.{statement}
 use Rattle.closeout.proofs.close_out.Tie as tie
 
-table-sound-requires : tie.Need-table-sound-requires
-table-sound-requires c κs = search needs
-
 -- where the call begins
 abbrev start : tie.After-table-sound → tie.Start
 start c = c .before .before .before .before .before .before .before .before .before .before .before
@@ -23,9 +20,6 @@ tested : (c : tie.After-table-sound) → c .table-sound .result ≡ soundB (turn
 tested c =
     let t = start c .args .t1 in
     c .table-sound .ensures ∙ sound-serial (t .count) (t .serial) (marksOf t) (t .amounts) (t .modes) (t .needs) (t .next) (t .numbers)
-
-refused-requires : tie.Need-refused-requires
-refused-requires c κs = search needs
 
 returns : tie.Need-returns
 returns c =
@@ -38,9 +32,6 @@ holds c = sym (tested (c .before)) ∙ not-false _ (c .if1 .left)
 close-out-at-requires : tie.Need-close-out-at-requires
 close-out-at-requires c κs = let e = c .before .before .before .before .before .before .before in held-sound (turnedBack (start (e .before) .args .t1)) (sound→ _ (holds e))
 
-same-length : tie.Need-same-length
-same-length c = search needs
-
 returns-2 : tie.Need-returns-2
 returns-2 c =
     let done = c .before .before in
@@ -52,4 +43,5 @@ returns-2 c =
 
 pub close-out-spec : {M : Type 1} → statement M
 close-out-spec =
-    tie.close (tie.spec table-sound-requires refused-requires returns close-out-at-requires same-length returns-2)
+    tie.close
+    (tie.spec (λ c κs. search needs) (λ c κs. search needs) returns close-out-at-requires (λ c. search needs) returns-2)

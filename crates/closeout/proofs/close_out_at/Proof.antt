@@ -37,19 +37,10 @@ Rm c = c .before .before .args .room .now
 sound : (c : In) → soundB (Bk c) ≡ true
 sound c = sound← _ (c .before .before .pre)
 
-refused-requires : tie.Need-refused-requires
-refused-requires c κs = search needs
-
 returns : tie.Need-returns
 returns c =
     let at = c .before .before in
     answer-by-refusal (Bk at) (Ls at) (Rm at) 15 (refused-losses (Bk at) (Ls at) (Rm at) (sound at) (ne-eqb _ _ (c .before .if1 .taken))) (c .refused .ensures) refl
-
-mul-if2 : tie.Need-mul-if2
-mul-if2 c = search needs
-
-refused-requires-2 : tie.Need-refused-requires-2
-refused-requires-2 c κs = search needs
 
 returns-2 : tie.Need-returns-2
 returns-2 c =
@@ -81,9 +72,6 @@ losses-tested c =
 good : (c : tie.Else3) → goodLosses (Bk (of (c .before .before))) (Ls (of (c .before .before))) ≡ true
 good c = losses-tested (c .before) ∙ not-false _ (c .if3 .left)
 
-refused-requires-3 : tie.Need-refused-requires-3
-refused-requires-3 c κs = search needs
-
 returns-3 : tie.Need-returns-3
 returns-3 c =
     let tests = c .before .before .before in
@@ -95,9 +83,6 @@ fill-requires c κs =
     let tests = c .before .before .before in
     record { sound = sound→ _ (sound (of tests)); each = tests .before .if1 .left; wide = tests .if2 .left; small = losses-small (Bk (of tests)) (Ls (of tests)) (good (c .before)) }
 
-same-length : tie.Need-same-length
-same-length c = search needs
-
 returns-4 : tie.Need-returns-4
 returns-4 c =
     let tests = c .before .before .before .before .before .before in
@@ -108,15 +93,5 @@ returns-4 c =
 pub close-out-at-spec : {M : Type 1} → statement M
 close-out-at-spec =
     tie.close
-    (tie.spec
-    refused-requires
-    returns
-    mul-if2
-    refused-requires-2
-    returns-2
-    good-losses-requires
-    refused-requires-3
-    returns-3
-    fill-requires
-    same-length
-    returns-4)
+    (tie.spec (λ c κs. search needs) returns (λ c. search needs) (λ c κs. search needs) returns-2 good-losses-requires
+    (λ c κs. search needs) returns-3 fill-requires (λ c. search needs) returns-4)

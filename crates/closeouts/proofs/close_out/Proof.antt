@@ -15,39 +15,15 @@ fits c =
     let a = c .before .before .before .args in
     text-within-room _ (textOf (turnedBack (a .t)) (take (a .count) (a .list))) _ _ (c .close-out-text .ensures .0) (c .close-out-text .ensures .1)
 
-array-share-prefix-losses : tie.Need-array-share-prefix-losses
-array-share-prefix-losses c = search needs
-
-slice-aggregate-close-out-text : tie.Need-slice-aggregate-close-out-text
-slice-aggregate-close-out-text c = sym (length-take-le _ _ (search needs))
-
-close-out-text-requires : tie.Need-close-out-text-requires
-close-out-text-requires c κs = search needs
-
 array-share-prefix-room : tie.Need-array-share-prefix-room
 array-share-prefix-room c = fits (c .before)
-
-slice-aggregate-write-output : tie.Need-slice-aggregate-write-output
-slice-aggregate-write-output c = search needs
 
 slice-aggregate-write-output-2 : tie.Need-slice-aggregate-write-output-2
 slice-aggregate-write-output-2 c = sym (length-take-le _ _ (fits (c .before .before)))
 
-write-output-requires : tie.Need-write-output-requires
-write-output-requires c κs = search needs
-
-returns : tie.Need-returns
-returns c = search needs
-
 pub close-out-spec : {M : Type 1} → statement M
 close-out-spec =
     tie.close
-    (tie.spec
-    array-share-prefix-losses
-    slice-aggregate-close-out-text
-    close-out-text-requires
-    slice-aggregate-write-output
-    array-share-prefix-room
-    slice-aggregate-write-output-2
-    write-output-requires
-    returns)
+    (tie.spec (λ c. search needs) (λ c. sym (length-take-le _ _ (search needs))) (λ c κs. search needs)
+    (λ c. search needs) array-share-prefix-room slice-aggregate-write-output-2 (λ c κs. search needs)
+    (λ c. search needs))

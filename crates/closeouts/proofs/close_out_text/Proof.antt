@@ -20,32 +20,14 @@ exact c = c .close-out .kept .1 .1 .0 ∙ length-take-le _ _ (wide (c .before .b
 front : (c : tie.After-amounts2) → 4 * c .before .before .before .accounts .result ≤ length (c .before .close-out .last .1 .1 .0 ++ drop (4 * c .before .before .before .accounts .result) (c .before .before .before .before .zeros .result))
 front c = omega (arith, exact (c .before), length-append (c .before .close-out .last .1 .1 .0) (drop (4 * c .before .before .before .accounts .result) (c .before .before .before .before .zeros .result)))
 
-zeros-requires : tie.Need-zeros-requires
-zeros-requires c κs = search needs
-
-accounts-requires : tie.Need-accounts-requires
-accounts-requires c κs = search needs
-
-mul-wanted : tie.Need-mul-wanted
-mul-wanted c = search needs
-
-array-borrow-prefix-amounts : tie.Need-array-borrow-prefix-amounts
-array-borrow-prefix-amounts c = search needs
-
 slice-aggregate-close-out : tie.Need-slice-aggregate-close-out
 slice-aggregate-close-out c = sym (length-take-le _ _ (wide (c .before)))
-
-close-out-requires : tie.Need-close-out-requires
-close-out-requires c κs = search needs
 
 array-share-prefix-amounts : tie.Need-array-share-prefix-amounts
 array-share-prefix-amounts c = front (c .before .before)
 
 slice-aggregate-close-out-text : tie.Need-slice-aggregate-close-out-text
 slice-aggregate-close-out-text c = sym (length-take-le _ _ (front (c .before .before .before)))
-
-close-out-text-requires : tie.Need-close-out-text-requires
-close-out-text-requires c κs = search needs
 
 returns : tie.Need-returns
 returns c =
@@ -56,14 +38,6 @@ returns c =
 pub close-out-text-spec : {M : Type 1} → statement M
 close-out-text-spec =
     tie.close
-    (tie.spec
-    zeros-requires
-    accounts-requires
-    mul-wanted
-    array-borrow-prefix-amounts
-    slice-aggregate-close-out
-    close-out-requires
-    array-share-prefix-amounts
-    slice-aggregate-close-out-text
-    close-out-text-requires
-    returns)
+    (tie.spec (λ c κs. search needs) (λ c κs. search needs) (λ c. search needs) (λ c. search needs)
+    slice-aggregate-close-out (λ c κs. search needs) array-share-prefix-amounts slice-aggregate-close-out-text
+    (λ c κs. search needs) returns)

@@ -7,11 +7,8 @@ use Rattle.codes.proofs.alive.Tie as tie
 returns : tie.Need-returns
 returns c = rw (le-ltb (c .before .args .a) (c .before .args .count) (c .if1 .taken))
 
-element-copy-out-result : tie.Need-element-copy-out-result
-element-copy-out-result c = search needs
-
 returns-2 : tie.Need-returns-2
 returns-2 c = rw (lt-ltb (c .before .before .args .a) (c .before .before .args .count) (c .before .if1 .left))
 
 pub alive-spec : {M : Type 1} → statement M
-alive-spec = tie.close (tie.spec returns element-copy-out-result returns-2)
+alive-spec = tie.close (tie.spec returns (λ c. search needs) returns-2)

@@ -14,17 +14,11 @@ marks s = marksFrom (s .args .sort .now) (s .args .live .now) (s .args .tm .now)
 abbrev under : tie.Start → List ℕ
 under s = deemedUnderIn (s .args .w .now) (s .args .needs .now)
 
-cast-i : tie.Need-cast-i
-cast-i c = search needs
-
 receive-requires : tie.Need-receive-requires
 receive-requires c κs =
     let pre = c .before .before .before .before .pre in
     let h = pre .held in
     (h .size, h .inside, h .ranges _ (h .inside), pre .amounts .kinds)
-
-hand-back-requires : tie.Need-hand-back-requires
-hand-back-requires c κs = search needs
 
 allocate-requires : tie.Need-allocate-requires
 allocate-requires c κs =
@@ -32,29 +26,11 @@ allocate-requires c κs =
     let h = pre .held in
     (h .size, h .inside, h .ranges _ (h .inside), pre .amounts .kinds)
 
-release-requires : tie.Need-release-requires
-release-requires c κs = search needs
-
 pledge-requires : tie.Need-pledge-requires
 pledge-requires c κs =
     let pre = c .before .before .before .before .pre in
     let h = pre .held in
     (h .size, h .inside, h .ranges _ (h .inside), pre .amounts .pledged)
-
-unpledge-requires : tie.Need-unpledge-requires
-unpledge-requires c κs = search needs
-
-set-margin-requires : tie.Need-set-margin-requires
-set-margin-requires c κs = search needs
-
-set-pledged-requires : tie.Need-set-pledged-requires
-set-pledged-requires c κs = search needs
-
-revise-margin-requires : tie.Need-revise-margin-requires
-revise-margin-requires c κs = search needs
-
-retire-requires : tie.Need-retire-requires
-retire-requires c κs = search needs
 
 returns : tie.Need-returns
 returns c =
@@ -111,25 +87,7 @@ returns-10 c =
 pub amend-spec : {M : Type 1} → statement M
 amend-spec =
     tie.close
-    (tie.spec
-    cast-i
-    receive-requires
-    hand-back-requires
-    allocate-requires
-    release-requires
-    pledge-requires
-    unpledge-requires
-    set-margin-requires
-    set-pledged-requires
-    revise-margin-requires
-    retire-requires
-    returns
-    returns-2
-    returns-3
-    returns-4
-    returns-5
-    returns-6
-    returns-7
-    returns-8
-    returns-9
+    (tie.spec (λ c. search needs) receive-requires (λ c κs. search needs) allocate-requires (λ c κs. search needs)
+    pledge-requires (λ c κs. search needs) (λ c κs. search needs) (λ c κs. search needs) (λ c κs. search needs)
+    (λ c κs. search needs) returns returns-2 returns-3 returns-4 returns-5 returns-6 returns-7 returns-8 returns-9
     returns-10)

@@ -15,17 +15,11 @@ returns : tie.Need-returns
 unfolding earlyNumber
 returns c = sym (first-here 3 _ _ (ap not (ne-eqb _ _ (c .if1 .taken))))
 
-fault-of-requires : tie.Need-fault-of-requires
-fault-of-requires c κs = search needs
-
 returns-2 : tie.Need-returns-2
 unfolding earlyNumber faultOf
 returns-2 c =
     let e = c .before .fault-of .ensures in
     e ∙ sym (first-later 3 _ _ (ap not (eq-eqb _ _ (c .before .before .if1 .left))) ∙ first-some (faults (c .before .before .before .before .args .r)) _ (λ z. (c .if2) .taken (e ∙ z)))
-
-alive-requires : tie.Need-alive-requires
-alive-requires c κs = search needs
 
 returns-3 : tie.Need-returns-3
 unfolding pick
@@ -42,5 +36,4 @@ returns-4 c =
     ∙ rw (← (c .before .alive .ensures), c .if3 .left))
 
 pub early-spec : {M : Type 1} → statement M
-early-spec =
-    tie.close (tie.spec returns fault-of-requires returns-2 alive-requires returns-3 returns-4)
+early-spec = tie.close (tie.spec returns (λ c κs. search needs) returns-2 (λ c κs. search needs) returns-3 returns-4)

@@ -15,9 +15,6 @@ use Rattle.currency.proofs.margin.Tie as tie
 returns : tie.Need-returns
 returns c = made-named _ _ _ _ _ _ (sym (too-many _ _ _ _ _ (c .if1 .taken)))
 
-first-fault-requires : tie.Need-first-fault-requires
-first-fault-requires c κs = search needs
-
 returns-2 : tie.Need-returns-2
 returns-2 c =
     let f = c .before .first-fault .ensures in
@@ -27,9 +24,6 @@ returns-3 : tie.Need-returns-3
 returns-3 c =
     let f = c .before .before in
     made-named _ _ _ _ _ _ (sym (initial-past _ _ _ _ _ (f .before .if1 .left) (sym (f .first-fault .ensures) ∙ c .before .if2 .left) (c .if3 .taken)))
-
-charged-requires : tie.Need-charged-requires
-charged-requires c κs = search needs
 
 add-sum : tie.Need-add-sum
 add-sum c =
@@ -48,9 +42,6 @@ returns-4 c =
     let sum = ap (λ x. a .initial + x) (d .charged .ensures) in
     made-named _ _ _ _ _ _ (sym (sum-past _ _ _ _ _ (f .before .if1 .left) (sym (f .first-fault .ensures) ∙ d .before .before .if2 .left) (d .before .if3 .left) (omega (arith, sum))))
 
-record-of-requires : tie.Need-record-of-requires
-record-of-requires c κs = search needs
-
 returns-5 : tie.Need-returns-5
 unfolding sumOf
 returns-5 c =
@@ -65,13 +56,5 @@ returns-5 c =
 pub margin-spec : {M : Type 1} → statement M
 margin-spec =
     tie.close
-    (tie.spec
-    returns
-    first-fault-requires
-    returns-2
-    returns-3
-    charged-requires
-    add-sum
-    returns-4
-    record-of-requires
-    returns-5)
+    (tie.spec returns (λ c κs. search needs) returns-2 returns-3 (λ c κs. search needs) add-sum returns-4
+    (λ c κs. search needs) returns-5)

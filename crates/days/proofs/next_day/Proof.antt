@@ -18,29 +18,8 @@ within c =
     let e = length-front b (c .read-input .last .1 .0) n (c .read-input .kept .1 .0) in
     omega (arith, e, c .before .before .before .before .before .before .buffer .ensures)
 
-buffer-requires : tie.Need-buffer-requires
-buffer-requires c κs = search needs
-
-size-requires : tie.Need-size-requires
-size-requires c κs = search needs
-
-returns : tie.Need-returns
-returns c = search needs
-
-array-borrow-prefix-room : tie.Need-array-borrow-prefix-room
-array-borrow-prefix-room c = search needs
-
-slice-aggregate-read-input : tie.Need-slice-aggregate-read-input
-slice-aggregate-read-input c = search needs
-
 slice-aggregate-read-input-2 : tie.Need-slice-aggregate-read-input-2
 slice-aggregate-read-input-2 c = sym (length-take-le _ _ (omega arith))
-
-read-input-requires : tie.Need-read-input-requires
-read-input-requires c κs = search needs
-
-returns-2 : tie.Need-returns-2
-returns-2 c = search needs
 
 array-share-prefix-room : tie.Need-array-share-prefix-room
 array-share-prefix-room c = within (c .before .before .before)
@@ -48,25 +27,9 @@ array-share-prefix-room c = within (c .before .before .before)
 slice-aggregate-run-day : tie.Need-slice-aggregate-run-day
 slice-aggregate-run-day c = sym (length-take-le _ _ (within (c .before .before .before .before)))
 
-run-day-requires : tie.Need-run-day-requires
-run-day-requires c κs = search needs
-
-returns-3 : tie.Need-returns-3
-returns-3 c = search needs
-
 pub next-day-spec : {M : Type 1} → statement M
 next-day-spec =
     tie.close
-    (tie.spec
-    buffer-requires
-    size-requires
-    returns
-    slice-aggregate-read-input
-    array-borrow-prefix-room
-    slice-aggregate-read-input-2
-    read-input-requires
-    returns-2
-    array-share-prefix-room
-    slice-aggregate-run-day
-    run-day-requires
-    returns-3)
+    (tie.spec (λ c κs. search needs) (λ c κs. search needs) (λ c. search needs) (λ c. search needs) (λ c. search needs)
+    slice-aggregate-read-input-2 (λ c κs. search needs) (λ c. search needs) array-share-prefix-room
+    slice-aggregate-run-day (λ c κs. search needs) (λ c. search needs))

@@ -9,12 +9,6 @@ use borrow.Author.Needs.{needs}
 use Rattle.desk.proofs.carry_out.Statement.{statement}
 use Rattle.desk.proofs.carry_out.Tie as tie
 
-is-sound-requires : tie.Need-is-sound-requires
-is-sound-requires c κs = search needs
-
-stays-requires : tie.Need-stays-requires
-stays-requires c κs = search needs
-
 returns : tie.Need-returns
 returns c = done-named _ _ _ (c .stays .ensures ∙ ap overDone (unsound-step _ _ (sym (c .before .before .is-sound .ensures) ∙ not-true _ (c .before .if1 .taken))))
 
@@ -25,4 +19,4 @@ returns-2 : tie.Need-returns-2
 returns-2 c = done-named _ _ _ (c .step-at .ensures)
 
 pub carry-out-spec : {M : Type 1} → statement M
-carry-out-spec = tie.close (tie.spec is-sound-requires stays-requires returns step-at-requires returns-2)
+carry-out-spec = tie.close (tie.spec (λ c κs. search needs) (λ c κs. search needs) returns step-at-requires returns-2)

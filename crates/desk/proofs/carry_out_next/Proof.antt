@@ -23,15 +23,6 @@ tested c = sym (c .before .is-sound .ensures) ∙ not-false _ (c .if1 .left)
 abbrev placed : ℕ → Carried → CarriedNext
 placed place d = record { answer = d .answer; table = d .table; place = place }
 
-is-sound-requires : tie.Need-is-sound-requires
-is-sound-requires c κs = search needs
-
-stays-requires : tie.Need-stays-requires
-stays-requires c κs = search needs
-
-at-requires : tie.Need-at-requires
-at-requires c κs = search needs
-
 returns : tie.Need-returns
 returns c =
     let a = c .before .before .before .before .before .args in
@@ -39,35 +30,8 @@ returns c =
     (c .at .ensures ∙ ap (placed (a .place)) (c .before .stays .ensures)
     ∙ ap overNext (unsound-next _ (a .piece .now) (a .place) (sym (c .before .before .before .is-sound .ensures) ∙ not-true _ (c .before .before .if1 .taken))))
 
-found-at-requires : tie.Need-found-at-requires
-found-at-requires c κs = search needs
-
-enum-told : tie.Need-enum-told
-enum-told c = search needs
-
-stays-requires-2 : tie.Need-stays-requires-2
-stays-requires-2 c κs = search needs
-
-at-requires-2 : tie.Need-at-requires-2
-at-requires-2 c κs = search needs
-
-enum-told-2 : tie.Need-enum-told-2
-enum-told-2 c = search needs
-
-stays-requires-3 : tie.Need-stays-requires-3
-stays-requires-3 c κs = search needs
-
-at-requires-3 : tie.Need-at-requires-3
-at-requires-3 c κs = search needs
-
-enum-known-found : tie.Need-enum-known-found
-enum-known-found c = search needs
-
 step-at-requires : tie.Need-step-at-requires
 step-at-requires c κs = sound→ _ (tested (c .before .before .before .before))
-
-at-requires-4 : tie.Need-at-requires-4
-at-requires-4 c κs = search needs
 
 returns-2 : tie.Need-returns-2
 returns-2 c =
@@ -96,21 +60,6 @@ returns-4 c =
 pub carry-out-next-spec : {M : Type 1} → statement M
 carry-out-next-spec =
     tie.close
-    (tie.spec
-    is-sound-requires
-    stays-requires
-    at-requires
-    returns
-    found-at-requires
-    enum-told
-    stays-requires-2
-    at-requires-2
-    enum-told-2
-    stays-requires-3
-    at-requires-3
-    enum-known-found
-    step-at-requires
-    at-requires-4
-    returns-2
-    returns-3
-    returns-4)
+    (tie.spec (λ c κs. search needs) (λ c κs. search needs) (λ c κs. search needs) returns (λ c κs. search needs)
+    (λ c. search needs) (λ c κs. search needs) (λ c κs. search needs) (λ c. search needs) (λ c κs. search needs)
+    (λ c κs. search needs) (λ c. search needs) step-at-requires (λ c κs. search needs) returns-2 returns-3 returns-4)

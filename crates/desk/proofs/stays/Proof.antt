@@ -1,5 +1,5 @@
 -- `desk::stays` meets its contract.
-use mathlib.Core.Path.{_≡_, sym, ap, _∙_}
+use mathlib.Core.Path.{sym, ap, _∙_}
 use borrow.Author.Needs.{needs}
 use Rattle.table.specs.declared.Table.{Table}
 use Rattle.table.proofs.Turning.{back-and-over}
@@ -8,12 +8,6 @@ use Rattle.desk.specs.Answers.{nobody}
 use Rattle.desk.proofs.stays.Statement.{statement}
 use Rattle.desk.proofs.stays.Tie as tie
 
-sizes-requires : tie.Need-sizes-requires
-sizes-requires c κs = search needs
-
-about-nobody-requires : tie.Need-about-nobody-requires
-about-nobody-requires c κs = search needs
-
 returns : tie.Need-returns
 returns c =
     let a = c .before .before .before .before .before .before .args in
@@ -21,4 +15,4 @@ returns c =
     ∙ ap (λ (x : Table). record { answer = nobody (a .outcome); table = x }) (sym (back-and-over (a .t) (c .before .sizes .ensures)))
 
 pub stays-spec : {M : Type 1} → statement M
-stays-spec = tie.close (tie.spec sizes-requires about-nobody-requires returns)
+stays-spec = tie.close (tie.spec (λ c κs. search needs) (λ c κs. search needs) returns)

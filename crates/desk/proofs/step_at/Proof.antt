@@ -1,5 +1,5 @@
 -- `desk::step_at` meets its contract: the arrays of a sound table may make a step (`Entering`), and what the step leaves is the book after it, turned over.
-use mathlib.Core.Path.{_≡_, refl, ap, _∙_}
+use mathlib.Core.Path.{refl, ap, _∙_}
 use borrow.Author.Needs.{needs}
 use Rattle.sums.specs.Choice.{pick}
 use Rattle.table.specs.Words.{marksFrom, marksOf, bookFrom}
@@ -24,15 +24,6 @@ looked k = k .before .before
 
 abbrev kept : tie.After-step → tie.After-collaterals
 kept s = s .before .before .before .before .before .before .before .before .before .before .before
-
-sizes-requires : tie.Need-sizes-requires
-sizes-requires c κs = search needs
-
-size-requires : tie.Need-size-requires
-size-requires c κs = search needs
-
-size-requires-2 : tie.Need-size-requires-2
-size-requires-2 c κs = search needs
 
 deemed-under-requires : tie.Need-deemed-under-requires
 deemed-under-requires c κs =
@@ -65,15 +56,6 @@ step-requires c κs =
     let t = s .args .t in
     sound-enters (t .count) (t .serial) (marksOf t) (t .amounts) (t .modes) (t .needs) (t .next) (t .numbers) (s .pre) (z .before .before .sizes .ensures) (z .before .size .ensures) (z .size2 .ensures) _ (k .collaterals .ensures) _ _ (u .deemed-under .ensures) (l .look-all .ensures)
 
-outcome-of-requires : tie.Need-outcome-of-requires
-outcome-of-requires c κs = search needs
-
-on-requires : tie.Need-on-requires
-on-requires c κs = search needs
-
-modes-of-requires : tie.Need-modes-of-requires
-modes-of-requires c κs = search needs
-
 returns : tie.Need-returns
 unfolding pick
 returns c =
@@ -91,15 +73,6 @@ returns c =
 pub step-at-spec : {M : Type 1} → statement M
 step-at-spec =
     tie.close
-    (tie.spec
-    sizes-requires
-    size-requires
-    size-requires-2
-    deemed-under-requires
-    look-all-requires
-    collaterals-requires
-    step-requires
-    outcome-of-requires
-    on-requires
-    modes-of-requires
-    returns)
+    (tie.spec (λ c κs. search needs) (λ c κs. search needs) (λ c κs. search needs) deemed-under-requires
+    look-all-requires collaterals-requires step-requires (λ c κs. search needs) (λ c κs. search needs)
+    (λ c κs. search needs) returns)

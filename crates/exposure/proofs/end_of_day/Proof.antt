@@ -15,9 +15,6 @@ tested c =
     let f = c .before .fits in
     c .all-in-range .ensures ∙ (λ i. allInRange (toZ-ofZ (f .premium) i) (toZ-ofZ (f .loss) i) (toZ-ofZ (f .exercise) i) (toZ-ofZ (f .settlement) i))
 
-all-in-range-requires : tie.Need-all-in-range-requires
-all-in-range-requires c κs = search needs
-
 returns : tie.Need-returns
 unfolding exposureOf
 returns c = pick-second _ (sym (tested (c .before)) ∙ not-true _ (c .if1 .taken)) refl
@@ -34,4 +31,4 @@ returns-2 c =
     pick-first _ (sym (tested t) ∙ not-false _ (c .before .if1 .left)) (ap (λ n. record { refusal = 0; amount = n }) amount)
 
 pub end-of-day-spec : {M : Type 1} → statement M
-end-of-day-spec = tie.close (tie.spec all-in-range-requires returns amount-of-requires returns-2)
+end-of-day-spec = tie.close (tie.spec (λ c κs. search needs) returns amount-of-requires returns-2)

@@ -8,9 +8,6 @@ use borrow.Author.Needs.{needs}
 use Rattle.exposure.proofs.intraday.Statement.{statement}
 use Rattle.exposure.proofs.intraday.Tie as tie
 
-end-of-day-requires : tie.Need-end-of-day-requires
-end-of-day-requires c κs = search needs
-
 returns : tie.Need-returns
 returns c =
     let s = c .before in
@@ -19,4 +16,4 @@ returns c =
     ∙ nothing-added (s .args .premium) (s .args .loss)
 
 pub intraday-spec : {M : Type 1} → statement M
-intraday-spec = tie.close (tie.spec end-of-day-requires returns)
+intraday-spec = tie.close (tie.spec (λ c κs. search needs) returns)

@@ -16,12 +16,6 @@ exposed c =
     let f = c .before .fits in
     c .end-of-day .ensures ∙ (λ i. exposureOf (toZ-ofZ (f .premium) i) (toZ-ofZ (f .loss) i) (toZ-ofZ (f .exercise) i) (toZ-ofZ (f .settlement) i))
 
-end-of-day-requires : tie.Need-end-of-day-requires
-end-of-day-requires c κs = search needs
-
-margin-requires : tie.Need-margin-requires
-margin-requires c κs = search needs
-
 with-exposure-requires : tie.Need-with-exposure-requires
 with-exposure-requires c κs =
     let a = c .before .before .args in (
@@ -39,5 +33,4 @@ returns c =
     ∙ joined-is (a .premium) (a .loss) (a .exercise) (a .settlement) (a .serial) (a .account) (a .initial) (a .positions) (a .number))
 
 pub margin-spec : {M : Type 1} → statement M
-margin-spec =
-    tie.close (tie.spec end-of-day-requires margin-requires with-exposure-requires returns)
+margin-spec = tie.close (tie.spec (λ c κs. search needs) (λ c κs. search needs) with-exposure-requires returns)

@@ -8,12 +8,6 @@ use Rattle.feed.proofs.Feeding.{unsound-came}
 use Rattle.feed.proofs.whole_day.Statement.{statement}
 use Rattle.feed.proofs.whole_day.Tie as tie
 
-is-sound-requires : tie.Need-is-sound-requires
-is-sound-requires c κs = search needs
-
-unsound-requires : tie.Need-unsound-requires
-unsound-requires c κs = search needs
-
 returns : tie.Need-returns
 returns c =
     let b = turnedBack (c .before .before .before .before .args .t) in
@@ -26,4 +20,4 @@ returns-2 : tie.Need-returns-2
 returns-2 c = c .in-turns .ensures
 
 pub whole-day-spec : {M : Type 1} → statement M
-whole-day-spec = tie.close (tie.spec is-sound-requires unsound-requires returns in-turns-requires returns-2)
+whole-day-spec = tie.close (tie.spec (λ c κs. search needs) (λ c κs. search needs) returns in-turns-requires returns-2)

@@ -6,22 +6,11 @@ use borrow.Author.Needs.{needs}
 use Rattle.gaps.proofs.slide_mode.Statement.{statement}
 use Rattle.gaps.proofs.slide_mode.Tie as tie
 
-element-copy-out-x : tie.Need-element-copy-out-x
-element-copy-out-x c = search needs
-
-element-write-modes : tie.Need-element-write-modes
-element-write-modes c = search needs
-
 returns : tie.Need-returns
 returns c = pick-second _ (not-true _ (c .if1 .taken)) refl
-
-element-write-modes-2 : tie.Need-element-write-modes-2
-element-write-modes-2 c = search needs
 
 returns-2 : tie.Need-returns-2
 returns-2 c = pick-first _ (not-false _ (c .if1 .left)) refl
 
 pub slide-mode-spec : {M : Type 1} → statement M
-slide-mode-spec =
-    tie.close
-    (tie.spec element-copy-out-x element-write-modes returns element-write-modes-2 returns-2)
+slide-mode-spec = tie.close (tie.spec (λ c. search needs) (λ c. search needs) returns (λ c. search needs) returns-2)

@@ -14,15 +14,6 @@ read c = c .before .before .before .before .before .before
 abbrev start : tie.After-row-at → tie.Start
 start c = c .before .before .before .before .before
 
-row-at-requires : tie.Need-row-at-requires
-row-at-requires c κs = search needs
-
-no-row-requires : tie.Need-no-row-requires
-no-row-requires c κs = search needs
-
-put-row-requires : tie.Need-put-row-requires
-put-row-requires c κs = search needs
-
 returns : tie.Need-returns
 returns c =
     let out = c .before .before in
@@ -30,19 +21,10 @@ returns c =
     let s = start row in
     slid-off (s .pre .0) (s .pre .1) (row .row-at .ensures) (out .before .no-row .ensures) (out .put-row .ensures) (not-true _ (c .if1 .taken))
 
-cast-t : tie.Need-cast-t
-cast-t c = search needs
-
-mul-t : tie.Need-mul-t
-mul-t c = search needs
-
 element-copy-out-t : tie.Need-element-copy-out-t
 element-copy-out-t c =
     let row = read (c .before .before .before) in
     omega (arith, ap (λ r. r .tm) (row .row-at .ensures), start row .pre .3)
-
-with-tm-requires : tie.Need-with-tm-requires
-with-tm-requires c κs = search needs
 
 put-row-requires-2 : tie.Need-put-row-requires-2
 put-row-requires-2 c κs = start (read (c .before .before .before .before .before .before .before .before .before)) .pre .2
@@ -59,14 +41,5 @@ returns-2 c =
 pub slide-row-spec : {M : Type 1} → statement M
 slide-row-spec =
     tie.close
-    (tie.spec
-    row-at-requires
-    no-row-requires
-    put-row-requires
-    returns
-    cast-t
-    mul-t
-    element-copy-out-t
-    with-tm-requires
-    put-row-requires-2
-    returns-2)
+    (tie.spec (λ c κs. search needs) (λ c κs. search needs) (λ c κs. search needs) returns (λ c. search needs)
+    (λ c. search needs) element-copy-out-t (λ c κs. search needs) put-row-requires-2 returns-2)

@@ -4,11 +4,8 @@ use Rattle.text.proofs.Puts.{puts-at-start}
 use Rattle.lines.proofs.closing_line.Statement.{statement}
 use Rattle.lines.proofs.closing_line.Tie as tie
 
-put-closing-requires : tie.Need-put-closing-requires
-put-closing-requires c κs = search needs
-
 returns : tie.Need-returns
 returns c = puts-at-start (c .put-closing .ensures)
 
 pub closing-line-spec : {M : Type 1} → statement M
-closing-line-spec = tie.close (tie.spec put-closing-requires returns)
+closing-line-spec = tie.close (tie.spec (λ c κs. search needs) returns)

@@ -12,18 +12,6 @@ use Rattle.lines.proofs.Records.{read-most, lines-left}
 use Rattle.lines.proofs.lines.Statement.{statement}
 use Rattle.lines.proofs.lines.Tie as tie
 
-limit-requires : tie.Need-limit-requires
-limit-requires c κs = search needs
-
-slice-aggregate-day-with-numbers : tie.Need-slice-aggregate-day-with-numbers
-slice-aggregate-day-with-numbers c = search needs
-
-day-with-numbers-requires : tie.Need-day-with-numbers-requires
-day-with-numbers-requires c κs = search needs
-
-slice-aggregate-put-lines : tie.Need-slice-aggregate-put-lines
-slice-aggregate-put-lines c = search needs
-
 -- the room for the records' numbers, before they are put
 abbrev blank : List ℕ
 blank = replicate 10240 0
@@ -42,9 +30,6 @@ put-lines-requires c κs =
       omega (arith, ap (λ x. x .read) (d .ensures .0), read-most (turnedBack (a .t)) (a .piece .now) (roomFor (l .result) blank)),
     )
 
-same-length : tie.Need-same-length
-same-length c = search needs
-
 returns : tie.Need-returns
 returns c =
     let a = c .before .before .before .before .before .before .before .before .before .before .before .before .before .args in
@@ -56,11 +41,5 @@ returns c =
 pub lines-spec : {M : Type 1} → statement M
 lines-spec =
     tie.close
-    (tie.spec
-    limit-requires
-    slice-aggregate-day-with-numbers
-    day-with-numbers-requires
-    slice-aggregate-put-lines
-    put-lines-requires
-    same-length
-    returns)
+    (tie.spec (λ c κs. search needs) (λ c. search needs) (λ c κs. search needs) (λ c. search needs) put-lines-requires
+    (λ c. search needs) returns)

@@ -12,20 +12,10 @@ asked : (c : tie.After-put-lines) → (let l = c .before .before in let a = l .b
     l .least2 .result ≡ fitting (a .count) (a .numbers .now) (a .room .now))
 asked c = let l = c .before .before in l .least2 .ensures ∙ ap (min (l .before .before .before .before .args .count)) (l .before .least .ensures)
 
-least-requires : tie.Need-least-requires
-least-requires c κs = search needs
-
-least-requires-2 : tie.Need-least-requires-2
-least-requires-2 c κs = search needs
-
-put-lines-requires : tie.Need-put-lines-requires
-put-lines-requires c κs = search needs
-
-same-length : tie.Need-same-length
-same-length c = search needs
-
 returns : tie.Need-returns
 returns c = let p = c .before .before in rw (← (asked p)) (puts-at-start (p .put-lines .ensures))
 
 pub lines-of-numbers-spec : {M : Type 1} → statement M
-lines-of-numbers-spec = tie.close (tie.spec least-requires least-requires-2 put-lines-requires same-length returns)
+lines-of-numbers-spec =
+    tie.close
+    (tie.spec (λ c κs. search needs) (λ c κs. search needs) (λ c κs. search needs) (λ c. search needs) returns)

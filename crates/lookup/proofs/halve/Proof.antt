@@ -6,21 +6,6 @@ use borrow.Author.Needs.{needs}
 use Rattle.lookup.proofs.halve.Statement.{statement}
 use Rattle.lookup.proofs.halve.Tie as tie
 
-add-last : tie.Need-add-last
-add-last c = search needs
-
-sub-last : tie.Need-sub-last
-sub-last c = search needs
-
-mul-up : tie.Need-mul-up
-mul-up c = search needs
-
-element-copy-out-up : tie.Need-element-copy-out-up
-element-copy-out-up c = search needs
-
-add-result : tie.Need-add-result
-add-result c = search needs
-
 returns : tie.Need-returns
 returns c =
     let start = c .before .before in
@@ -37,4 +22,6 @@ returns-2 c =
 
 pub halve-spec : {M : Type 1} → statement M
 halve-spec =
-    tie.close (tie.spec add-last sub-last mul-up element-copy-out-up add-result returns returns-2)
+    tie.close
+    (tie.spec (λ c. search needs) (λ c. search needs) (λ c. search needs) (λ c. search needs) (λ c. search needs)
+    returns returns-2)

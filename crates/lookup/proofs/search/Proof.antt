@@ -11,33 +11,6 @@ use Rattle.lookup.proofs.search.Tie as tie
 halve-requires : tie.Need-halve-requires
 halve-requires c κs = (c .pre, record { inside = omega arith; there = λ j l e. (omega arith, omega (arith, c .pre .most)) }, omega arith)
 
-halve-requires-2 : tie.Need-halve-requires-2
-halve-requires-2 c κs = search needs
-
-halve-requires-3 : tie.Need-halve-requires-3
-halve-requires-3 c κs = search needs
-
-halve-requires-4 : tie.Need-halve-requires-4
-halve-requires-4 c κs = search needs
-
-halve-requires-5 : tie.Need-halve-requires-5
-halve-requires-5 c κs = search needs
-
-halve-requires-6 : tie.Need-halve-requires-6
-halve-requires-6 c κs = search needs
-
-halve-requires-7 : tie.Need-halve-requires-7
-halve-requires-7 c κs = search needs
-
-halve-requires-8 : tie.Need-halve-requires-8
-halve-requires-8 c κs = search needs
-
-mul-if1 : tie.Need-mul-if1
-mul-if1 c = search needs
-
-element-copy-out-if1 : tie.Need-element-copy-out-if1
-element-copy-out-if1 c = search needs
-
 cast-result : tie.Need-cast-result
 cast-result c = omega (arith, c .before .before .halve8 .ensures .inside)
 
@@ -58,17 +31,6 @@ returns-2 c =
 pub search-spec : {M : Type 1} → statement M
 search-spec =
     tie.close
-    (tie.spec
-    halve-requires
-    halve-requires-2
-    halve-requires-3
-    halve-requires-4
-    halve-requires-5
-    halve-requires-6
-    halve-requires-7
-    halve-requires-8
-    mul-if1
-    element-copy-out-if1
-    cast-result
-    returns
-    returns-2)
+    (tie.spec halve-requires (λ c κs. search needs) (λ c κs. search needs) (λ c κs. search needs) (λ c κs. search needs)
+    (λ c κs. search needs) (λ c κs. search needs) (λ c κs. search needs) (λ c. search needs) (λ c. search needs)
+    cast-result returns returns-2)

@@ -9,39 +9,6 @@ use borrow.Author.Needs.{needs}
 use Rattle.margins.proofs.hand_over.Statement.{statement}
 use Rattle.margins.proofs.hand_over.Tie as tie
 
-read-requires : tie.Need-read-requires
-read-requires c κs = search needs
-
-slice-aggregate-answer : tie.Need-slice-aggregate-answer
-slice-aggregate-answer c = search needs
-
-slice-aggregate-answer-2 : tie.Need-slice-aggregate-answer-2
-slice-aggregate-answer-2 c = search needs
-
-answer-requires : tie.Need-answer-requires
-answer-requires c κs = search needs
-
-array-share-prefix-err : tie.Need-array-share-prefix-err
-array-share-prefix-err c = search needs
-
-slice-aggregate-write-all : tie.Need-slice-aggregate-write-all
-slice-aggregate-write-all c = sym (length-take-le _ _ (search needs))
-
-write-all-requires : tie.Need-write-all-requires
-write-all-requires c κs = search needs
-
-slice-aggregate-write-output : tie.Need-slice-aggregate-write-output
-slice-aggregate-write-output c = search needs
-
-array-share-prefix-out : tie.Need-array-share-prefix-out
-array-share-prefix-out c = search needs
-
-slice-aggregate-write-output-2 : tie.Need-slice-aggregate-write-output-2
-slice-aggregate-write-output-2 c = sym (length-take-le _ _ (search needs))
-
-write-output-requires : tie.Need-write-output-requires
-write-output-requires c κs = search needs
-
 returns : tie.Need-returns
 returns c =
     let held = ap (λ h. length (printedFor (c .before .before .before .before .before .before .before .before .before .before .before .before .args .asked) h)) (c .before .before .before .before .before .before .before .before .before .before .read .ensures) in
@@ -50,16 +17,6 @@ returns c =
 pub hand-over-spec : {M : Type 1} → statement M
 hand-over-spec =
     tie.close
-    (tie.spec
-    read-requires
-    slice-aggregate-answer
-    slice-aggregate-answer-2
-    answer-requires
-    array-share-prefix-err
-    slice-aggregate-write-all
-    write-all-requires
-    slice-aggregate-write-output
-    array-share-prefix-out
-    slice-aggregate-write-output-2
-    write-output-requires
-    returns)
+    (tie.spec (λ c κs. search needs) (λ c. search needs) (λ c. search needs) (λ c κs. search needs) (λ c. search needs)
+    (λ c. sym (length-take-le _ _ (search needs))) (λ c κs. search needs) (λ c. search needs) (λ c. search needs)
+    (λ c. sym (length-take-le _ _ (search needs))) (λ c κs. search needs) returns)

@@ -8,21 +8,6 @@ use Rattle.merging.proofs.Answers.{within-room}
 use Rattle.merge.proofs.merge.Statement.{statement}
 use Rattle.merge.proofs.merge.Tie as tie
 
-slice-aggregate-merge : tie.Need-slice-aggregate-merge
-slice-aggregate-merge c = search needs
-
-merge-requires : tie.Need-merge-requires
-merge-requires c κs = search needs
-
-tell-requires : tie.Need-tell-requires
-tell-requires c κs = search needs
-
-returns : tie.Need-returns
-returns c = search needs
-
-slice-aggregate-write-output : tie.Need-slice-aggregate-write-output
-slice-aggregate-write-output c = search needs
-
 array-share-prefix-room : tie.Need-array-share-prefix-room
 array-share-prefix-room c =
     let m = c .before .before .before .before .merge in
@@ -32,22 +17,8 @@ array-share-prefix-room c =
 slice-aggregate-write-output-2 : tie.Need-slice-aggregate-write-output-2
 slice-aggregate-write-output-2 c = sym (length-take-le _ _ (array-share-prefix-room (c .before)))
 
-write-output-requires : tie.Need-write-output-requires
-write-output-requires c κs = search needs
-
-returns-2 : tie.Need-returns-2
-returns-2 c = search needs
-
 pub merge-spec : {M : Type 1} → statement M
 merge-spec =
     tie.close
-    (tie.spec
-    slice-aggregate-merge
-    merge-requires
-    tell-requires
-    returns
-    slice-aggregate-write-output
-    array-share-prefix-room
-    slice-aggregate-write-output-2
-    write-output-requires
-    returns-2)
+    (tie.spec (λ c. search needs) (λ c κs. search needs) (λ c κs. search needs) (λ c. search needs) (λ c. search needs)
+    array-share-prefix-room slice-aggregate-write-output-2 (λ c κs. search needs) (λ c. search needs))

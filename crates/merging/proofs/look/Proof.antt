@@ -1,11 +1,10 @@
 -- `merging::look` meets its contract. The invariant: the records so far and those from the place on are the file's.
 use borrow.Author.Needs.{needs}
-use mathlib.Core.Path.{_≡_, refl, sym, ap, _∙_}
+use mathlib.Core.Path.{refl, sym, ap, _∙_}
 use Prim.Native.Nat.{ℕ, _-_, _≤_}
 use native.Mathlib.Omega.{arith}
 use lib.ListN.{length}
 use Rattle.dayfile.specs.Reading.{numberOf}
-use Rattle.merging.specs.declared.Looked.{Looked}
 use Rattle.merging.proofs.Listing.{Looking, look-ends, look-stops, look-on, good-at}
 use Rattle.merging.proofs.look.Statement.{statement}
 use Rattle.merging.proofs.look.Tie as tie

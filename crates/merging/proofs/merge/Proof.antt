@@ -1,21 +1,12 @@
 -- `merging::merge` meets its contract.
 use borrow.Author.Needs.{needs}
-use mathlib.Core.Path.{_≡_, refl, sym, ap, _∙_}
-use Prim.Native.Nat.{ℕ}
+use mathlib.Core.Path.{ap, _∙_}
 use native.Mathlib.Omega.{arith}
-use lib.ListN.{length-append}
 use Rattle.text.proofs.Puts.{puts-length, and-then, puts-at-start}
 use Rattle.merging.specs.declared.Looked.{Looked}
-use Rattle.merging.specs.Merging.{notMerged}
 use Rattle.merging.proofs.Answers.{no-fault, fault-found, at-a, at-b, too-short, ready, both-written}
 use Rattle.merging.proofs.merge.Statement.{statement}
 use Rattle.merging.proofs.merge.Tie as tie
-
-look-requires : tie.Need-look-requires
-look-requires c κs = search needs
-
-refused-requires : tie.Need-refused-requires
-refused-requires c κs = search needs
 
 returns : tie.Need-returns
 returns c =
@@ -23,20 +14,11 @@ returns c =
     let x = at-a _ _ _ _ (λ z. c .before .if1 .taken (ap (λ (q : Looked). q .refusal) l ∙ z)) in
     (c .refused .ensures ∙ fault-found _ 1 l ∙ x .answer, x .held)
 
-look-requires-2 : tie.Need-look-requires-2
-look-requires-2 c κs = search needs
-
-refused-requires-2 : tie.Need-refused-requires-2
-refused-requires-2 c κs = search needs
-
 returns-2 : tie.Need-returns-2
 returns-2 c =
     let l = c .before .before .before .look2 .ensures in
     let x = at-b _ _ _ _ (no-fault _ (c .before .before .before .before .before .before .look .ensures) (c .before .before .before .before .if1 .left)) (λ z. c .before .if2 .taken (ap (λ (q : Looked). q .refusal) l ∙ z)) in
     (c .refused2 .ensures ∙ fault-found _ 2 l ∙ x .answer, x .held)
-
-refused-requires-3 : tie.Need-refused-requires-3
-refused-requires-3 c κs = search needs
 
 returns-3 : tie.Need-returns-3
 returns-3 c =
@@ -46,12 +28,6 @@ returns-3 c =
     (λ i. c .before .before .before .before .before .before .before .before .before .shared-slice-known2 .given i .fits) (omega arith) in
     (c .refused3 .ensures ∙ x .answer, x .held)
 
-sub-if4 : tie.Need-sub-if4
-sub-if4 c = search needs
-
-refused-requires-4 : tie.Need-refused-requires-4
-refused-requires-4 c κs = search needs
-
 returns-4 : tie.Need-returns-4
 returns-4 c =
     let x = too-short _ _ _ (c .before .before .before .before .before .before .before .before .before .before .before .before .args .room .now) (no-fault _ (c .before .before .before .before .before .before .before .before .look .ensures) (c .before .before .before .before .before .before .if1 .left))
@@ -59,12 +35,6 @@ returns-4 c =
     (λ i. c .before .before .before .before .before .before .before .before .before .before .before .shared-slice-known .given i .fits)
     (λ i. c .before .before .before .before .before .before .before .before .before .before .shared-slice-known2 .given i .fits) (omega arith) in
     (c .refused4 .ensures ∙ x .answer, x .held)
-
-put-text-requires : tie.Need-put-text-requires
-put-text-requires c κs = search needs
-
-put-text-requires-2 : tie.Need-put-text-requires-2
-put-text-requires-2 c κs = search needs
 
 renumber-requires : tie.Need-renumber-requires
 renumber-requires c κs =
@@ -75,9 +45,6 @@ renumber-requires c κs =
           (λ i. c .before .before .before .before .before .before .before .before .before .before .before .before .before .before .before .before .before .before .before .shared-slice-known .given i .fits)
           (λ i. c .before .before .before .before .before .before .before .before .before .before .before .before .before .before .before .before .before .before .shared-slice-known2 .given i .fits) _ _ (p .0) (p .1),
     )
-
-same-length : tie.Need-same-length
-same-length c = search needs
 
 returns-5 : tie.Need-returns-5
 returns-5 c =
@@ -91,20 +58,6 @@ returns-5 c =
 pub merge-spec : {M : Type 1} → statement M
 merge-spec =
     tie.close
-    (tie.spec
-    look-requires
-    refused-requires
-    returns
-    look-requires-2
-    refused-requires-2
-    returns-2
-    refused-requires-3
-    returns-3
-    sub-if4
-    refused-requires-4
-    returns-4
-    put-text-requires
-    put-text-requires-2
-    renumber-requires
-    same-length
-    returns-5)
+    (tie.spec (λ c κs. search needs) (λ c κs. search needs) returns (λ c κs. search needs) (λ c κs. search needs)
+    returns-2 (λ c κs. search needs) returns-3 (λ c. search needs) (λ c κs. search needs) returns-4
+    (λ c κs. search needs) (λ c κs. search needs) renumber-requires (λ c. search needs) returns-5)

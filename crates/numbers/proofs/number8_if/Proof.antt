@@ -9,9 +9,6 @@ use Rattle.numbers.specs.Bytes.{number}
 use Rattle.numbers.proofs.number8_if.Statement.{statement}
 use Rattle.numbers.proofs.number8_if.Tie as tie
 
-number8-requires : tie.Need-number8-requires
-number8-requires c κs = search needs
-
 returns : tie.Need-returns
 unfolding number
 returns c = let a = c .before .before .args in sym (ap (λ b. number (8 * b) (drop (a .place) (now (a .piece)))) (c .if1 .taken))
@@ -23,4 +20,4 @@ returns-2 c =
     c .number8 .ensures ∙ sym (ap (λ b. number (8 * b) (drop (a .place) (now (a .piece)))) one)
 
 pub number8-if-spec : {M : Type 1} → statement M
-number8-if-spec = tie.close (tie.spec number8-requires returns returns-2)
+number8-if-spec = tie.close (tie.spec (λ c κs. search needs) returns returns-2)

@@ -15,17 +15,11 @@ fits c =
     let a = c .before .before .before .args in
     text-within-room _ (closingLineOf (a .word) (a .read) (a .done)) _ _ (c .closing-line .ensures .0) (c .closing-line .ensures .1)
 
-closing-line-requires : tie.Need-closing-line-requires
-closing-line-requires c κs = search needs
-
 array-share-prefix-room : tie.Need-array-share-prefix-room
 array-share-prefix-room c = fits c
 
 slice-aggregate-write-output : tie.Need-slice-aggregate-write-output
 slice-aggregate-write-output c = sym (length-take-le _ _ (fits (c .before)))
-
-write-output-requires : tie.Need-write-output-requires
-write-output-requires c κs = search needs
 
 returns : tie.Need-returns
 returns c =
@@ -35,9 +29,4 @@ returns c =
 pub closing-spec : {M : Type 1} → statement M
 closing-spec =
     tie.close
-    (tie.spec
-    closing-line-requires
-    array-share-prefix-room
-    slice-aggregate-write-output
-    write-output-requires
-    returns)
+    (tie.spec (λ c κs. search needs) array-share-prefix-room slice-aggregate-write-output (λ c κs. search needs) returns)

@@ -16,17 +16,11 @@ fits c =
     let a = c .before .before .before .args in
     text-within-room _ (needsText (turnedBack (a .t))) _ _ (c .needs-text .ensures .0) (c .needs-text .ensures .1)
 
-needs-text-requires : tie.Need-needs-text-requires
-needs-text-requires c κs = search needs
-
 array-share-prefix-room : tie.Need-array-share-prefix-room
 array-share-prefix-room c = fits c
 
 slice-aggregate-write-output : tie.Need-slice-aggregate-write-output
 slice-aggregate-write-output c = sym (length-take-le _ _ (fits (c .before)))
-
-write-output-requires : tie.Need-write-output-requires
-write-output-requires c κs = search needs
 
 returns : tie.Need-returns
 returns c =
@@ -36,9 +30,4 @@ returns c =
 pub needs-spec : {M : Type 1} → statement M
 needs-spec =
     tie.close
-    (tie.spec
-    needs-text-requires
-    array-share-prefix-room
-    slice-aggregate-write-output
-    write-output-requires
-    returns)
+    (tie.spec (λ c κs. search needs) array-share-prefix-room slice-aggregate-write-output (λ c κs. search needs) returns)

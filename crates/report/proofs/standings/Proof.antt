@@ -16,17 +16,11 @@ fits c =
     let a = c .before .before .before .args in
     text-within-room _ (standingsText (turnedBack (a .t))) _ _ (c .standings-text .ensures .0) (c .standings-text .ensures .1)
 
-standings-text-requires : tie.Need-standings-text-requires
-standings-text-requires c κs = search needs
-
 array-share-prefix-room : tie.Need-array-share-prefix-room
 array-share-prefix-room c = fits c
 
 slice-aggregate-write-output : tie.Need-slice-aggregate-write-output
 slice-aggregate-write-output c = sym (length-take-le _ _ (fits (c .before)))
-
-write-output-requires : tie.Need-write-output-requires
-write-output-requires c κs = search needs
 
 returns : tie.Need-returns
 returns c =
@@ -36,9 +30,4 @@ returns c =
 pub standings-spec : {M : Type 1} → statement M
 standings-spec =
     tie.close
-    (tie.spec
-    standings-text-requires
-    array-share-prefix-room
-    slice-aggregate-write-output
-    write-output-requires
-    returns)
+    (tie.spec (λ c κs. search needs) array-share-prefix-room slice-aggregate-write-output (λ c κs. search needs) returns)

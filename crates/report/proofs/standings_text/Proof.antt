@@ -5,19 +5,9 @@ use Rattle.report.specs.Reports.{standingsText}
 use Rattle.report.proofs.standings_text.Statement.{statement}
 use Rattle.report.proofs.standings_text.Tie as tie
 
-cast-accounts : tie.Need-cast-accounts
-cast-accounts c = search needs
-
-accounts-requires : tie.Need-accounts-requires
-accounts-requires c κs = search needs
-
-put-standings-requires : tie.Need-put-standings-requires
-put-standings-requires c κs = search needs
-
 returns : tie.Need-returns
 unfolding standingsText
 returns c = puts-at-start (rw (c .before .before .accounts .ensures) at (c .put-standings .ensures))
 
 pub standings-text-spec : {M : Type 1} → statement M
-standings-text-spec =
-    tie.close (tie.spec cast-accounts accounts-requires put-standings-requires returns)
+standings-text-spec = tie.close (tie.spec (λ c. search needs) (λ c κs. search needs) (λ c κs. search needs) returns)

@@ -16,20 +16,11 @@ use Rattle.run.proofs.day.Tie as tie
 tested : (c : tie.Else1) → soundB (turnedBack (c .before .before .before .args .t)) ≡ true
 tested c = sym (c .before .is-sound .ensures) ∙ not-false _ (c .if1 .left)
 
-is-sound-requires : tie.Need-is-sound-requires
-is-sound-requires c κs = search needs
-
-unsound-requires : tie.Need-unsound-requires
-unsound-requires c κs = search needs
-
 returns : tie.Need-returns
 returns c =
     let a = c .before .before .before .before .args in
     let e = c .unsound .ensures ∙ ap overRan (ran-unsound (turnedBack (a .t)) (a .piece .now) (a .most) (sym (c .before .before .is-sound .ensures) ∙ not-true _ (c .before .if1 .taken))) in
     (e, closing-named _ _ _ _ e)
-
-slice-aggregate-run : tie.Need-slice-aggregate-run
-slice-aggregate-run c = search needs
 
 run-requires : tie.Need-run-requires
 run-requires c κs = (sound→ _ (tested (c .before)), λ t. absurd (false≢true t))
@@ -43,10 +34,4 @@ returns-2 c =
 pub day-spec : {M : Type 1} → statement M
 day-spec =
     tie.close
-    (tie.spec
-    is-sound-requires
-    unsound-requires
-    returns
-    slice-aggregate-run
-    run-requires
-    returns-2)
+    (tie.spec (λ c κs. search needs) (λ c κs. search needs) returns (λ c. search needs) run-requires returns-2)

@@ -22,12 +22,6 @@ use Rattle.run.proofs.day_with_numbers.Tie as tie
 tested : (c : tie.Else1) → soundB (turnedBack (c .before .before .before .before .args .t)) ≡ true
 tested c = sym (c .before .is-sound .ensures) ∙ not-false _ (c .if1 .left)
 
-is-sound-requires : tie.Need-is-sound-requires
-is-sound-requires c κs = search needs
-
-unsound-requires : tie.Need-unsound-requires
-unsound-requires c κs = search needs
-
 returns : tie.Need-returns
 returns c =
     let a = c .before .before .before .before .before .args in
@@ -37,9 +31,6 @@ returns c =
 
 run-requires : tie.Need-run-requires
 run-requires c κs = (sound→ _ (tested (c .before .before)), λ t. omega arith)
-
-same-length : tie.Need-same-length
-same-length c = search needs
 
 returns-2 : tie.Need-returns-2
 returns-2 c =
@@ -54,9 +45,6 @@ returns-2 c =
 run-requires-2 : tie.Need-run-requires-2
 run-requires-2 c κs = (sound→ _ (tested (c .before .before)), λ t. omega arith)
 
-same-length-2 : tie.Need-same-length-2
-same-length-2 c = search needs
-
 returns-3 : tie.Need-returns-3
 returns-3 c =
     let a = c .before .before .before .before .before .before .before .before .before .args in
@@ -70,13 +58,5 @@ returns-3 c =
 pub day-with-numbers-spec : {M : Type 1} → statement M
 day-with-numbers-spec =
     tie.close
-    (tie.spec
-    is-sound-requires
-    unsound-requires
-    returns
-    run-requires
-    same-length
-    returns-2
-    run-requires-2
-    same-length-2
-    returns-3)
+    (tie.spec (λ c κs. search needs) (λ c κs. search needs) returns run-requires (λ c. search needs) returns-2
+    run-requires-2 (λ c. search needs) returns-3)

@@ -1,7 +1,7 @@
 -- `run::run` meets its contract: the arrays of a sound table may be gone through (`Entering`), and what is left of them is the book after the records, turned over.
 use mathlib.Core.Bool.{Bool}
 use mathlib.Core.List.{List}
-use mathlib.Core.Path.{_≡_, refl, ap, _∙_}
+use mathlib.Core.Path.{refl, ap, _∙_}
 use borrow.Author.Needs.{needs}
 use Rattle.sums.specs.Choice.{pick}
 use Rattle.table.specs.Words.{marksFrom, marksOf, bookFrom}
@@ -23,15 +23,6 @@ called s = s .before .before .before .before .before .before .before .before .be
 
 abbrev looked : tie.After-collaterals → tie.After-look-all
 looked k = k .before .before
-
-sizes-requires : tie.Need-sizes-requires
-sizes-requires c κs = search needs
-
-size-requires : tie.Need-size-requires
-size-requires c κs = search needs
-
-size-requires-2 : tie.Need-size-requires-2
-size-requires-2 c κs = search needs
 
 deemed-under-requires : tie.Need-deemed-under-requires
 deemed-under-requires c κs =
@@ -64,12 +55,6 @@ go-requires c κs =
     let t = s .args .t in
     (sound-enters (t .count) (t .serial) (marksOf t) (t .amounts) (t .modes) (t .needs) (t .next) (t .numbers) (s .pre .0) (z .before .before .sizes .ensures) (z .before .size .ensures) (z .size2 .ensures) _ (k .collaterals .ensures) _ _ (u .deemed-under .ensures) (l .look-all .ensures), s .pre .1)
 
-modes-of-requires : tie.Need-modes-of-requires
-modes-of-requires c κs = search needs
-
-same-length : tie.Need-same-length
-same-length c = search needs
-
 returns : tie.Need-returns
 unfolding pick
 returns c =
@@ -85,14 +70,5 @@ returns c =
 pub run-spec : {M : Type 1} → statement M
 run-spec =
     tie.close
-    (tie.spec
-    sizes-requires
-    size-requires
-    size-requires-2
-    deemed-under-requires
-    look-all-requires
-    collaterals-requires
-    go-requires
-    modes-of-requires
-    same-length
-    returns)
+    (tie.spec (λ c κs. search needs) (λ c κs. search needs) (λ c κs. search needs) deemed-under-requires
+    look-all-requires collaterals-requires go-requires (λ c κs. search needs) (λ c. search needs) returns)

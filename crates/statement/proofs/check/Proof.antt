@@ -20,9 +20,6 @@ use borrow.Author.Needs.{needs}
 use Rattle.statement.proofs.check.Statement.{statement}
 use Rattle.statement.proofs.check.Tie as tie
 
-table-sound-requires : tie.Need-table-sound-requires
-table-sound-requires c κs = search needs
-
 -- where the call begins
 abbrev start : tie.After-table-sound → tie.Start
 start c = c .before .before .before .before .before .before .before .before .before .before
@@ -31,9 +28,6 @@ tested : (c : tie.After-table-sound) → c .table-sound .result ≡ soundB (turn
 tested c =
     let t = start c .args .t1 in
     c .table-sound .ensures ∙ sound-serial (t .count) (t .serial) (marksOf t) (t .amounts) (t .modes) (t .needs) (t .next) (t .numbers)
-
-found-requires : tie.Need-found-requires
-found-requires c κs = search needs
 
 returns : tie.Need-returns
 returns c =
@@ -70,18 +64,12 @@ place-among-requires c κs =
 live-at : (c : tie.After-place-among) → isLive (turnedBack (handed c)) (placeOf (turnedBack (handed c)) (number c)) ≡ isLive (turnedBack (handed c)) (place c)
 live-at c = ap (isLive (turnedBack (handed c))) (sym (c .place-among .ensures))
 
-found-requires-2 : tie.Need-found-requires-2
-found-requires-2 c κs = search needs
-
 returns-2 : tie.Need-returns-2
 returns-2 c =
     let p = c .before .before in
     let b = turnedBack (handed p) in
     c .found2 .ensures
     ∙ refused-7 b (number p) (now (start (tried p .before) .args .statement)) (holds (tried p)) (live-at p ∙ simp (le-ltb (place p) (b .count) (c .before .if2 .taken)))
-
-cast-i : tie.Need-cast-i
-cast-i c = search needs
 
 element-copy-out-if3 : tie.Need-element-copy-out-if3
 element-copy-out-if3 c = omega (arith, ranged (tried (c .before)) .most)
@@ -93,9 +81,6 @@ row : (c : tie.Else2) →
 row c =
     let t = handed (c .before) in
     row-in (marksOf t) (t .amounts) (place (c .before)) (omega (arith, ranged (tried (c .before)) .most, c .if2 .left))
-
-found-requires-3 : tie.Need-found-requires-3
-found-requires-3 c κs = search needs
 
 returns-3 : tie.Need-returns-3
 returns-3 c =
@@ -124,9 +109,6 @@ sort-at : (c : tie.Else2) →
 sort-at c =
     let p = c .before in
     ap (λ i. rowAt (turnedBack (handed p)) i .sort) (sym (p .place-among .ensures)) ∙ ap (λ r. r .sort) (row c)
-
-found-requires-4 : tie.Need-found-requires-4
-found-requires-4 c κs = search needs
 
 returns-4 : tie.Need-returns-4
 returns-4 c =
@@ -161,19 +143,6 @@ returns-5 c =
 pub check-spec : {M : Type 1} → statement M
 check-spec =
     tie.close
-    (tie.spec
-    table-sound-requires
-    found-requires
-    returns
-    place-among-requires
-    found-requires-2
-    returns-2
-    cast-i
-    element-copy-out-if3
-    found-requires-3
-    returns-3
-    element-copy-out-if4
-    found-requires-4
-    returns-4
-    records-finding-requires
-    returns-5)
+    (tie.spec (λ c κs. search needs) (λ c κs. search needs) returns place-among-requires (λ c κs. search needs)
+    returns-2 (λ c. search needs) element-copy-out-if3 (λ c κs. search needs) returns-3 element-copy-out-if4
+    (λ c κs. search needs) returns-4 records-finding-requires returns-5)

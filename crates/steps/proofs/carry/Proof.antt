@@ -1,5 +1,4 @@
 -- `steps::carry` meets its contract.
-use borrow.Author.Needs.{needs}
 use Rattle.steps.proofs.Carried.{opening-has-room}
 use Rattle.steps.proofs.carry.Statement.{statement}
 use Rattle.steps.proofs.carry.Tie as tie

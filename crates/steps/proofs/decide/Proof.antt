@@ -24,9 +24,6 @@ marks s = marksFrom (s .args .sort .now) (s .args .live .now) (s .args .tm .now)
 abbrev modes : tie.Start → List Bool
 modes s = modesIn (s .args .at .waiting) (s .args .was .now) (s .args .modes .now)
 
-early-requires : tie.Need-early-requires
-early-requires c κs = search needs
-
 returns : tie.Need-returns
 returns c =
     let e = c .before in
@@ -53,9 +50,6 @@ returns-2 c =
     let a = s .args in
     opens-at (a .at .count) (a .at .serial) (marks s) (a .w .now) (modes s) (a .needs .now) (a .at .next) (a .numbers .now) (s .pre .0) (a .r) _ (e .early .ensures) (p .if1 .left)
     (code-opens (a .at .count) (a .at .serial) (marks s) (a .w .now) (modes s) (a .needs .now) (a .at .next) (a .numbers .now) (s .pre .0) (a .r) _ (e .early .ensures) (p .if1 .left) (o .if2 .taken)) _ _ _ _ (c .«open» .ensures .0) (c .«open» .ensures .1)
-
-cast-mode-of : tie.Need-cast-mode-of
-cast-mode-of c = search needs
 
 mode-of-requires : tie.Need-mode-of-requires
 mode-of-requires c κs =
@@ -87,4 +81,6 @@ returns-3 c =
 
 pub decide-spec : {M : Type 1} → statement M
 decide-spec =
-    tie.close (tie.spec early-requires returns open-requires returns-2 cast-mode-of mode-of-requires amend-requires returns-3)
+    tie.close
+    (tie.spec (λ c κs. search needs) returns open-requires returns-2 (λ c. search needs) mode-of-requires amend-requires
+    returns-3)

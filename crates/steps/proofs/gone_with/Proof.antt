@@ -6,9 +6,6 @@ use borrow.Author.Needs.{needs}
 use Rattle.steps.proofs.gone_with.Statement.{statement}
 use Rattle.steps.proofs.gone_with.Tie as tie
 
-wrapping-add-u16-requires : tie.Need-wrapping-add-u16-requires
-wrapping-add-u16-requires c κs = search needs
-
 returns : tie.Need-returns
 unfolding pick
 returns c =
@@ -40,4 +37,5 @@ returns-4 c = rw (eq-eqb (c .before .before .before .args .n) 0 (c .before .if1 
 
 pub gone-with-spec : {M : Type 1} → statement M
 gone-with-spec =
-    tie.close (tie.spec wrapping-add-u16-requires returns returns-2 cast-t19 add-t21 add-t24 returns-3 returns-4)
+    tie.close
+    (tie.spec (λ c κs. search needs) returns returns-2 cast-t19 add-t21 add-t24 returns-3 returns-4)

@@ -1,7 +1,6 @@
 -- `steps::modes_of` meets its contract.
 use mathlib.Core.Path.{sym}
 use Rattle.sums.proofs.Choices.{pick-yes, pick-no}
-use borrow.Author.Needs.{needs}
 use Rattle.steps.proofs.modes_of.Statement.{statement}
 use Rattle.steps.proofs.modes_of.Tie as tie
 

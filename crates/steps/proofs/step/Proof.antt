@@ -8,12 +8,6 @@ use Rattle.steps.proofs.step.Tie as tie
 place-among-requires : tie.Need-place-among-requires
 place-among-requires c κs = let s = c .before .pre .sound in record { most = s .most; up = s .numbered .rises }
 
-naming-requires : tie.Need-naming-requires
-naming-requires c κs = search needs
-
-step-placed-requires : tie.Need-step-placed-requires
-step-placed-requires c κs = search needs
-
 returns : tie.Need-returns
 returns c =
     let n = c .before in
@@ -21,4 +15,4 @@ returns c =
     rw (n .naming .ensures ∙ ap (λ q. naming q (p .before .before .args .r)) (p .place-among .ensures)) at (c .step-placed .ensures)
 
 pub step-spec : {M : Type 1} → statement M
-step-spec = tie.close (tie.spec place-among-requires naming-requires step-placed-requires returns)
+step-spec = tie.close (tie.spec place-among-requires (λ c κs. search needs) (λ c κs. search needs) returns)

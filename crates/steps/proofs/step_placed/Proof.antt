@@ -43,12 +43,6 @@ either : (still z : Bool) → (not still && z) ≡ false → (still ≡ true) �
 either true z e = inl refl
 either false z e = inr e
 
-slot-requires : tie.Need-slot-requires
-slot-requires c κs = search needs
-
-word-at-requires : tie.Need-word-at-requires
-word-at-requires c κs = search needs
-
 carry-requires : tie.Need-carry-requires
 carry-requires c κs =
     let s = c .before .before .before .before .before .before .before .before .before .before .before .before in
@@ -81,4 +75,6 @@ returns-2 c =
     (either _ _ (c .if1 .left))
 
 pub step-placed-spec : {M : Type 1} → statement M
-step-placed-spec = tie.close (tie.spec slot-requires word-at-requires carry-requires follow-requires returns returns-2)
+step-placed-spec =
+    tie.close
+    (tie.spec (λ c κs. search needs) (λ c κs. search needs) carry-requires follow-requires returns returns-2)

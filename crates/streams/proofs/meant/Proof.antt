@@ -10,9 +10,6 @@ use Rattle.streams.proofs.Signed.{below-zero}
 use Rattle.streams.proofs.meant.Statement.{statement}
 use Rattle.streams.proofs.meant.Tie as tie
 
-count-requires : tie.Need-count-requires
-count-requires c κs = search needs
-
 returns : tie.Need-returns
 unfolding movedBy
 returns c =
@@ -20,4 +17,4 @@ returns c =
     ap (λ t. record { failed = t; count = c .count .result }) (below-zero w64 (s .args .got) (s .fits .got)) ∙ ap (λ n. record { failed = failedBy (s .args .got); count = n }) (c .count .ensures .1 ∙ ap (λ z. clamped z (length (s .args .bytes .now))) (toZ-ofZ w64 (s .args .got) (s .fits .got)))
 
 pub meant-spec : {M : Type 1} → statement M
-meant-spec = tie.close (tie.spec count-requires returns)
+meant-spec = tie.close (tie.spec (λ c κs. search needs) returns)

@@ -3,11 +3,8 @@ use borrow.Author.Needs.{needs}
 use Rattle.table.proofs.turn_back.Statement.{statement}
 use Rattle.table.proofs.turn_back.Tie as tie
 
-rows-of-requires : tie.Need-rows-of-requires
-rows-of-requires c κs = search needs
-
 returns : tie.Need-returns
 returns c = rw (c .before .before .before .rows-of .ensures)
 
 pub turn-back-spec : {M : Type 1} → statement M
-turn-back-spec = tie.close (tie.spec rows-of-requires returns)
+turn-back-spec = tie.close (tie.spec (λ c κs. search needs) returns)

@@ -5,24 +5,6 @@ use Rattle.text.proofs.Lists.{number-last}
 use Rattle.text.proofs.put_spaced.Statement.{statement}
 use Rattle.text.proofs.put_spaced.Tie as tie
 
-sub-last : tie.Need-sub-last
-sub-last c = search needs
-
-put-each-requires : tie.Need-put-each-requires
-put-each-requires c κs = search needs
-
-mul-put-number : tie.Need-mul-put-number
-mul-put-number c = search needs
-
-shared-slice-read-put-number : tie.Need-shared-slice-read-put-number
-shared-slice-read-put-number c = search needs
-
-put-number-requires : tie.Need-put-number-requires
-put-number-requires c κs = search needs
-
-same-length : tie.Need-same-length
-same-length c = search needs
-
 returns : tie.Need-returns
 returns c =
     let e = c .before .before .before .before .before .before .before in
@@ -31,11 +13,5 @@ returns c =
 pub put-spaced-spec : {M : Type 1} → statement M
 put-spaced-spec =
     tie.close
-    (tie.spec
-    sub-last
-    put-each-requires
-    mul-put-number
-    shared-slice-read-put-number
-    put-number-requires
-    same-length
-    returns)
+    (tie.spec (λ c. search needs) (λ c κs. search needs) (λ c. search needs) (λ c. search needs) (λ c κs. search needs)
+    (λ c. search needs) returns)

@@ -8,35 +8,11 @@ use Rattle.streams.proofs.Within.{within-both}
 use Rattle.archive.proofs.file.read.Statement.{statement}
 use Rattle.archive.proofs.file.read.Tie as tie
 
-add-most : tie.Need-add-most
-add-most c = search needs
-
-slice-aggregate-read-named : tie.Need-slice-aggregate-read-named
-slice-aggregate-read-named c = search needs
-
-slice-aggregate-read-named-2 : tie.Need-slice-aggregate-read-named-2
-slice-aggregate-read-named-2 c = search needs
-
 slice-relend-prefix-read-named : tie.Need-slice-relend-prefix-read-named
 slice-relend-prefix-read-named c = search needs
 
 slice-aggregate-read-named-3 : tie.Need-slice-aggregate-read-named-3
 slice-aggregate-read-named-3 c = sym (length-take-le _ _ (slice-relend-prefix-read-named (c .before)))
-
-read-named-requires : tie.Need-read-named-requires
-read-named-requires c κs = search needs
-
-slice-aggregate-within : tie.Need-slice-aggregate-within
-slice-aggregate-within c = search needs
-
-slice-aggregate-within-2 : tie.Need-slice-aggregate-within-2
-slice-aggregate-within-2 c = search needs
-
-within-requires : tie.Need-within-requires
-within-requires c κs = search needs
-
-same-length : tie.Need-same-length
-same-length c = search needs
 
 returns : tie.Need-returns
 returns c =
@@ -45,15 +21,6 @@ returns c =
 pub read-spec : {M : Type 1} → statement M
 read-spec =
     tie.close
-    (tie.spec
-    add-most
-    slice-aggregate-read-named
-    slice-aggregate-read-named-2
-    slice-relend-prefix-read-named
-    slice-aggregate-read-named-3
-    read-named-requires
-    slice-aggregate-within
-    slice-aggregate-within-2
-    within-requires
-    same-length
-    returns)
+    (tie.spec (λ c. search needs) (λ c. search needs) (λ c. search needs) slice-relend-prefix-read-named
+    slice-aggregate-read-named-3 (λ c κs. search needs) (λ c. search needs) (λ c. search needs) (λ c κs. search needs)
+    (λ c. search needs) returns)

@@ -21,9 +21,6 @@ use Rattle.book.proofs.blocking.figures.Tie as tie
 account-at-requires : tie.Need-account-at-requires
 account-at-requires c κs = (omega (arith, c .pre .0 .most, c .pre .2), c .pre .0 .ranges (c .args .i) (c .pre .2))
 
-need-by-requires : tie.Need-need-by-requires
-need-by-requires c κs = search needs
-
 -- the need is the account's
 need-is : (c : tie.After-need-by) →
     let a = c .before .before .args in
@@ -34,21 +31,6 @@ need-is c =
     let v = view (seenBook (a .count) (a .sort .now) (a .tm .now) (a .w .now)) in
     c .need-by .ensures ∙ ap (λ x. needBy x (a .kept)) (c .before .account-at .ensures) ∙ ap (needBy (accountAt v (a .i))) (start .pre .3)
     ∙ sym (need-by v (start .pre .1) (a .i) (start .pre .2))
-
-blocked-of-requires : tie.Need-blocked-of-requires
-blocked-of-requires c κs = search needs
-
-sub-t13 : tie.Need-sub-t13
-sub-t13 c = search needs
-
-sub-t14 : tie.Need-sub-t14
-sub-t14 c = search needs
-
-sub-only-if : tie.Need-sub-only-if
-sub-only-if c = search needs
-
-only-if-requires : tie.Need-only-if-requires
-only-if-requires c κs = search needs
 
 -- what is shown as the shortfall: of account 0 what it is deemed, which is its need less its collateral
 shown : (v : View) → Shaped v → (i : ℕ) → only (eqb i 0) (deemed v i) ≡ only (eqb i 0) (shortfall v)
@@ -71,4 +53,5 @@ returns c =
 pub figures-spec : {M : Type 1} → statement M
 figures-spec =
     tie.close
-    (tie.spec account-at-requires need-by-requires blocked-of-requires sub-t13 sub-t14 sub-only-if only-if-requires returns)
+    (tie.spec account-at-requires (λ c κs. search needs) (λ c κs. search needs) (λ c. search needs) (λ c. search needs)
+    (λ c. search needs) (λ c κs. search needs) returns)

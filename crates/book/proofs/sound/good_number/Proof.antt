@@ -8,9 +8,6 @@ use Rattle.sums.proofs.Choices.{pick-first, pick-second}
 use Rattle.book.proofs.sound.good_number.Statement.{statement}
 use Rattle.book.proofs.sound.good_number.Tie as tie
 
-number-rises-requires : tie.Need-number-rises-requires
-number-rises-requires c κs = search needs
-
 returns : tie.Need-returns
 returns c = let a = c .before .before .args in pick-first _ (lt-ltb _ _ (c .before .if1 .taken)) (ap (λ x. x && ltb (a .n) (a .next)) (c .number-rises .ensures))
 
@@ -18,4 +15,4 @@ returns-2 : tie.Need-returns-2
 returns-2 c = pick-second _ (le-ltb _ _ (c .if1 .left)) refl
 
 pub good-number-spec : {M : Type 1} → statement M
-good-number-spec = tie.close (tie.spec number-rises-requires returns returns-2)
+good-number-spec = tie.close (tie.spec (λ c κs. search needs) returns returns-2)

@@ -13,27 +13,6 @@ use Rattle.book.proofs.SoundInPlace.{row-in-place}
 use Rattle.book.proofs.sound.good_row.Statement.{statement}
 use Rattle.book.proofs.sound.good_row.Tie as tie
 
-mark-at-requires : tie.Need-mark-at-requires
-mark-at-requires c κs = search needs
-
-slot-requires : tie.Need-slot-requires
-slot-requires c κs = search needs
-
-mark-at-requires-2 : tie.Need-mark-at-requires-2
-mark-at-requires-2 c κs = search needs
-
-good-place-requires : tie.Need-good-place-requires
-good-place-requires c κs = search needs
-
-no-amounts-requires : tie.Need-no-amounts-requires
-no-amounts-requires c κs = search needs
-
-in-range-requires : tie.Need-in-range-requires
-in-range-requires c κs = search needs
-
-no-amounts-requires-2 : tie.Need-no-amounts-requires-2
-no-amounts-requires-2 c κs = search needs
-
 -- the TM's row is taken at the place that the slot gives
 at-slot : {x : Bool} (c : tie.After-mark-at2) →
     let a = c .before .before .before .args in
@@ -67,13 +46,5 @@ returns-2 c =
 pub good-row-spec : {M : Type 1} → statement M
 good-row-spec =
     tie.close
-    (tie.spec
-    mark-at-requires
-    slot-requires
-    mark-at-requires-2
-    good-place-requires
-    no-amounts-requires
-    in-range-requires
-    no-amounts-requires-2
-    returns
-    returns-2)
+    (tie.spec (λ c κs. search needs) (λ c κs. search needs) (λ c κs. search needs) (λ c κs. search needs)
+    (λ c κs. search needs) (λ c κs. search needs) (λ c κs. search needs) returns returns-2)

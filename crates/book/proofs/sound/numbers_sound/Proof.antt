@@ -1,5 +1,5 @@
 -- `book::sound::numbers_sound` meets its contract. The invariant: the flag is the test of the places passed, and the number of the last of them is at hand.
-use mathlib.Core.Bool.{Bool, true, _&&_}
+use mathlib.Core.Bool.{Bool, _&&_}
 use mathlib.Core.Path.{_≡_, refl, sym, ap, _∙_}
 use Prim.Native.Nat.{ℕ, _-_, _≤_}
 use native.Mathlib.Omega.{arith}

@@ -41,9 +41,6 @@ returns-2 : tie.Need-returns-2
 unfolding formedB
 returns-2 c = simp (lt-leb (c .before .before .args .count) 256 (c .if2 .taken), and-false)
 
-rows-sound-requires : tie.Need-rows-sound-requires
-rows-sound-requires c κs = search needs
-
 -- the rows' test, as the book's
 rows-tested : (c : tie.After-rows-sound) → all 256 (rowSound (bookOf (c .before .before .before))) ≡ c .rows-sound .result
 rows-tested c =
@@ -53,9 +50,6 @@ rows-tested c =
 returns-3 : tie.Need-returns-3
 unfolding formedB
 returns-3 c = simp (rows-tested (c .before) ∙ not-true _ (c .if3 .taken), and-false)
-
-modes-sound-requires : tie.Need-modes-sound-requires
-modes-sound-requires c κs = search needs
 
 -- past the tests of the number and of the rows
 rows-hold : (c : tie.Else3) → all 256 (rowSound (bookOf (c .before .before .before .before))) ≡ true
@@ -69,9 +63,6 @@ modes-tested c =
 returns-4 : tie.Need-returns-4
 unfolding formedB
 returns-4 c = simp (modes-tested (c .before) ∙ not-true _ (c .if4 .taken), and-false)
-
-numbers-sound-requires : tie.Need-numbers-sound-requires
-numbers-sound-requires c κs = search needs
 
 returns-5 : tie.Need-returns-5
 unfolding formedB
@@ -131,14 +122,5 @@ returns-6 c =
 pub table-kept-spec : {M : Type 1} → statement M
 table-kept-spec =
     tie.close
-    (tie.spec
-    returns
-    returns-2
-    rows-sound-requires
-    returns-3
-    modes-sound-requires
-    returns-4
-    numbers-sound-requires
-    returns-5
-    needs-kept-requires
-    returns-6)
+    (tie.spec returns returns-2 (λ c κs. search needs) returns-3 (λ c κs. search needs) returns-4 (λ c κs. search needs)
+    returns-5 needs-kept-requires returns-6)

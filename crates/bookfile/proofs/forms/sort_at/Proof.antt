@@ -5,27 +5,6 @@ use borrow.Author.Needs.{needs}
 use Rattle.bookfile.proofs.forms.sort_at.Statement.{statement}
 use Rattle.bookfile.proofs.forms.sort_at.Tie as tie
 
-enum-told : tie.Need-enum-told
-enum-told c = search needs
-
-mul-result : tie.Need-mul-result
-mul-result c = search needs
-
-add-result : tie.Need-add-result
-add-result c = search needs
-
-enum-told-2 : tie.Need-enum-told-2
-enum-told-2 c = search needs
-
-mul-result-2 : tie.Need-mul-result-2
-mul-result-2 c = search needs
-
-add-result-2 : tie.Need-add-result-2
-add-result-2 c = search needs
-
-add-result-3 : tie.Need-add-result-3
-add-result-3 c = search needs
-
 returns : tie.Need-returns
 returns c = rw (c .enum-told .given .1) (refl, omega arith)
 
@@ -35,13 +14,5 @@ returns-2 c = rw (c .enum-told2 .given .1) (refl, omega arith)
 pub sort-at-spec : {M : Type 1} → statement M
 sort-at-spec =
     tie.close
-    (tie.spec
-    enum-told
-    mul-result
-    add-result
-    enum-told-2
-    mul-result-2
-    add-result-2
-    add-result-3
-    returns
-    returns-2)
+    (tie.spec (λ c. search needs) (λ c. search needs) (λ c. search needs) (λ c. search needs) (λ c. search needs)
+    (λ c. search needs) (λ c. search needs) returns returns-2)

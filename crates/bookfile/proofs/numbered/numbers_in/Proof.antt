@@ -5,15 +5,6 @@ use Rattle.bookfile.specs.Versions.{sizeOf}
 use Rattle.bookfile.proofs.numbered.numbers_in.Statement.{statement}
 use Rattle.bookfile.proofs.numbered.numbers_in.Tie as tie
 
-enum-told : tie.Need-enum-told
-enum-told c = search needs
-
-place-numbers-requires : tie.Need-place-numbers-requires
-place-numbers-requires c κs = search needs
-
-enum-told-2 : tie.Need-enum-told-2
-enum-told-2 c = search needs
-
 written-numbers-requires : tie.Need-written-numbers-requires
 written-numbers-requires c κs = c .before .before .before .pre ∙ ap sizeOf (c .enum-told2 .given .1)
 
@@ -26,10 +17,4 @@ returns-2 c = rw (c .before .enum-told2 .given .1) (c .written-numbers .ensures)
 pub numbers-in-spec : {M : Type 1} → statement M
 numbers-in-spec =
     tie.close
-    (tie.spec
-    enum-told
-    place-numbers-requires
-    enum-told-2
-    written-numbers-requires
-    returns
-    returns-2)
+    (tie.spec (λ c. search needs) (λ c κs. search needs) (λ c. search needs) written-numbers-requires returns returns-2)

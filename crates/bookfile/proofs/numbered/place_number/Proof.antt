@@ -6,9 +6,6 @@ use Rattle.sums.proofs.Choices.{pick-first, pick-second}
 use Rattle.bookfile.proofs.numbered.place_number.Statement.{statement}
 use Rattle.bookfile.proofs.numbered.place_number.Tie as tie
 
-cast-result : tie.Need-cast-result
-cast-result c = search needs
-
 returns : tie.Need-returns
 returns c = pick-first _ (lt-ltb _ _ (c .if1 .taken)) refl
 
@@ -16,4 +13,4 @@ returns-2 : tie.Need-returns-2
 returns-2 c = pick-second _ (le-ltb _ _ (c .if1 .left)) refl
 
 pub place-number-spec : {M : Type 1} → statement M
-place-number-spec = tie.close (tie.spec cast-result returns returns-2)
+place-number-spec = tie.close (tie.spec (λ c. search needs) returns returns-2)

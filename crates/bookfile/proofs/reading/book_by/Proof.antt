@@ -13,30 +13,6 @@ number2-requires c κs = omega (arith, head-within (c .before .args .v))
 number2-requires-2 : tie.Need-number2-requires-2
 number2-requires-2 c κs = omega (arith, head-within (c .before .before .args .v))
 
-sorts-requires : tie.Need-sorts-requires
-sorts-requires c κs = search needs
-
-yeses-requires : tie.Need-yeses-requires
-yeses-requires c κs = search needs
-
-tms-requires : tie.Need-tms-requires
-tms-requires c κs = search needs
-
-yeses-requires-2 : tie.Need-yeses-requires-2
-yeses-requires-2 c κs = search needs
-
-needs-requires : tie.Need-needs-requires
-needs-requires c κs = search needs
-
-amounts-requires : tie.Need-amounts-requires
-amounts-requires c κs = search needs
-
-next-in-requires : tie.Need-next-in-requires
-next-in-requires c κs = search needs
-
-numbers-in-requires : tie.Need-numbers-in-requires
-numbers-in-requires c κs = search needs
-
 returns : tie.Need-returns
 unfolding bookBy
 returns c =
@@ -66,15 +42,6 @@ returns c =
 pub book-by-spec : {M : Type 1} → statement M
 book-by-spec =
     tie.close
-    (tie.spec
-    number2-requires
-    number2-requires-2
-    sorts-requires
-    yeses-requires
-    tms-requires
-    yeses-requires-2
-    needs-requires
-    amounts-requires
-    next-in-requires
-    numbers-in-requires
+    (tie.spec number2-requires number2-requires-2 (λ c κs. search needs) (λ c κs. search needs) (λ c κs. search needs)
+    (λ c κs. search needs) (λ c κs. search needs) (λ c κs. search needs) (λ c κs. search needs) (λ c κs. search needs)
     returns)

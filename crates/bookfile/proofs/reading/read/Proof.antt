@@ -9,12 +9,6 @@ use Rattle.bookfile.proofs.Told.{read-by, told}
 use Rattle.bookfile.proofs.reading.read.Statement.{statement}
 use Rattle.bookfile.proofs.reading.read.Tie as tie
 
-version-of-requires : tie.Need-version-of-requires
-version-of-requires c κs = search needs
-
-is-of-requires : tie.Need-is-of-requires
-is-of-requires c κs = search needs
-
 -- the bytes are a book of the version that was told
 book : (c : tie.Then1) → isOf (c .before .before .version-of .result) (c .before .before .before .before .args .piece .now) ≡ true
 book c = sym (c .before .is-of .ensures) ∙ c .if1 .taken
@@ -24,9 +18,6 @@ book-by-requires c κs = book-long _ _ (book c)
 
 returns : tie.Need-returns
 returns c = ap (λ t. record { «is_book» = true; table = t }) (c .book-by .ensures) ∙ sym (read-by _ _ (book (c .before)))
-
-fresh-requires : tie.Need-fresh-requires
-fresh-requires c κs = search needs
 
 returns-2 : tie.Need-returns-2
 unfolding readOf
@@ -39,4 +30,4 @@ returns-2 c =
 pub read-spec : {M : Type 1} → statement M
 read-spec =
     tie.close
-    (tie.spec version-of-requires is-of-requires book-by-requires returns fresh-requires returns-2)
+    (tie.spec (λ c κs. search needs) (λ c κs. search needs) book-by-requires returns (λ c κs. search needs) returns-2)

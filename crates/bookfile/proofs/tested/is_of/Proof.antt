@@ -7,9 +7,6 @@ use Rattle.bookfile.proofs.Tests.{other-length, right-length}
 use Rattle.bookfile.proofs.tested.is_of.Statement.{statement}
 use Rattle.bookfile.proofs.tested.is_of.Tie as tie
 
-size-of-requires : tie.Need-size-of-requires
-size-of-requires c κs = search needs
-
 returns : tie.Need-returns
 returns c =
     let a = c .before .before .before .args in
@@ -18,15 +15,10 @@ returns c =
 is-marked-requires : tie.Need-is-marked-requires
 is-marked-requires c κs = omega (arith, head-within (c .before .before .before .args .v))
 
-all-yes-or-no-requires : tie.Need-all-yes-or-no-requires
-all-yes-or-no-requires c κs = search needs
-
 returns-2 : tie.Need-returns-2
 returns-2 c =
     let a = c .before .before .before .before .before .args in
     right-length (a .v) (a .piece .now) (omega arith) (c .before .is-marked .ensures) (c .all-yes-or-no .ensures)
 
 pub is-of-spec : {M : Type 1} → statement M
-is-of-spec =
-    tie.close
-    (tie.spec size-of-requires returns is-marked-requires all-yes-or-no-requires returns-2)
+is-of-spec = tie.close (tie.spec (λ c κs. search needs) returns is-marked-requires (λ c κs. search needs) returns-2)

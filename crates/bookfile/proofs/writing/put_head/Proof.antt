@@ -18,21 +18,6 @@ begun l = set (set (set (set l 0 76) 1 86) 2 66) 3 2
 length-begun : (l : List ℕ) → length (begun l) ≡ length l
 length-begun l = simp length-set
 
-slice-write-room : tie.Need-slice-write-room
-slice-write-room c = search needs
-
-slice-write-room-2 : tie.Need-slice-write-room-2
-slice-write-room-2 c = simp length-set (omega arith)
-
-slice-write-room-3 : tie.Need-slice-write-room-3
-slice-write-room-3 c = simp length-set (omega arith)
-
-slice-write-room-4 : tie.Need-slice-write-room-4
-slice-write-room-4 c = simp length-set (omega arith)
-
-put2-requires : tie.Need-put2-requires
-put2-requires c κs = simp length-set (omega arith)
-
 put2-requires-2 : tie.Need-put2-requires-2
 put2-requires-2 c κs =
     let a = c .before .before .before .before .before .before .args in
@@ -65,13 +50,6 @@ returns c =
 pub put-head-spec : {M : Type 1} → statement M
 put-head-spec =
     tie.close
-    (tie.spec
-    slice-write-room
-    slice-write-room-2
-    slice-write-room-3
-    slice-write-room-4
-    put2-requires
-    put2-requires-2
-    put4-requires
-    same-length
-    returns)
+    (tie.spec (λ c. search needs) (λ c. simp length-set (omega arith)) (λ c. simp length-set (omega arith))
+    (λ c. simp length-set (omega arith)) (λ c κs. simp length-set (omega arith)) put2-requires-2 put4-requires
+    same-length returns)

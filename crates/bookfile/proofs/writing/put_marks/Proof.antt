@@ -8,24 +8,6 @@ use Rattle.bookfile.proofs.Parts.{put-two}
 use Rattle.bookfile.proofs.writing.put_marks.Statement.{statement}
 use Rattle.bookfile.proofs.writing.put_marks.Tie as tie
 
-slice-write-room : tie.Need-slice-write-room
-slice-write-room c = search needs
-
-yes-no-requires : tie.Need-yes-no-requires
-yes-no-requires c κs = search needs
-
-add-room : tie.Need-add-room
-add-room c = search needs
-
-slice-write-room-2 : tie.Need-slice-write-room-2
-slice-write-room-2 c = simp length-set (omega arith)
-
-add-put2 : tie.Need-add-put2
-add-put2 c = search needs
-
-put2-requires : tie.Need-put2-requires
-put2-requires c κs = simp length-set (omega arith)
-
 same-length : tie.Need-same-length
 same-length c = c .before .before .put2 .kept .0 ∙ simp length-set
 
@@ -38,12 +20,5 @@ returns c =
 pub put-marks-spec : {M : Type 1} → statement M
 put-marks-spec =
     tie.close
-    (tie.spec
-    slice-write-room
-    yes-no-requires
-    add-room
-    slice-write-room-2
-    add-put2
-    put2-requires
-    same-length
-    returns)
+    (tie.spec (λ c. search needs) (λ c κs. search needs) (λ c. search needs) (λ c. simp length-set (omega arith))
+    (λ c. search needs) (λ c κs. simp length-set (omega arith)) same-length returns)

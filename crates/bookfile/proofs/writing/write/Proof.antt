@@ -11,15 +11,6 @@ returns c =
     let a = c .before .before .args in
     other-room (a .t) (a .room .now) (λ e. omega arith)
 
-put-head-requires : tie.Need-put-head-requires
-put-head-requires c κs = search needs
-
-put-places-requires : tie.Need-put-places-requires
-put-places-requires c κs = search needs
-
-same-length : tie.Need-same-length
-same-length c = search needs
-
 returns-2 : tie.Need-returns-2
 returns-2 c =
     let cp = c .before .before in
@@ -29,5 +20,4 @@ returns-2 c =
     fitting-room (a .t) (a .room .now) _ (omega arith) (put-written (a .t) (a .room .now) _ _ (omega arith) (ch .put-head .ensures) (cp .put-places .ensures))
 
 pub write-spec : {M : Type 1} → statement M
-write-spec =
-    tie.close (tie.spec returns put-head-requires put-places-requires same-length returns-2)
+write-spec = tie.close (tie.spec returns (λ c κs. search needs) (λ c κs. search needs) (λ c. search needs) returns-2)

@@ -7,26 +7,14 @@ use Rattle.closeout.proofs.Turns.{by-own}
 use Rattle.closeout.proofs.pays.after_own.Statement.{statement}
 use Rattle.closeout.proofs.pays.after_own.Tie as tie
 
-account-of-requires : tie.Need-account-of-requires
-account-of-requires c κs = search needs
-
 free-with-requires : tie.Need-free-with-requires
 free-with-requires c κs = (rw (c .account-of .ensures) (omega (arith, c .before .pre .0 .margin)), omega (arith, c .before .pre .1))
-
-lesser-requires : tie.Need-lesser-requires
-lesser-requires c κs = search needs
-
-lesser-requires-2 : tie.Need-lesser-requires-2
-lesser-requires-2 c κs = search needs
 
 sub-t8 : tie.Need-sub-t8
 sub-t8 c = omega (arith, c .lesser2 .ensures)
 
 sub-lesser : tie.Need-sub-lesser
 sub-lesser c = omega (arith, c .lesser2 .ensures, c .before .lesser .ensures)
-
-lesser-requires-3 : tie.Need-lesser-requires-3
-lesser-requires-3 c κs = search needs
 
 sub-t11 : tie.Need-sub-t11
 sub-t11 c = omega (arith, c .lesser3 .ensures)
@@ -40,4 +28,5 @@ returns c =
 pub after-own-spec : {M : Type 1} → statement M
 after-own-spec =
     tie.close
-    (tie.spec account-of-requires free-with-requires lesser-requires lesser-requires-2 sub-t8 sub-lesser lesser-requires-3 sub-t11 returns)
+    (tie.spec (λ c κs. search needs) free-with-requires (λ c κs. search needs) (λ c κs. search needs) sub-t8 sub-lesser
+    (λ c κs. search needs) sub-t11 returns)

@@ -7,31 +7,10 @@ use borrow.Author.Needs.{needs}
 use Rattle.closeout.proofs.pays.pay.Statement.{statement}
 use Rattle.closeout.proofs.pays.pay.Tie as tie
 
-lesser-requires : tie.Need-lesser-requires
-lesser-requires c κs = search needs
-
-sub-short : tie.Need-sub-short
-sub-short c = search needs
-
-lesser-requires-2 : tie.Need-lesser-requires-2
-lesser-requires-2 c κs = search needs
-
-only-if-requires : tie.Need-only-if-requires
-only-if-requires c κs = search needs
-
 sub-asked : tie.Need-sub-asked
 sub-asked c =
     let sort = c .before .before .before .args .sort in
     omega (arith, c .only-if .ensures, c .before .lesser2 .ensures, only-most (eqb sort 2) (c .before .lesser2 .result))
-
-lesser-requires-3 : tie.Need-lesser-requires-3
-lesser-requires-3 c κs = search needs
-
-sub-t12 : tie.Need-sub-t12
-sub-t12 c = search needs
-
-sub-t13 : tie.Need-sub-t13
-sub-t13 c = search needs
 
 returns : tie.Need-returns
 returns c =
@@ -41,13 +20,5 @@ returns c =
 pub pay-spec : {M : Type 1} → statement M
 pay-spec =
     tie.close
-    (tie.spec
-    lesser-requires
-    sub-short
-    lesser-requires-2
-    only-if-requires
-    sub-asked
-    lesser-requires-3
-    sub-t12
-    sub-t13
-    returns)
+    (tie.spec (λ c κs. search needs) (λ c. search needs) (λ c κs. search needs) (λ c κs. search needs) sub-asked
+    (λ c κs. search needs) (λ c. search needs) (λ c. search needs) returns)

@@ -1,5 +1,5 @@
 -- `closeout::pays::rounds` meets its contract: own payment and both rounds stay within the loss, so that nothing wraps.
-use Prim.Native.Nat.{ℕ, _+_, _≤_}
+use Prim.Native.Nat.{_+_, _≤_}
 use native.Mathlib.Omega.{arith}
 use borrow.Author.Needs.{needs}
 use mathlib.Core.Path.{ap, _∙_}
@@ -8,29 +8,8 @@ use Rattle.closeout.proofs.Turns.{paid-adds, own-fits, first-fits, by-r
 use Rattle.closeout.proofs.pays.rounds.Statement.{statement}
 use Rattle.closeout.proofs.pays.rounds.Tie as tie
 
-account-of-requires : tie.Need-account-of-requires
-account-of-requires c κs = search needs
-
 free-with-requires : tie.Need-free-with-requires
 free-with-requires c κs = (rw (c .account-of .ensures) (omega (arith, c .before .pre .0 .margin)), omega (arith, c .before .pre .1))
-
-lesser-requires : tie.Need-lesser-requires
-lesser-requires c κs = search needs
-
-only-if-requires : tie.Need-only-if-requires
-only-if-requires c κs = search needs
-
-lesser-requires-2 : tie.Need-lesser-requires-2
-lesser-requires-2 c κs = search needs
-
-less-requires : tie.Need-less-requires
-less-requires c κs = search needs
-
-only-if-requires-2 : tie.Need-only-if-requires-2
-only-if-requires-2 c κs = search needs
-
-pay-requires : tie.Need-pay-requires
-pay-requires c κs = search needs
 
 -- what round one pays is within what it is asked for, and with own payment within the loss
 first-within : (c : tie.After-pay) → c .pay .result .own + c .pay .result .tm + c .pay .result .cm ≤ c .before .before .less .result
@@ -62,12 +41,6 @@ sub-left c = omega (arith, own-within (c .before .before))
 sub-left-2 : tie.Need-sub-left-2
 sub-left-2 c = omega (arith, both-within (c .before .before))
 
-only-if-requires-3 : tie.Need-only-if-requires-3
-only-if-requires-3 c κs = search needs
-
-pay-requires-2 : tie.Need-pay-requires-2
-pay-requires-2 c κs = search needs
-
 add-t19 : tie.Need-add-t19
 add-t19 c = omega (arith, c .before .before .before .before .before .before .before .before .before .before .before .before .before .before .before .fits, both-within (c .before .before .before .before .before))
 
@@ -93,23 +66,6 @@ returns c =
 pub rounds-spec : {M : Type 1} → statement M
 rounds-spec =
     tie.close
-    (tie.spec
-    account-of-requires
-    free-with-requires
-    lesser-requires
-    only-if-requires
-    lesser-requires-2
-    less-requires
-    only-if-requires-2
-    pay-requires
-    add-paid
-    add-paid-2
-    sub-left
-    sub-left-2
-    only-if-requires-3
-    pay-requires-2
-    add-t19
-    add-t20
-    add-t21
-    add-t22
-    returns)
+    (tie.spec (λ c κs. search needs) free-with-requires (λ c κs. search needs) (λ c κs. search needs)
+    (λ c κs. search needs) (λ c κs. search needs) (λ c κs. search needs) (λ c κs. search needs) add-paid add-paid-2
+    sub-left sub-left-2 (λ c κs. search needs) (λ c κs. search needs) add-t19 add-t20 add-t21 add-t22 returns)

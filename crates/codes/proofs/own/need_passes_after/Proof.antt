@@ -4,7 +4,7 @@ use native.Mathlib.Omega.{arith}
 use Rattle.rows.specs.Rows.{accountOf}
 use Rattle.rows.specs.Facts.{InRange}
 use Rattle.table.specs.Words.{Marks, marksFrom}
-use Rattle.codes.specs.Own.{accountIn, deemedUnderIn, needPassesIn}
+use Rattle.codes.specs.Own.{accountIn, deemedUnderIn}
 use Rattle.codes.proofs.Made.{change-in-range, held-in-range, margin-in, need-passes-is, deemed-under-most}
 use borrow.Author.Needs.{needs}
 use Rattle.codes.proofs.own.need_passes_after.Statement.{statement}
@@ -23,17 +23,11 @@ new c = c .before .before
 abbrev marks : tie.Start → Marks
 marks s = marksFrom (s .args .sort .now) (s .args .live .now) (s .args .tm .now)
 
-row-at-requires : tie.Need-row-at-requires
-row-at-requires c κs = search needs
-
 account-of-requires : tie.Need-account-of-requires
 account-of-requires c κs = rw (c .row-at .ensures) (c .before .pre .0 .ranges 0 (omega arith))
 
 top-is : (c : tie.After-account-of) → c .account-of .result ≡ accountIn (marks (start c)) (start c .args .w .now) 0
 top-is c = c .account-of .ensures ∙ ap accountOf (c .before .row-at .ensures)
-
-with-margin-requires : tie.Need-with-margin-requires
-with-margin-requires c κs = search needs
 
 new-in : (c : tie.After-with-margin) → InRange (c .with-margin .result)
 new-in c = let pre = start (topped c) .pre in rw (c .with-margin .ensures) (margin-in _ _ (held-in-range _ (pre .0) (pre .2)) (pre .1))
@@ -69,12 +63,5 @@ returns c =
 pub need-passes-after-spec : {M : Type 1} → statement M
 need-passes-after-spec =
     tie.close
-    (tie.spec
-    row-at-requires
-    account-of-requires
-    with-margin-requires
-    account-of-requires-2
-    account-of-requires-3
-    deemed-under-after-at-requires
-    need-passes-with-requires
-    returns)
+    (tie.spec (λ c κs. search needs) account-of-requires (λ c κs. search needs) account-of-requires-2
+    account-of-requires-3 deemed-under-after-at-requires need-passes-with-requires returns)

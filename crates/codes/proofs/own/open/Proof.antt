@@ -14,18 +14,9 @@ use borrow.Author.Needs.{needs}
 use Rattle.codes.proofs.own.open.Statement.{statement}
 use Rattle.codes.proofs.own.open.Tie as tie
 
-element-copy-out-its : tie.Need-element-copy-out-its
-element-copy-out-its c = search needs
-
-wanted-requires : tie.Need-wanted-requires
-wanted-requires c κs = search needs
-
 returns : tie.Need-returns
 unfolding pick
 returns c = (opens-not 8 (first-line-holds 8 _ _ (ap not (ne-eqb _ _ (λ z. (c .if1) .taken (z ∙ sym (c .before .wanted .ensures)))))) (λ z. omega arith), refl)
-
-none-left-requires : tie.Need-none-left-requires
-none-left-requires c κs = search needs
 
 returns-2 : tie.Need-returns-2
 unfolding pick
@@ -42,9 +33,6 @@ left-over c =
     let a = c .before .before .before .before .before .args in
     let h = or-fails (leb 256 (a .count)) (leb 65536 (a .next)) (sym (c .before .none-left .ensures) ∙ c .if2 .left) in
     (leb-false _ _ (h .0), leb-false _ _ (h .1))
-
-opened-row-requires : tie.Need-opened-row-requires
-opened-row-requires c κs = search needs
 
 put-row-requires : tie.Need-put-row-requires
 put-row-requires c κs = let h = left-over (c .before .before .before .before .before) in search needs
@@ -74,15 +62,5 @@ returns-3 c =
 pub open-spec : {M : Type 1} → statement M
 open-spec =
     tie.close
-    (tie.spec
-    element-copy-out-its
-    wanted-requires
-    returns
-    none-left-requires
-    returns-2
-    opened-row-requires
-    put-row-requires
-    cast-numbers
-    mul-numbers
-    element-write-numbers
-    returns-3)
+    (tie.spec (λ c. search needs) (λ c κs. search needs) returns (λ c κs. search needs) returns-2 (λ c κs. search needs)
+    put-row-requires cast-numbers mul-numbers element-write-numbers returns-3)

@@ -10,9 +10,6 @@ use borrow.Author.Needs.{needs}
 use Rattle.codes.proofs.own.pledge.Statement.{statement}
 use Rattle.codes.proofs.own.pledge.Tie as tie
 
-row-at-requires : tie.Need-row-at-requires
-row-at-requires c κs = search needs
-
 add-sum : tie.Need-add-sum
 add-sum c =
     let pre = c .before .before .before .pre in
@@ -20,12 +17,6 @@ add-sum c =
 
 returns : tie.Need-returns
 returns c = refused-answers 10 (λ q. pledgeLines q (c .before .before .before .before .args .y)) _ (c .before .before .row-at .ensures) (first-line-holds 10 _ _ (lt-ltb _ _ (c .if1 .taken))) (λ z. omega arith)
-
-with-pledged-requires : tie.Need-with-pledged-requires
-with-pledged-requires c κs = search needs
-
-mul-w : tie.Need-mul-w
-mul-w c = search needs
 
 add-w : tie.Need-add-w
 add-w c = omega (arith, c .before .before .before .before .before .pre .1)
@@ -47,4 +38,5 @@ returns-2 c =
 pub pledge-spec : {M : Type 1} → statement M
 pledge-spec =
     tie.close
-    (tie.spec row-at-requires add-sum returns with-pledged-requires mul-w add-w mul-w-2 element-write-w returns-2)
+    (tie.spec (λ c κs. search needs) add-sum returns (λ c κs. search needs) (λ c. search needs) add-w mul-w-2
+    element-write-w returns-2)

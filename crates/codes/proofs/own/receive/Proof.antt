@@ -13,23 +13,11 @@ use Rattle.codes.proofs.own.receive.Tie as tie
 test-is : (c : tie.After-kinds-capped) → not (kindsCapped (plusKinds (c .before .before .row-at .result .received) (c .before .before .before .before .args .k))) ≡ not (c .kinds-capped .result)
 test-is c = ap not (sym (c .kinds-capped .ensures ∙ ap kindsCapped (c .before .plus-kinds .ensures)))
 
-row-at-requires : tie.Need-row-at-requires
-row-at-requires c κs = search needs
-
 plus-kinds-requires : tie.Need-plus-kinds-requires
 plus-kinds-requires c κs = (rw (c .row-at .ensures) (c .before .before .pre .2 .received), c .before .before .pre .3)
 
-kinds-capped-requires : tie.Need-kinds-capped-requires
-kinds-capped-requires c κs = search needs
-
 returns : tie.Need-returns
 returns c = refused-answers 10 (λ q. receiveLines q (c .before .before .before .before .before .args .k)) _ (c .before .before .before .row-at .ensures) (first-line-holds 10 _ _ (test-is (c .before) ∙ c .if1 .taken)) (λ z. omega arith)
-
-with-received-requires : tie.Need-with-received-requires
-with-received-requires c κs = search needs
-
-put-kinds-requires : tie.Need-put-kinds-requires
-put-kinds-requires c κs = search needs
 
 returns-2 : tie.Need-returns-2
 returns-2 c =
@@ -44,11 +32,5 @@ returns-2 c =
 pub receive-spec : {M : Type 1} → statement M
 receive-spec =
     tie.close
-    (tie.spec
-    row-at-requires
-    plus-kinds-requires
-    kinds-capped-requires
-    returns
-    with-received-requires
-    put-kinds-requires
-    returns-2)
+    (tie.spec (λ c κs. search needs) plus-kinds-requires (λ c κs. search needs) returns (λ c κs. search needs)
+    (λ c κs. search needs) returns-2)

@@ -31,20 +31,8 @@ own s q = releaseLines q (s .args .on) (leavesBelow q (after s q) (getD (deemedU
 test-is : (c : tie.After-kinds-within) → not (kindsWithin (start c .args .k) (c .before .row-at .result .allocated)) ≡ not (c .kinds-within .result)
 test-is c = ap not (sym (c .kinds-within .ensures))
 
-row-at-requires : tie.Need-row-at-requires
-row-at-requires c κs = search needs
-
-kinds-within-requires : tie.Need-kinds-within-requires
-kinds-within-requires c κs = search needs
-
 returns : tie.Need-returns
 returns c = refused-answers 11 (own (start (c .before))) _ (c .before .before .row-at .ensures) (first-line-holds 11 _ _ (test-is (c .before) ∙ c .if1 .taken)) (λ z. omega arith)
-
-less-kinds-requires : tie.Need-less-kinds-requires
-less-kinds-requires c κs = search needs
-
-with-allocated-requires : tie.Need-with-allocated-requires
-with-allocated-requires c κs = search needs
 
 made : (c : tie.After-with-allocated) → (let t = tests c in c .with-allocated .result ≡ after (start t) (t .before .row-at .result))
 made c = c .with-allocated .ensures ∙ ap (withAllocated (tests c .before .row-at .result)) (c .before .less-kinds .ensures)
@@ -85,13 +73,5 @@ returns-3 c =
 pub release-spec : {M : Type 1} → statement M
 release-spec =
     tie.close
-    (tie.spec
-    row-at-requires
-    kinds-within-requires
-    returns
-    less-kinds-requires
-    with-allocated-requires
-    taking-requires
-    returns-2
-    put-kinds-requires
-    returns-3)
+    (tie.spec (λ c κs. search needs) (λ c κs. search needs) returns (λ c κs. search needs) (λ c κs. search needs)
+    taking-requires returns-2 put-kinds-requires returns-3)

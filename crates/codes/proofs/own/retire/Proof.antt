@@ -19,20 +19,11 @@ none-is c = ap not (sym (c .no-amounts .ensures))
 returns : tie.Need-returns
 returns c = opens-not 8 (first-line-holds 8 _ _ (eq-eqb _ 0 (c .if1 .taken))) (λ z. omega arith)
 
-row-at-requires : tie.Need-row-at-requires
-row-at-requires c κs = search needs
-
-no-amounts-requires : tie.Need-no-amounts-requires
-no-amounts-requires c κs = search needs
-
 returns-2 : tie.Need-returns-2
 returns-2 c =
     let a = (c .before .before .before .before .before .args) in
     refused-answers 14 (λ q. retireLines q (a .a) (hasLiveClientIn (marksFrom (a .sort .now) (a .live .now) (a .tm .now)) (a .count) (a .a))) _ (c .before .before .row-at .ensures)
     (first-line-fails 8 _ _ 14 (ne-eqb _ 0 (c .before .before .before .before .if1 .left)) (first-line-holds 14 _ _ (or-left _ (none-is (c .before) ∙ c .if2 .taken)))) (λ z. omega arith)
-
-has-live-client-requires : tie.Need-has-live-client-requires
-has-live-client-requires c κs = search needs
 
 returns-3 : tie.Need-returns-3
 returns-3 c =
@@ -40,12 +31,6 @@ returns-3 c =
     let a = (c .before .before .before .before .before .before .before .before .args) in
     refused-answers 14 (λ q. retireLines q (a .a) (hasLiveClientIn (marksFrom (a .sort .now) (a .live .now) (a .tm .now)) (a .count) (a .a))) _ (row-at .ensures)
     (first-line-fails 8 _ _ 14 (ne-eqb _ 0 (c .before .before .before .before .before .before .before .if1 .left)) (first-line-holds 14 _ _ (or-right (not (noAmounts (row-at .result))) (sym (c .before .has-live-client .ensures) ∙ c .if3 .taken)))) (λ z. omega arith)
-
-with-live-requires : tie.Need-with-live-requires
-with-live-requires c κs = search needs
-
-element-write-live : tie.Need-element-write-live
-element-write-live c = search needs
 
 returns-4 : tie.Need-returns-4
 returns-4 c =
@@ -59,13 +44,5 @@ returns-4 c =
 pub retire-spec : {M : Type 1} → statement M
 retire-spec =
     tie.close
-    (tie.spec
-    returns
-    row-at-requires
-    no-amounts-requires
-    returns-2
-    has-live-client-requires
-    returns-3
-    with-live-requires
-    element-write-live
-    returns-4)
+    (tie.spec returns (λ c κs. search needs) (λ c κs. search needs) returns-2 (λ c κs. search needs) returns-3
+    (λ c κs. search needs) (λ c. search needs) returns-4)

@@ -34,9 +34,6 @@ passed s = needPassesIn (marks s) (s .args .w .now) (deemedUnderIn (s .args .w .
 abbrev own : tie.Start → Row → List Line
 own s q = marginLines q (s .args .y) (passed s)
 
-row-at-requires : tie.Need-row-at-requires
-row-at-requires c κs = search needs
-
 need-passes-after-requires : tie.Need-need-passes-after-requires
 need-passes-after-requires c κs = let r = c .before .before .before in (start r .pre .0, start r .pre .1, r .row-at .ensures)
 
@@ -45,12 +42,6 @@ returns c =
     let a = asked (c .before) in
     let r = a .before .before in
     refused-answers 13 (own (start r)) _ (r .row-at .ensures) (first-line-holds 13 _ _ (and-join (lt-ltb _ _ (a .if1 .taken)) (sym (c .before .need-passes-after .ensures) ∙ c .if2 .taken))) (λ z. omega arith)
-
-with-margin-requires : tie.Need-with-margin-requires
-with-margin-requires c κs = search needs
-
-mul-w : tie.Need-mul-w
-mul-w c = search needs
 
 add-w : tie.Need-add-w
 add-w c = omega (arith, start (c .before .before .before) .pre .0 .inside)
@@ -78,13 +69,5 @@ returns-2 c =
 pub set-margin-spec : {M : Type 1} → statement M
 set-margin-spec =
     tie.close
-    (tie.spec
-    row-at-requires
-    need-passes-after-requires
-    returns
-    with-margin-requires
-    mul-w
-    add-w
-    mul-w-2
-    element-write-w
-    returns-2)
+    (tie.spec (λ c κs. search needs) need-passes-after-requires returns (λ c κs. search needs) (λ c. search needs) add-w
+    mul-w-2 element-write-w returns-2)

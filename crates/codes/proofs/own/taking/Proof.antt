@@ -15,12 +15,6 @@ use Rattle.codes.proofs.own.taking.Tie as tie
 returns : tie.Need-returns
 returns c = first-line-holds 17 _ _ (c .if1 .taken)
 
-account-of-requires : tie.Need-account-of-requires
-account-of-requires c κs = search needs
-
-deemed-under-at-requires : tie.Need-deemed-under-at-requires
-deemed-under-at-requires c κs = search needs
-
 under-here : (c : tie.After-deemed-under-at) → (let a = c .before .before .before .args in c .deemed-under-at .result ≡ getD (deemedUnderIn (a .w .now) (a .needs .now)) (a .i) 0)
 under-here c = let s = c .before .before .before in c .deemed-under-at .ensures ∙ sym (under-is (s .args .w .now) (s .args .needs .now) (s .args .i) (s .pre .0))
 
@@ -28,9 +22,6 @@ blocked-with-requires : tie.Need-blocked-with-requires
 blocked-with-requires c κs =
     let s = c .before .before .before in
     (rw (c .before .account-of .ensures) (omega (arith, s .pre .1 .margin)), rw (under-here c) (omega (arith, s .pre .3)))
-
-collateral-of-requires : tie.Need-collateral-of-requires
-collateral-of-requires c κs = search needs
 
 below-is : (c : tie.After-collateral-of) →
     let a = c .before .before .before .before .before .args in
@@ -51,11 +42,5 @@ returns-3 c = first-line-fails 17 _ _ 0 (c .before .before .before .before .befo
 pub taking-spec : {M : Type 1} → statement M
 taking-spec =
     tie.close
-    (tie.spec
-    returns
-    account-of-requires
-    deemed-under-at-requires
-    blocked-with-requires
-    collateral-of-requires
-    returns-2
-    returns-3)
+    (tie.spec returns (λ c κs. search needs) (λ c κs. search needs) blocked-with-requires (λ c κs. search needs)
+    returns-2 returns-3)

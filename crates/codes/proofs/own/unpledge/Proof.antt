@@ -28,14 +28,8 @@ after s q = withPledged q (q .pledged - s .args .y)
 abbrev own : tie.Start → Row → List Line
 own s q = unpledgeLines q (s .args .on) (leavesBelow q (after s q) (getD (deemedUnderIn (s .args .w .now) (s .args .needs .now)) (s .args .i) 0)) (s .args .y)
 
-row-at-requires : tie.Need-row-at-requires
-row-at-requires c κs = search needs
-
 returns : tie.Need-returns
 returns c = refused-answers 11 (own (c .before .before .before .before)) _ (c .before .before .row-at .ensures) (first-line-holds 11 _ _ (lt-ltb _ _ (c .if1 .taken))) (λ z. omega arith)
-
-with-pledged-requires : tie.Need-with-pledged-requires
-with-pledged-requires c κs = search needs
 
 taking-requires : tie.Need-taking-requires
 taking-requires c κs =
@@ -56,18 +50,6 @@ number c =
 returns-2 : tie.Need-returns-2
 returns-2 c = let e = enough (c .before .before .before) in refused-answers _ (own (start e)) _ (e .before .before .row-at .ensures) (number (c .before)) (c .if2 .taken)
 
-mul-w : tie.Need-mul-w
-mul-w c = search needs
-
-add-w : tie.Need-add-w
-add-w c = search needs
-
-mul-w-2 : tie.Need-mul-w-2
-mul-w-2 c = search needs
-
-element-write-w : tie.Need-element-write-w
-element-write-w c = search needs
-
 returns-3 : tie.Need-returns-3
 returns-3 c =
     let new = c .before .before .before in
@@ -81,14 +63,5 @@ returns-3 c =
 pub unpledge-spec : {M : Type 1} → statement M
 unpledge-spec =
     tie.close
-    (tie.spec
-    row-at-requires
-    returns
-    with-pledged-requires
-    taking-requires
-    returns-2
-    mul-w
-    add-w
-    mul-w-2
-    element-write-w
-    returns-3)
+    (tie.spec (λ c κs. search needs) returns (λ c κs. search needs) taking-requires returns-2 (λ c. search needs)
+    (λ c. search needs) (λ c. search needs) (λ c. search needs) returns-3)

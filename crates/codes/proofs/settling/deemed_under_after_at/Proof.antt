@@ -1,7 +1,7 @@
 -- `codes::settling::deemed_under_after_at` meets its contract: what is deemed under the account, its TM and the CM, each read at its place.
 use borrow.Author.Needs.{needs}
 use mathlib.Core.Path.{_≡_, sym, ap, _∙_}
-use Prim.Native.Nat.{ℕ, _≤_, _<_}
+use Prim.Native.Nat.{ℕ, _<_}
 use native.Mathlib.Omega.{arith}
 use lib.ListN.{getD}
 use Rattle.rows.specs.Rows.{accountOf}
@@ -32,12 +32,6 @@ member-in c = rw (c .row-at .ensures) (start c .pre .0 .ranges (start c .args .o
 member-is : (c : tie.After-account-of) → (let a = start (c .before) .args in c .account-of .result ≡ accountIn (marksFrom (a .sort .now) (a .live .now) (a .tm .now)) (a .w .now) (a .old .tm))
 member-is c = c .account-of .ensures ∙ ap accountOf (c .before .row-at .ensures)
 
-cast-t : tie.Need-cast-t
-cast-t c = search needs
-
-row-at-requires : tie.Need-row-at-requires
-row-at-requires c κs = search needs
-
 account-of-requires : tie.Need-account-of-requires
 account-of-requires c κs = member-in c
 
@@ -46,9 +40,6 @@ deemed-under-at-requires c κs = start (c .before) .pre .0 .inside
 
 deemed-under-at-requires-2 : tie.Need-deemed-under-at-requires-2
 deemed-under-at-requires-2 c κs = start (c .before .before) .pre .1
-
-deemed-under-at-requires-3 : tie.Need-deemed-under-at-requires-3
-deemed-under-at-requires-3 c κs = omega arith
 
 own-is : (c : tie.After-deemed-under-at3) → (let s = start (rowed c) in c .before .before .deemed-under-at .result ≡ under s (s .args .i))
 own-is c = let s = start (rowed c) in is-under s (s .args .i) (s .pre .0 .inside) (c .before .before .deemed-under-at .ensures)
@@ -80,4 +71,5 @@ returns c =
 pub deemed-under-after-at-spec : {M : Type 1} → statement M
 deemed-under-after-at-spec =
     tie.close
-    (tie.spec cast-t row-at-requires account-of-requires deemed-under-at-requires deemed-under-at-requires-2 deemed-under-at-requires-3 deemed-under-after-requires returns)
+    (tie.spec (λ c. search needs) (λ c κs. search needs) account-of-requires deemed-under-at-requires
+    deemed-under-at-requires-2 (λ c κs. omega arith) deemed-under-after-requires returns)

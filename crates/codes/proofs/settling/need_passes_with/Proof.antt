@@ -7,12 +7,6 @@ use borrow.Author.Needs.{needs}
 use Rattle.codes.proofs.settling.need_passes_with.Statement.{statement}
 use Rattle.codes.proofs.settling.need_passes_with.Tie as tie
 
-only-if-requires : tie.Need-only-if-requires
-only-if-requires c κs = search needs
-
-only-if-requires-2 : tie.Need-only-if-requires-2
-only-if-requires-2 c κs = search needs
-
 add-result : tie.Need-add-result
 add-result c =
     let a = (c .before .before .before .before .args) in
@@ -28,4 +22,5 @@ returns c = rw (c .before .before .before .only-if .ensures, c .before .only-if2
 
 pub need-passes-with-spec : {M : Type 1} → statement M
 need-passes-with-spec =
-    tie.close (tie.spec only-if-requires only-if-requires-2 add-result add-result-2 returns)
+    tie.close
+    (tie.spec (λ c κs. search needs) (λ c κs. search needs) add-result add-result-2 returns)

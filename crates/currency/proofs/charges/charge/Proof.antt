@@ -12,9 +12,6 @@ use Rattle.currency.proofs.charges.charge.Tie as tie
 share-is : (c : tie.After-rate) → c .before .carried .result * c .rate .result ≡ shareOf (c .before .before .args .position)
 share-is c = ap₂ _*_ (c .before .carried .ensures) (c .rate .ensures)
 
-carried-requires : tie.Need-carried-requires
-carried-requires c κs = search needs
-
 rate-requires : tie.Need-rate-requires
 rate-requires c κs = faultless (c .before .args .position) (c .before .pre) .known
 
@@ -22,9 +19,6 @@ mul-share : tie.Need-mul-share
 mul-share c =
     let s = c .before .before in
     record { fits = omega (arith, share-most (s .args .position) (s .pre), share-is c) }
-
-parts-requires : tie.Need-parts-requires
-parts-requires c κs = search needs
 
 rounded-up-requires : tie.Need-rounded-up-requires
 rounded-up-requires c κs =
@@ -39,4 +33,4 @@ returns c = c .rounded-up .ensures ∙ ap₂ roundedUp (share-is (c .before .bef
 pub charge-spec : {M : Type 1} → statement M
 charge-spec =
     tie.close
-    (tie.spec carried-requires rate-requires mul-share parts-requires rounded-up-requires returns)
+    (tie.spec (λ c κs. search needs) rate-requires mul-share (λ c κs. search needs) rounded-up-requires returns)

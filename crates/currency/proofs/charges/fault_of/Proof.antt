@@ -20,12 +20,6 @@ returns : tie.Need-returns
 unfolding faultOf
 returns c = sym (first-here 18 _ _ (le-leb _ _ (c .if1 .taken)))
 
-is-option-requires : tie.Need-is-option-requires
-is-option-requires c κs = search needs
-
-rate-requires : tie.Need-rate-requires
-rate-requires c κs = search needs
-
 returns-2 : tie.Need-returns-2
 unfolding faultOf
 returns-2 c =
@@ -53,5 +47,4 @@ returns-4 c =
     sym (first-later 18 _ _ (lt-leb _ _ (o .before .if1 .left)) ∙ first-later 19 _ _ (sym e ∙ i .if2 .left) ∙ first-later 20 _ _ (le-ltb _ _ (c .if3 .left)) ∙ first-none)
 
 pub fault-of-spec : {M : Type 1} → statement M
-fault-of-spec =
-    tie.close (tie.spec returns is-option-requires rate-requires returns-2 returns-3 returns-4)
+fault-of-spec = tie.close (tie.spec returns (λ c κs. search needs) (λ c κs. search needs) returns-2 returns-3 returns-4)

@@ -16,12 +16,6 @@ column-most Short = omega arith
 column-most Long = omega arith
 column-most Spread = omega arith
 
-mul-at : tie.Need-mul-at
-mul-at c = search needs
-
-column-requires : tie.Need-column-requires
-column-requires c κs = search needs
-
 add-at : tie.Need-add-at
 add-at c = omega (arith, c .column .ensures, column-most (c .before .args .side))
 
@@ -36,4 +30,4 @@ unfolding rates rateOf
 returns c = ap (λ k. getD rates (2 * c .before .args .product + k) 0) (c .column .ensures)
 
 pub rate-spec : {M : Type 1} → statement M
-rate-spec = tie.close (tie.spec mul-at column-requires add-at mul-result array-read-result returns)
+rate-spec = tie.close (tie.spec (λ c. search needs) (λ c κs. search needs) add-at mul-result array-read-result returns)

@@ -13,9 +13,6 @@ first-none : first [] ≡ 0
 unfolding first
 first-none = refl
 
-known-code-requires : tie.Need-known-code-requires
-known-code-requires c κs = search needs
-
 returns : tie.Need-returns
 unfolding faultOf
 returns c = sym (first-here 4 _ _ (rw (← c .before .known-code .ensures) (c .if1 .taken)))
@@ -52,11 +49,4 @@ returns-4 c =
 pub fault-of-spec : {M : Type 1} → statement M
 fault-of-spec =
     tie.close
-    (tie.spec
-    known-code-requires
-    returns
-    suits-code-requires
-    returns-2
-    good-amounts-requires
-    returns-3
-    returns-4)
+    (tie.spec (λ c κs. search needs) returns suits-code-requires returns-2 good-amounts-requires returns-3 returns-4)

@@ -10,21 +10,6 @@ use Rattle.dayfile.proofs.Judging.{kinds-suit, one-suits, no-other, no-
 use Rattle.dayfile.proofs.faults.good_amounts.Statement.{statement}
 use Rattle.dayfile.proofs.faults.good_amounts.Tie as tie
 
-names-kinds-requires : tie.Need-names-kinds-requires
-names-kinds-requires c κs = search needs
-
-good-amount-requires : tie.Need-good-amount-requires
-good-amount-requires c κs = search needs
-
-good-amount-requires-2 : tie.Need-good-amount-requires-2
-good-amount-requires-2 c κs = search needs
-
-good-amount-requires-3 : tie.Need-good-amount-requires-3
-good-amount-requires-3 c κs = search needs
-
-good-amount-requires-4 : tie.Need-good-amount-requires-4
-good-amount-requires-4 c κs = search needs
-
 returns : tie.Need-returns
 returns c =
     let n = c .before .before .before .before .before .before in
@@ -33,15 +18,6 @@ returns c =
     let e = kinds-suit (r .code) (r .named) (sym (n .before .names-kinds .ensures) ∙ n .if1 .taken) in
     let o = no-other (r .named) (leb-true (r .named) 15 (and-split (leb 1 (r .named)) (leb (r .named) 15) (e ∙ start .pre .1) .1)) in
     cc (unnamed-amount (bit 4 (r .named)) (leastPledged (r .code)) (r .pledged) (o .0), unnamed-amount (bit 5 (r .named)) 0 (r .margin) (o .1))
-
-no-kinds-requires : tie.Need-no-kinds-requires
-no-kinds-requires c κs = search needs
-
-good-pledged-requires : tie.Need-good-pledged-requires
-good-pledged-requires c κs = search needs
-
-good-set-requires : tie.Need-good-set-requires
-good-set-requires c κs = search needs
 
 returns-2 : tie.Need-returns-2
 returns-2 c =
@@ -60,14 +36,5 @@ returns-2 c =
 pub good-amounts-spec : {M : Type 1} → statement M
 good-amounts-spec =
     tie.close
-    (tie.spec
-    names-kinds-requires
-    good-amount-requires
-    good-amount-requires-2
-    good-amount-requires-3
-    good-amount-requires-4
-    returns
-    no-kinds-requires
-    good-pledged-requires
-    good-set-requires
-    returns-2)
+    (tie.spec (λ c κs. search needs) (λ c κs. search needs) (λ c κs. search needs) (λ c κs. search needs)
+    (λ c κs. search needs) returns (λ c κs. search needs) (λ c κs. search needs) (λ c κs. search needs) returns-2)

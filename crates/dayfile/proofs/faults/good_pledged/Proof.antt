@@ -7,16 +7,10 @@ use Rattle.dayfile.specs.Records.{goodAmount}
 use Rattle.dayfile.proofs.faults.good_pledged.Statement.{statement}
 use Rattle.dayfile.proofs.faults.good_pledged.Tie as tie
 
-good-set-requires : tie.Need-good-set-requires
-good-set-requires c κs = search needs
-
 returns : tie.Need-returns
 returns c =
     let a = c .before .before .args in
     c .good-set .ensures ∙ ap (λ n. goodAmount (a .bit) n (a .x)) (sym (pick-yes _ _ _ (eq-eqb _ _ (c .before .if1 .taken))))
-
-good-amount-requires : tie.Need-good-amount-requires
-good-amount-requires c κs = search needs
 
 returns-2 : tie.Need-returns-2
 returns-2 c =
@@ -24,4 +18,4 @@ returns-2 c =
     c .good-amount .ensures ∙ ap (λ n. goodAmount (a .bit) n (a .x)) (sym (pick-no _ _ _ (ne-eqb _ _ (c .before .if1 .left))))
 
 pub good-pledged-spec : {M : Type 1} → statement M
-good-pledged-spec = tie.close (tie.spec good-set-requires returns good-amount-requires returns-2)
+good-pledged-spec = tie.close (tie.spec (λ c κs. search needs) returns (λ c κs. search needs) returns-2)

@@ -14,8 +14,5 @@ mul-result c = omega (arith, ones-le 8 (c .args .named) (c .fits .named .fits))
 add-result : tie.Need-add-result
 add-result c = omega (arith, ones-le 8 (c .args .named) (c .fits .named .fits))
 
-returns : tie.Need-returns
-returns c = search needs
-
 pub size-spec : {M : Type 1} → statement M
-size-spec = tie.close (tie.spec cast-n mul-result add-result returns)
+size-spec = tie.close (tie.spec cast-n mul-result add-result (λ c. search needs))

@@ -6,16 +6,10 @@ use Rattle.dayfile.proofs.Judging.{kinds-suit, one-suits}
 use Rattle.dayfile.proofs.faults.suits_code.Statement.{statement}
 use Rattle.dayfile.proofs.faults.suits_code.Tie as tie
 
-names-kinds-requires : tie.Need-names-kinds-requires
-names-kinds-requires c κs = search needs
-
 returns : tie.Need-returns
 returns c =
     let a = c .before .before .args in
     kinds-suit (a .code) (a .named) (sym (c .before .names-kinds .ensures) ∙ c .if1 .taken)
-
-mark-of-requires : tie.Need-mark-of-requires
-mark-of-requires c κs = search needs
 
 returns-2 : tie.Need-returns-2
 returns-2 c =
@@ -25,4 +19,4 @@ returns-2 c =
     ∙ one-suits (a .code) (a .named) (start .pre) (sym (c .before .before .names-kinds .ensures) ∙ c .before .if1 .left)
 
 pub suits-code-spec : {M : Type 1} → statement M
-suits-code-spec = tie.close (tie.spec names-kinds-requires returns mark-of-requires returns-2)
+suits-code-spec = tie.close (tie.spec (λ c κs. search needs) returns (λ c κs. search needs) returns-2)

@@ -3,14 +3,5 @@ use borrow.Author.Needs.{needs}
 use Rattle.dayfile.proofs.reader.next_at.Statement.{statement}
 use Rattle.dayfile.proofs.reader.next_at.Tie as tie
 
-answer-at-requires : tie.Need-answer-at-requires
-answer-at-requires c κs = search needs
-
-place-after-requires : tie.Need-place-after-requires
-place-after-requires c κs = search needs
-
-returns : tie.Need-returns
-returns c = cc
-
 pub next-at-spec : {M : Type 1} → statement M
-next-at-spec = tie.close (tie.spec answer-at-requires place-after-requires returns)
+next-at-spec = tie.close (tie.spec (λ c κs. search needs) (λ c κs. search needs) (λ c. cc))

@@ -6,9 +6,6 @@ use Rattle.dayfile.proofs.Amounts.{got-times, times-fits}
 use Rattle.dayfile.proofs.reading.amount_near.Statement.{statement}
 use Rattle.dayfile.proofs.reading.amount_near.Tie as tie
 
-number8-requires : tie.Need-number8-requires
-number8-requires c κs = search needs
-
 mul-result : tie.Need-mul-result
 mul-result c =
     let start = c .before .before in
@@ -20,4 +17,4 @@ returns c =
     ap (λ n. start .args .bit * n) (c .number8 .ensures) ∙ got-times (start .args .bit) _ (start .pre .1)
 
 pub amount-near-spec : {M : Type 1} → statement M
-amount-near-spec = tie.close (tie.spec number8-requires mul-result returns)
+amount-near-spec = tie.close (tie.spec (λ c κs. search needs) mul-result returns)

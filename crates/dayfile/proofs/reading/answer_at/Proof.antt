@@ -5,21 +5,6 @@ use borrow.Author.Needs.{needs}
 use Rattle.dayfile.proofs.reading.answer_at.Statement.{statement}
 use Rattle.dayfile.proofs.reading.answer_at.Tie as tie
 
-found-at-requires : tie.Need-found-at-requires
-found-at-requires c κs = search needs
-
-enum-told : tie.Need-enum-told
-enum-told c = search needs
-
-enum-told-2 : tie.Need-enum-told-2
-enum-told-2 c = search needs
-
-enum-known-record : tie.Need-enum-known-record
-enum-known-record c = search needs
-
-fault-of-requires : tie.Need-fault-of-requires
-fault-of-requires c κs = search needs
-
 returns : tie.Need-returns
 returns c = read-good _ _ _ _ (sym (c .before .before .before .before .before .found-at .ensures .0) ∙ c .before .before .before .«record» .given .1) _ (c .before .fault-of .ensures) (c .if1 .taken)
 
@@ -35,13 +20,5 @@ returns-4 c = read-bad _ _ _ _ (sym (c .before .before .before .before .before .
 pub answer-at-spec : {M : Type 1} → statement M
 answer-at-spec =
     tie.close
-    (tie.spec
-    found-at-requires
-    enum-told
-    enum-told-2
-    enum-known-record
-    fault-of-requires
-    returns
-    returns-2
-    returns-3
-    returns-4)
+    (tie.spec (λ c κs. search needs) (λ c. search needs) (λ c. search needs) (λ c. search needs) (λ c κs. search needs)
+    returns returns-2 returns-3 returns-4)

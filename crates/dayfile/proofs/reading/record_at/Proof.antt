@@ -10,18 +10,6 @@ use Rattle.dayfile.proofs.Looking.{record-at}
 use Rattle.dayfile.proofs.reading.record_at.Statement.{statement}
 use Rattle.dayfile.proofs.reading.record_at.Tie as tie
 
-places-of-requires : tie.Need-places-of-requires
-places-of-requires c κs = search needs
-
-number2-requires : tie.Need-number2-requires
-number2-requires c κs = search needs
-
-add-number2 : tie.Need-add-number2
-add-number2 c = search needs
-
-number2-requires-2 : tie.Need-number2-requires-2
-number2-requires-2 c κs = search needs
-
 number8-if-requires : tie.Need-number8-if-requires
 number8-if-requires c κs =
     let p = c .before .before in
@@ -78,15 +66,6 @@ returns c =
 pub record-at-spec : {M : Type 1} → statement M
 record-at-spec =
     tie.close
-    (tie.spec
-    places-of-requires
-    number2-requires
-    add-number2
-    number2-requires-2
-    number8-if-requires
-    number8-if-requires-2
-    number8-if-requires-3
-    number8-if-requires-4
-    number8-if-requires-5
-    number8-if-requires-6
-    returns)
+    (tie.spec (λ c κs. search needs) (λ c κs. search needs) (λ c. search needs) (λ c κs. search needs)
+    number8-if-requires number8-if-requires-2 number8-if-requires-3 number8-if-requires-4 number8-if-requires-5
+    number8-if-requires-6 returns)

@@ -8,18 +8,6 @@ use Rattle.dayfile.proofs.Looking.{record-at}
 use Rattle.dayfile.proofs.reading.record_near.Statement.{statement}
 use Rattle.dayfile.proofs.reading.record_near.Tie as tie
 
-places-of-requires : tie.Need-places-of-requires
-places-of-requires c κs = search needs
-
-number2-requires : tie.Need-number2-requires
-number2-requires c κs = search needs
-
-add-number2 : tie.Need-add-number2
-add-number2 c = search needs
-
-number2-requires-2 : tie.Need-number2-requires-2
-number2-requires-2 c κs = search needs
-
 amount-near-requires : tie.Need-amount-near-requires
 amount-near-requires c κs = omega (arith, ap (λ (p : Places). p .p0) (c .before .before .places-of .ensures))
 
@@ -58,15 +46,6 @@ returns c =
 pub record-near-spec : {M : Type 1} → statement M
 record-near-spec =
     tie.close
-    (tie.spec
-    places-of-requires
-    number2-requires
-    add-number2
-    number2-requires-2
-    amount-near-requires
-    amount-near-requires-2
-    amount-near-requires-3
-    amount-near-requires-4
-    amount-near-requires-5
-    amount-near-requires-6
-    returns)
+    (tie.spec (λ c κs. search needs) (λ c κs. search needs) (λ c. search needs) (λ c κs. search needs)
+    amount-near-requires amount-near-requires-2 amount-near-requires-3 amount-near-requires-4 amount-near-requires-5
+    amount-near-requires-6 returns)

@@ -17,14 +17,8 @@ put8-requires c κs =
     let a = c .before .before .before .args in
     omega (arith, c .before .before .before .pre, ap length (field-named (a .bit) (a .x) (c .before .if1 .left)), length-bytesOf 8 (a .x))
 
-add-result : tie.Need-add-result
-add-result c = search needs
-
-same-length : tie.Need-same-length
-same-length c = search needs
-
 returns-2 : tie.Need-returns-2
 returns-2 c = put-eight _ _ _ _ _ (c .before .before .before .before .if1 .left) (c .before .before .put8 .ensures)
 
 pub put-amount-spec : {M : Type 1} → statement M
-put-amount-spec = tie.close (tie.spec returns put8-requires add-result same-length returns-2)
+put-amount-spec = tie.close (tie.spec returns put8-requires (λ c. search needs) (λ c. search needs) returns-2)

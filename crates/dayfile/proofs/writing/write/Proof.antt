@@ -10,16 +10,10 @@ use borrow.Author.Needs.{needs}
 use Rattle.dayfile.proofs.writing.write.Statement.{statement}
 use Rattle.dayfile.proofs.writing.write.Tie as tie
 
-fault-of-requires : tie.Need-fault-of-requires
-fault-of-requires c κs = search needs
-
 returns : tie.Need-returns
 returns c =
     let a = c .before .before .before .args in
     wrote-named _ _ _ _ _ (write-refused (a .«record») (now (a .room)) _ (c .before .fault-of .ensures) (c .if1 .taken))
-
-size-requires : tie.Need-size-requires
-size-requires c κs = search needs
 
 returns-2 : tie.Need-returns-2
 returns-2 c =
@@ -35,9 +29,6 @@ put-record-requires c κs =
     let n = length-written (a .«record») g in
     omega (arith, n, c .before .before .size .ensures, c .before .if2 .left)
 
-same-length : tie.Need-same-length
-same-length c = search needs
-
 returns-3 : tie.Need-returns-3
 returns-3 c =
     let a = c .before .before .before .before .before .before .before .before .before .args in
@@ -48,11 +39,5 @@ returns-3 c =
 pub write-spec : {M : Type 1} → statement M
 write-spec =
     tie.close
-    (tie.spec
-    fault-of-requires
-    returns
-    size-requires
-    returns-2
-    put-record-requires
-    same-length
+    (tie.spec (λ c κs. search needs) returns (λ c κs. search needs) returns-2 put-record-requires (λ c. search needs)
     returns-3)

@@ -1,7 +1,7 @@
 -- `exposure::amounts::amount_of` meets its contract.
 use mathlib.Core.Path.{_≡_, ap, ap₂, _∙_}
 use native.Mathlib.Omega.{arith}
-use lib.IntN.{ℤ, _+ℤ_}
+use lib.IntN.{_+ℤ_}
 use mir.Facts.{toZ-ofZ}
 use mir.Syntax.{w64}
 use mir.Val.{ofZ, toZ}
@@ -53,12 +53,8 @@ plus-requires-3 c κs =
     rw (three c, toZ-ofZ (s .fits .settlement))
     (within-fits _ _ (four-within (a .premium) (a .loss) (a .exercise) (a .settlement) (s .pre)) (omega arith))
 
-payable-requires : tie.Need-payable-requires
-payable-requires c κs = search needs
-
 returns : tie.Need-returns
 returns c = c .payable .ensures ∙ ap payableOf (four (c .before))
 
 pub amount-of-spec : {M : Type 1} → statement M
-amount-of-spec =
-    tie.close (tie.spec plus-requires plus-requires-2 plus-requires-3 payable-requires returns)
+amount-of-spec = tie.close (tie.spec plus-requires plus-requires-2 plus-requires-3 (λ c κs. search needs) returns)

@@ -7,12 +7,6 @@ use borrow.Author.Needs.{needs}
 use Rattle.exposure.proofs.join.with_exposure.Statement.{statement}
 use Rattle.exposure.proofs.join.with_exposure.Tie as tie
 
-enum-known-made : tie.Need-enum-known-made
-enum-known-made c = search needs
-
-enum-known-made-2 : tie.Need-enum-known-made-2
-enum-known-made-2 c = search needs
-
 with-amount-requires : tie.Need-with-amount-requires
 with-amount-requires c κs =
     let m = c .before .before in
@@ -36,11 +30,4 @@ returns-4 c =
 pub with-exposure-spec : {M : Type 1} → statement M
 with-exposure-spec =
     tie.close
-    (tie.spec
-    enum-known-made
-    enum-known-made-2
-    with-amount-requires
-    returns
-    returns-2
-    returns-3
-    returns-4)
+    (tie.spec (λ c. search needs) (λ c. search needs) with-amount-requires returns returns-2 returns-3 returns-4)

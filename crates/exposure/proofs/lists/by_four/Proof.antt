@@ -9,45 +9,6 @@ use borrow.Author.Needs.{needs}
 use Rattle.exposure.proofs.lists.by_four.Statement.{statement}
 use Rattle.exposure.proofs.lists.by_four.Tie as tie
 
-mul-at : tie.Need-mul-at
-mul-at c = search needs
-
-mul-end-of-day : tie.Need-mul-end-of-day
-mul-end-of-day c = search needs
-
-shared-slice-copy-out-end-of-day : tie.Need-shared-slice-copy-out-end-of-day
-shared-slice-copy-out-end-of-day c = search needs
-
-add-end-of-day : tie.Need-add-end-of-day
-add-end-of-day c = search needs
-
-mul-end-of-day-2 : tie.Need-mul-end-of-day-2
-mul-end-of-day-2 c = search needs
-
-shared-slice-copy-out-end-of-day-2 : tie.Need-shared-slice-copy-out-end-of-day-2
-shared-slice-copy-out-end-of-day-2 c = search needs
-
-add-end-of-day-2 : tie.Need-add-end-of-day-2
-add-end-of-day-2 c = search needs
-
-mul-end-of-day-3 : tie.Need-mul-end-of-day-3
-mul-end-of-day-3 c = search needs
-
-shared-slice-copy-out-end-of-day-3 : tie.Need-shared-slice-copy-out-end-of-day-3
-shared-slice-copy-out-end-of-day-3 c = search needs
-
-add-end-of-day-3 : tie.Need-add-end-of-day-3
-add-end-of-day-3 c = search needs
-
-mul-end-of-day-4 : tie.Need-mul-end-of-day-4
-mul-end-of-day-4 c = search needs
-
-shared-slice-copy-out-end-of-day-4 : tie.Need-shared-slice-copy-out-end-of-day-4
-shared-slice-copy-out-end-of-day-4 c = search needs
-
-end-of-day-requires : tie.Need-end-of-day-requires
-end-of-day-requires c κs = search needs
-
 returns : tie.Need-returns
 unfolding clientOf
 returns c =
@@ -67,18 +28,6 @@ returns c =
 pub by-four-spec : {M : Type 1} → statement M
 by-four-spec =
     tie.close
-    (tie.spec
-    mul-at
-    mul-end-of-day
-    shared-slice-copy-out-end-of-day
-    add-end-of-day
-    mul-end-of-day-2
-    shared-slice-copy-out-end-of-day-2
-    add-end-of-day-2
-    mul-end-of-day-3
-    shared-slice-copy-out-end-of-day-3
-    add-end-of-day-3
-    mul-end-of-day-4
-    shared-slice-copy-out-end-of-day-4
-    end-of-day-requires
-    returns)
+    (tie.spec (λ c. search needs) (λ c. search needs) (λ c. search needs) (λ c. search needs) (λ c. search needs)
+    (λ c. search needs) (λ c. search needs) (λ c. search needs) (λ c. search needs) (λ c. search needs)
+    (λ c. search needs) (λ c. search needs) (λ c κs. search needs) returns)

@@ -9,27 +9,6 @@ use borrow.Author.Needs.{needs}
 use Rattle.exposure.proofs.lists.by_two.Statement.{statement}
 use Rattle.exposure.proofs.lists.by_two.Tie as tie
 
-mul-at : tie.Need-mul-at
-mul-at c = search needs
-
-mul-intraday : tie.Need-mul-intraday
-mul-intraday c = search needs
-
-shared-slice-copy-out-intraday : tie.Need-shared-slice-copy-out-intraday
-shared-slice-copy-out-intraday c = search needs
-
-add-intraday : tie.Need-add-intraday
-add-intraday c = search needs
-
-mul-intraday-2 : tie.Need-mul-intraday-2
-mul-intraday-2 c = search needs
-
-shared-slice-copy-out-intraday-2 : tie.Need-shared-slice-copy-out-intraday-2
-shared-slice-copy-out-intraday-2 c = search needs
-
-intraday-requires : tie.Need-intraday-requires
-intraday-requires c κs = search needs
-
 returns : tie.Need-returns
 unfolding clientOf
 returns c =
@@ -42,12 +21,5 @@ returns c =
 pub by-two-spec : {M : Type 1} → statement M
 by-two-spec =
     tie.close
-    (tie.spec
-    mul-at
-    mul-intraday
-    shared-slice-copy-out-intraday
-    add-intraday
-    mul-intraday-2
-    shared-slice-copy-out-intraday-2
-    intraday-requires
-    returns)
+    (tie.spec (λ c. search needs) (λ c. search needs) (λ c. search needs) (λ c. search needs) (λ c. search needs)
+    (λ c. search needs) (λ c κs. search needs) returns)

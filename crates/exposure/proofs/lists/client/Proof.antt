@@ -6,14 +6,8 @@ use borrow.Author.Needs.{needs}
 use Rattle.exposure.proofs.lists.client.Statement.{statement}
 use Rattle.exposure.proofs.lists.client.Tie as tie
 
-enum-told : tie.Need-enum-told
-enum-told c = search needs
-
 by-two-requires : tie.Need-by-two-requires
 by-two-requires c κs = rw (c .enum-told .given .1) at (c .before .before .pre)
-
-enum-told-2 : tie.Need-enum-told-2
-enum-told-2 c = search needs
 
 by-four-requires : tie.Need-by-four-requires
 by-four-requires c κs = rw (c .enum-told2 .given .1) at (c .before .before .pre)
@@ -26,4 +20,5 @@ returns-2 c = c .by-four .ensures ∙ ap (λ f. clientOf f (now (c .before .befo
 
 pub client-spec : {M : Type 1} → statement M
 client-spec =
-    tie.close (tie.spec enum-told by-two-requires enum-told-2 by-four-requires returns returns-2)
+    tie.close
+    (tie.spec (λ c. search needs) by-two-requires (λ c. search needs) by-four-requires returns returns-2)

@@ -14,9 +14,6 @@ use Rattle.exposure.proofs.lists.exposures.Tie as tie
 place-is : (c : tie.After-place) → c .place .result ≡ figuresFrom (c .before .before .before .args .form) (clientsIn (c .before .before .before .args .form) (length (now (c .before .before .before .args .figures))))
 place-is c = c .place .ensures ∙ ap (figuresFrom (c .before .before .before .args .form)) (c .before .clients .ensures)
 
-clients-requires : tie.Need-clients-requires
-clients-requires c κs = search needs
-
 place-requires : tie.Need-place-requires
 place-requires c κs =
     let a = c .before .before .args in
@@ -39,12 +36,6 @@ returns-2 c =
     let a = k .before .before .args in
     room-wrong (a .form) (now (a .figures)) (now (a .room)) (λ e. c .if2 .taken (e ∙ ap (λ n. 2 * n) (sym (k .clients .ensures))))
 
-put-all-requires : tie.Need-put-all-requires
-put-all-requires c κs = search needs
-
-same-length : tie.Need-same-length
-same-length c = search needs
-
 returns-3 : tie.Need-returns-3
 returns-3 c =
     let p = c .before .before in
@@ -62,12 +53,5 @@ returns-3 c =
 pub exposures-spec : {M : Type 1} → statement M
 exposures-spec =
     tie.close
-    (tie.spec
-    clients-requires
-    place-requires
-    returns
-    mul-if2
-    returns-2
-    put-all-requires
-    same-length
+    (tie.spec (λ c κs. search needs) place-requires returns mul-if2 returns-2 (λ c κs. search needs) (λ c. search needs)
     returns-3)

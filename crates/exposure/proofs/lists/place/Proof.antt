@@ -3,18 +3,6 @@ use borrow.Author.Needs.{needs}
 use Rattle.exposure.proofs.lists.place.Statement.{statement}
 use Rattle.exposure.proofs.lists.place.Tie as tie
 
-enum-told : tie.Need-enum-told
-enum-told c = search needs
-
-mul-result : tie.Need-mul-result
-mul-result c = search needs
-
-enum-told-2 : tie.Need-enum-told-2
-enum-told-2 c = search needs
-
-mul-result-2 : tie.Need-mul-result-2
-mul-result-2 c = search needs
-
 returns : tie.Need-returns
 returns c = rw (c .enum-told .given .1)
 
@@ -22,4 +10,6 @@ returns-2 : tie.Need-returns-2
 returns-2 c = rw (c .enum-told2 .given .1)
 
 pub place-spec : {M : Type 1} → statement M
-place-spec = tie.close (tie.spec enum-told mul-result enum-told-2 mul-result-2 returns returns-2)
+place-spec =
+    tie.close
+    (tie.spec (λ c. search needs) (λ c. search needs) (λ c. search needs) (λ c. search needs) returns returns-2)

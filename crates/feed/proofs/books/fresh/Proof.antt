@@ -4,12 +4,9 @@ use Rattle.feed.specs.Books.{freshFrom}
 use Rattle.feed.proofs.books.fresh.Statement.{statement}
 use Rattle.feed.proofs.books.fresh.Tie as tie
 
-fresh-requires : tie.Need-fresh-requires
-fresh-requires c κs = search needs
-
 returns : tie.Need-returns
 unfolding freshFrom
 returns c = rw (c .fresh .ensures)
 
 pub fresh-spec : {M : Type 1} → statement M
-fresh-spec = tie.close (tie.spec fresh-requires returns)
+fresh-spec = tie.close (tie.spec (λ c κs. search needs) returns)

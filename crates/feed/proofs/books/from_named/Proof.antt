@@ -10,12 +10,6 @@ use Rattle.feed.specs.Books.{freshFrom, fromHeld}
 use Rattle.feed.proofs.books.from_named.Statement.{statement}
 use Rattle.feed.proofs.books.from_named.Tie as tie
 
-names-file-requires : tie.Need-names-file-requires
-names-file-requires c κs = search needs
-
-fresh-requires : tie.Need-fresh-requires
-fresh-requires c κs = search needs
-
 returns : tie.Need-returns
 unfolding freshFrom
 returns c =
@@ -24,9 +18,6 @@ returns c =
     let f = ap (λ (x : From). x .named) e in
     let by = f ∙ sym (not-true _ (c .before .if1 .taken)) ∙ n .names-file .ensures in
     (by, record { count = _; name = _; named = by; file = []; bytes = λ i. omega arith; is = pick-second _ f e })
-
-from-file-requires : tie.Need-from-file-requires
-from-file-requires c κs = search needs
 
 returns-2 : tie.Need-returns-2
 unfolding fromHeld
@@ -39,4 +30,5 @@ returns-2 c =
 
 pub from-named-spec : {M : Type 1} → statement M
 from-named-spec =
-    tie.close (tie.spec names-file-requires fresh-requires returns from-file-requires returns-2)
+    tie.close
+    (tie.spec (λ c κs. search needs) (λ c κs. search needs) returns (λ c κs. search needs) returns-2)

@@ -5,15 +5,9 @@ use borrow.Author.Needs.{needs}
 use Rattle.feed.proofs.books.held.Statement.{statement}
 use Rattle.feed.proofs.books.held.Tie as tie
 
-read-requires : tie.Need-read-requires
-read-requires c κs = search needs
-
-tell-none-requires : tie.Need-tell-none-requires
-tell-none-requires c κs = search needs
-
 returns : tie.Need-returns
 unfolding fromHeld
 returns c = (ap fromHeld (c .before .before .before .read .ensures), λ i. c .before .before .before .before .shared-slice-known3 .given i .fits)
 
 pub held-spec : {M : Type 1} → statement M
-held-spec = tie.close (tie.spec read-requires tell-none-requires returns)
+held-spec = tie.close (tie.spec (λ c κs. search needs) (λ c κs. search needs) returns)

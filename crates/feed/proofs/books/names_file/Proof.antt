@@ -7,15 +7,6 @@ use Rattle.feed.specs.Books.{namesFile}
 use Rattle.feed.proofs.books.names_file.Statement.{statement}
 use Rattle.feed.proofs.books.names_file.Tie as tie
 
-is-there-requires : tie.Need-is-there-requires
-is-there-requires c κs = search needs
-
-slice-aggregate-is-same : tie.Need-slice-aggregate-is-same
-slice-aggregate-is-same c = search needs
-
-is-same-requires : tie.Need-is-same-requires
-is-same-requires c κs = search needs
-
 returns : tie.Need-returns
 unfolding namesFile
 returns c =
@@ -24,5 +15,4 @@ returns c =
     ap (λ x. x && not (c .is-same .result)) (t .is-there .ensures) ∙ ap (λ x. isThere (a .count) (a .word) && not x) (c .is-same .ensures)
 
 pub names-file-spec : {M : Type 1} → statement M
-names-file-spec =
-    tie.close (tie.spec is-there-requires slice-aggregate-is-same is-same-requires returns)
+names-file-spec = tie.close (tie.spec (λ c κs. search needs) (λ c. search needs) (λ c κs. search needs) returns)

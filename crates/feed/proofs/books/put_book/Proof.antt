@@ -10,21 +10,6 @@ use Rattle.bookfile.specs.Written.{size, writtenOf, roomAfter}
 use Rattle.feed.proofs.books.put_book.Statement.{statement}
 use Rattle.feed.proofs.books.put_book.Tie as tie
 
-slice-aggregate-write : tie.Need-slice-aggregate-write
-slice-aggregate-write c = search needs
-
-write-requires : tie.Need-write-requires
-write-requires c κs = search needs
-
-slice-aggregate-replace-named : tie.Need-slice-aggregate-replace-named
-slice-aggregate-replace-named c = search needs
-
-slice-aggregate-replace-named-2 : tie.Need-slice-aggregate-replace-named-2
-slice-aggregate-replace-named-2 c = search needs
-
-replace-named-requires : tie.Need-replace-named-requires
-replace-named-requires c κs = search needs
-
 returns : tie.Need-returns
 unfolding roomAfter
 returns c =
@@ -34,10 +19,5 @@ returns c =
 pub put-book-spec : {M : Type 1} → statement M
 put-book-spec =
     tie.close
-    (tie.spec
-    slice-aggregate-write
-    write-requires
-    slice-aggregate-replace-named
-    slice-aggregate-replace-named-2
-    replace-named-requires
+    (tie.spec (λ c. search needs) (λ c κs. search needs) (λ c. search needs) (λ c. search needs) (λ c κs. search needs)
     returns)

@@ -8,15 +8,9 @@ use Rattle.feed.specs.Books.{wentTo, nowhere}
 use Rattle.feed.proofs.books.to_named.Statement.{statement}
 use Rattle.feed.proofs.books.to_named.Tie as tie
 
-is-there-requires : tie.Need-is-there-requires
-is-there-requires c κs = search needs
-
 returns : tie.Need-returns
 unfolding pick nowhere
 returns c = (sym (not-true _ (c .if1 .taken)) ∙ c .before .is-there .ensures, refl)
-
-put-book-requires : tie.Need-put-book-requires
-put-book-requires c κs = search needs
 
 returns-2 : tie.Need-returns-2
 unfolding pick wentTo
@@ -24,4 +18,4 @@ returns-2 c =
     (sym (not-false _ (c .before .if1 .left)) ∙ c .before .before .is-there .ensures, ap (λ n. record { named = true; failed = c .put-book .result .failed; count = n }) (c .put-book .ensures))
 
 pub to-named-spec : {M : Type 1} → statement M
-to-named-spec = tie.close (tie.spec is-there-requires returns put-book-requires returns-2)
+to-named-spec = tie.close (tie.spec (λ c κs. search needs) returns (λ c κs. search needs) returns-2)

@@ -23,20 +23,11 @@ fits c = let l = c .lines-of-numbers in text-within-room _ (linesTo _ _) _ _ (l 
 returns : tie.Need-returns
 returns c = ((omega arith, omega arith), (nothing-to-print _ _ (not-true _ (c .if1 .taken)), (c .before .before .before .pre .2, pick-second _ (not-true _ (c .if1 .taken)) refl)))
 
-lines-of-numbers-requires : tie.Need-lines-of-numbers-requires
-lines-of-numbers-requires c κs = search needs
-
 slice-reshare-prefix-write-output : tie.Need-slice-reshare-prefix-write-output
 slice-reshare-prefix-write-output c = fits (c .before .before)
 
 slice-aggregate-write-output : tie.Need-slice-aggregate-write-output
 slice-aggregate-write-output c = sym (length-take-le _ _ (fits (c .before .before .before)))
-
-write-output-requires : tie.Need-write-output-requires
-write-output-requires c κs = search needs
-
-same-length : tie.Need-same-length
-same-length c = search needs
 
 returns-2 : tie.Need-returns-2
 returns-2 c =
@@ -54,11 +45,5 @@ returns-2 c =
 pub print-lines-spec : {M : Type 1} → statement M
 print-lines-spec =
     tie.close
-    (tie.spec
-    returns
-    lines-of-numbers-requires
-    slice-reshare-prefix-write-output
-    slice-aggregate-write-output
-    write-output-requires
-    same-length
-    returns-2)
+    (tie.spec returns (λ c κs. search needs) slice-reshare-prefix-write-output slice-aggregate-write-output
+    (λ c κs. search needs) (λ c. search needs) returns-2)

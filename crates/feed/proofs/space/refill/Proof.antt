@@ -12,18 +12,6 @@ use Rattle.feed.proofs.space.refill.Tie as tie
 returns : tie.Need-returns
 returns c = (omega arith, (refl, (λ i. c .before .slice-known .given i .fits, λ e. refl)))
 
-sub-read-input : tie.Need-sub-read-input
-sub-read-input c = search needs
-
-part-read-input-start : tie.Need-part-read-input-start
-part-read-input-start c = search needs
-
-part-read-input-end : tie.Need-part-read-input-end
-part-read-input-end c = search needs
-
-read-input-requires : tie.Need-read-input-requires
-read-input-requires c κs = search needs
-
 same-length : tie.Need-same-length
 same-length c = search needs
 
@@ -36,11 +24,5 @@ returns-2 c =
 pub refill-spec : {M : Type 1} → statement M
 refill-spec =
     tie.close
-    (tie.spec
-    returns
-    sub-read-input
-    part-read-input-start
-    part-read-input-end
-    read-input-requires
-    same-length
+    (tie.spec returns (λ c. search needs) (λ c. search needs) (λ c. search needs) (λ c κs. search needs) same-length
     returns-2)

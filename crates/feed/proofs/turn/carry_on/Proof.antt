@@ -14,9 +14,6 @@ called o = o .before .before .before .before .before .before .before .before .be
 abbrev limited : tie.After-go → tie.After-at-once
 limited g = g .before .before
 
-at-once-requires : tie.Need-at-once-requires
-at-once-requires c κs = search needs
-
 go-requires : tie.Need-go-requires
 go-requires c κs = let s = called (c .before) in (s .pre .0, λ t. omega (arith, c .before .at-once .ensures, s .pre .1))
 
@@ -38,4 +35,4 @@ returns c =
     )
 
 pub carry-on-spec : {M : Type 1} → statement M
-carry-on-spec = tie.close (tie.spec at-once-requires go-requires returns)
+carry-on-spec = tie.close (tie.spec (λ c κs. search needs) go-requires returns)

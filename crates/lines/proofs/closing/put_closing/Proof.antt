@@ -8,9 +8,6 @@ use Rattle.lines.proofs.Widths.{word-most}
 use Rattle.lines.proofs.closing.put_closing.Statement.{statement}
 use Rattle.lines.proofs.closing.put_closing.Tie as tie
 
-put-word-requires : tie.Need-put-word-requires
-put-word-requires c κs = search needs
-
 put-number-requires : tie.Need-put-number-requires
 put-number-requires c κs =
     let w = c .before .before .before in omega (arith, word-most (w .before .before .before .args .closing), w .put-word .ensures .next)
@@ -19,9 +16,6 @@ put-number-requires-2 : tie.Need-put-number-requires-2
 put-number-requires-2 c κs =
     let w = c .before .before .before .before .before .before .before in
     omega (arith, word-most (w .before .before .before .args .closing), w .put-word .ensures .next)
-
-same-length : tie.Need-same-length
-same-length c = search needs
 
 returns : tie.Need-returns
 unfolding closingLineOf spaced
@@ -33,4 +27,4 @@ returns c =
 pub put-closing-spec : {M : Type 1} → statement M
 put-closing-spec =
     tie.close
-    (tie.spec put-word-requires put-number-requires put-number-requires-2 same-length returns)
+    (tie.spec (λ c κs. search needs) put-number-requires put-number-requires-2 (λ c. search needs) returns)

@@ -13,29 +13,11 @@ zeros : (refusal given : ℕ) → refusal ≡ 0 → given ≡ 0 → spaced (refu
 unfolding spaced decimal digits pick
 zeros refusal given e f = rw (e, f)
 
-slice-aggregate-put-text : tie.Need-slice-aggregate-put-text
-slice-aggregate-put-text c = search needs
-
-put-text-requires : tie.Need-put-text-requires
-put-text-requires c κs = search needs
-
-same-length : tie.Need-same-length
-same-length c = search needs
-
 returns : tie.Need-returns
 returns c =
     let i = c .before .before .before .before .before in
     let a = i .before .before .before .args in
     rw (zeros (a .refusal) (a .given) (i .before .if1 .taken) (i .if2 .taken)) (c .before .before .put-text .ensures)
-
-put-short-requires : tie.Need-put-short-requires
-put-short-requires c κs = search needs
-
-put-short-requires-2 : tie.Need-put-short-requires-2
-put-short-requires-2 c κs = search needs
-
-same-length-2 : tie.Need-same-length-2
-same-length-2 c = search needs
 
 returns-2 : tie.Need-returns-2
 unfolding spaced
@@ -44,12 +26,5 @@ returns-2 c = and-then _ _ (c .before .before .before .before .before .before .p
 pub put-end-spec : {M : Type 1} → statement M
 put-end-spec =
     tie.close
-    (tie.spec
-    slice-aggregate-put-text
-    put-text-requires
-    same-length
-    returns
-    put-short-requires
-    put-short-requires-2
-    same-length-2
-    returns-2)
+    (tie.spec (λ c. search needs) (λ c κs. search needs) (λ c. search needs) returns (λ c κs. search needs)
+    (λ c κs. search needs) (λ c. search needs) returns-2)

@@ -5,21 +5,6 @@ use Rattle.text.proofs.Puts.{and-then}
 use Rattle.lines.proofs.line.put_line.Statement.{statement}
 use Rattle.lines.proofs.line.put_line.Tie as tie
 
-put-short-requires : tie.Need-put-short-requires
-put-short-requires c κs = search needs
-
-put-short-requires-2 : tie.Need-put-short-requires-2
-put-short-requires-2 c κs = search needs
-
-put-short-requires-3 : tie.Need-put-short-requires-3
-put-short-requires-3 c κs = search needs
-
-put-end-requires : tie.Need-put-end-requires
-put-end-requires c κs = search needs
-
-same-length : tie.Need-same-length
-same-length c = search needs
-
 returns : tie.Need-returns
 unfolding spaced
 returns c =
@@ -33,10 +18,5 @@ returns c =
 pub put-line-spec : {M : Type 1} → statement M
 put-line-spec =
     tie.close
-    (tie.spec
-    put-short-requires
-    put-short-requires-2
-    put-short-requires-3
-    put-end-requires
-    same-length
-    returns)
+    (tie.spec (λ c κs. search needs) (λ c κs. search needs) (λ c κs. search needs) (λ c κs. search needs)
+    (λ c. search needs) returns)

@@ -7,29 +7,8 @@ use borrow.Author.Needs.{needs}
 use Rattle.margins.proofs.answers.answer.Statement.{statement}
 use Rattle.margins.proofs.answers.answer.Tie as tie
 
-put-bad-requires : tie.Need-put-bad-requires
-put-bad-requires c κs = search needs
-
-same-length : tie.Need-same-length
-same-length c = search needs
-
 returns : tie.Need-returns
 returns c = (puts-as (none-printed _ _ (c .before .before .before .before .if1 .taken)) (puts-none _ 0 refl (omega arith)), puts-as (bad-told _ _ (c .before .before .before .before .if1 .taken)) (c .before .before .put-bad .ensures))
-
-made-for-requires : tie.Need-made-for-requires
-made-for-requires c κs = search needs
-
-put-made-requires : tie.Need-put-made-requires
-put-made-requires c κs = search needs
-
-put-told-requires : tie.Need-put-told-requires
-put-told-requires c κs = search needs
-
-same-length-2 : tie.Need-same-length-2
-same-length-2 c = search needs
-
-same-length-3 : tie.Need-same-length-3
-same-length-3 c = search needs
 
 returns-2 : tie.Need-returns-2
 returns-2 c =
@@ -40,13 +19,5 @@ returns-2 c =
 pub answer-spec : {M : Type 1} → statement M
 answer-spec =
     tie.close
-    (tie.spec
-    put-bad-requires
-    same-length
-    returns
-    made-for-requires
-    put-made-requires
-    put-told-requires
-    same-length-2
-    same-length-3
-    returns-2)
+    (tie.spec (λ c κs. search needs) (λ c. search needs) returns (λ c κs. search needs) (λ c κs. search needs)
+    (λ c κs. search needs) (λ c. search needs) (λ c. search needs) returns-2)

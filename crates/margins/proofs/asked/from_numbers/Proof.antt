@@ -11,21 +11,12 @@ use borrow.Author.Needs.{needs}
 use Rattle.margins.proofs.asked.from_numbers.Statement.{statement}
 use Rattle.margins.proofs.asked.from_numbers.Tie as tie
 
-nothing-requires : tie.Need-nothing-requires
-nothing-requires c κs = search needs
-
 returns : tie.Need-returns
 unfolding askedFor
 returns c =
     let a = c .before .before .args in
     let large = or-split (ltb 65535 (a .serial)) (ltb 65535 (a .account)) (c .before .if1 .taken) in
     pick-second _ (⊎-elim (λ e. and-left-fails _ _ (lt-leb (a .serial) 65535 (ltb-true _ _ e))) (λ e. and-right-fails (leb (a .serial) 65535) _ (lt-leb (a .account) 65535 (ltb-true _ _ e))) large) (c .nothing .ensures)
-
-cast-t9 : tie.Need-cast-t9
-cast-t9 c = search needs
-
-cast-t11 : tie.Need-cast-t11
-cast-t11 c = search needs
 
 returns-2 : tie.Need-returns-2
 unfolding askedFor
@@ -39,4 +30,6 @@ returns-2 c =
     pick-first _ (and-join (le-leb _ _ serial) (le-leb _ _ account)) (cc (s, k))
 
 pub from-numbers-spec : {M : Type 1} → statement M
-from-numbers-spec = tie.close (tie.spec nothing-requires returns cast-t9 cast-t11 returns-2)
+from-numbers-spec =
+    tie.close
+    (tie.spec (λ c κs. search needs) returns (λ c. search needs) (λ c. search needs) returns-2)

@@ -8,9 +8,6 @@ use borrow.Author.Needs.{needs}
 use Rattle.margins.proofs.figures.above.Statement.{statement}
 use Rattle.margins.proofs.figures.above.Tie as tie
 
-cast-result : tie.Need-cast-result
-cast-result c = search needs
-
 returns : tie.Need-returns
 returns c = pick-first _ (le-leb _ _ (c .if1 .taken)) (rw (lt-ltb (c .before .args .n) (2 ^ 63) (omega arith)))
 
@@ -18,4 +15,4 @@ returns-2 : tie.Need-returns-2
 returns-2 c = pick-second _ (lt-leb _ _ (c .if1 .left)) refl
 
 pub above-spec : {M : Type 1} → statement M
-above-spec = tie.close (tie.spec cast-result returns returns-2)
+above-spec = tie.close (tie.spec (λ c. search needs) returns returns-2)

@@ -5,41 +5,17 @@ use borrow.Author.Needs.{needs}
 use Rattle.margins.proofs.figures.all_of.Statement.{statement}
 use Rattle.margins.proofs.figures.all_of.Tie as tie
 
-enum-known-premium : tie.Need-enum-known-premium
-enum-known-premium c = search needs
-
-enum-told : tie.Need-enum-told
-enum-told c = search needs
-
 returns : tie.Need-returns
 unfolding told
 returns c = rw (c .enum-told .given .1)
-
-enum-known-loss : tie.Need-enum-known-loss
-enum-known-loss c = search needs
-
-enum-told-2 : tie.Need-enum-told-2
-enum-told-2 c = search needs
 
 returns-2 : tie.Need-returns-2
 unfolding told
 returns-2 c = rw (c .before .before .before .premium .given .1, c .enum-told2 .given .1)
 
-enum-known-exercise : tie.Need-enum-known-exercise
-enum-known-exercise c = search needs
-
-enum-told-3 : tie.Need-enum-told-3
-enum-told-3 c = search needs
-
 returns-3 : tie.Need-returns-3
 unfolding told
 returns-3 c = rw (c .before .before .before .before .before .before .premium .given .1, c .before .before .before .loss .given .1, c .enum-told3 .given .1)
-
-enum-known-settlement : tie.Need-enum-known-settlement
-enum-known-settlement c = search needs
-
-enum-told-4 : tie.Need-enum-told-4
-enum-told-4 c = search needs
 
 returns-4 : tie.Need-returns-4
 unfolding told
@@ -57,17 +33,5 @@ returns-5 c =
 pub all-of-spec : {M : Type 1} → statement M
 all-of-spec =
     tie.close
-    (tie.spec
-    enum-known-premium
-    enum-told
-    returns
-    enum-known-loss
-    enum-told-2
-    returns-2
-    enum-known-exercise
-    enum-told-3
-    returns-3
-    enum-known-settlement
-    enum-told-4
-    returns-4
-    returns-5)
+    (tie.spec (λ c. search needs) (λ c. search needs) returns (λ c. search needs) (λ c. search needs) returns-2
+    (λ c. search needs) (λ c. search needs) returns-3 (λ c. search needs) (λ c. search needs) returns-4 returns-5)

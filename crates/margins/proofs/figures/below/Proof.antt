@@ -8,9 +8,6 @@ use borrow.Author.Needs.{needs}
 use Rattle.margins.proofs.figures.below.Statement.{statement}
 use Rattle.margins.proofs.figures.below.Tie as tie
 
-cast-result : tie.Need-cast-result
-cast-result c = search needs
-
 sub-result : tie.Need-sub-result
 sub-result c = from-zero (c .before .args .n) (omega arith)
 
@@ -21,4 +18,4 @@ returns-2 : tie.Need-returns-2
 returns-2 c = pick-second _ (lt-leb _ _ (c .if1 .left)) refl
 
 pub below-spec : {M : Type 1} → statement M
-below-spec = tie.close (tie.spec cast-result sub-result returns returns-2)
+below-spec = tie.close (tie.spec (λ c. search needs) sub-result returns returns-2)

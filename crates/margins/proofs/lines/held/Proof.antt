@@ -4,21 +4,9 @@ use borrow.Author.Needs.{needs}
 use Rattle.margins.proofs.lines.held.Statement.{statement}
 use Rattle.margins.proofs.lines.held.Tie as tie
 
-enum-known-side : tie.Need-enum-known-side
-enum-known-side c = search needs
-
-enum-told : tie.Need-enum-told
-enum-told c = search needs
-
 returns : tie.Need-returns
 unfolding holding
 returns c = rw (c .enum-told .given .1)
-
-enum-known-notional : tie.Need-enum-known-notional
-enum-known-notional c = search needs
-
-enum-told-2 : tie.Need-enum-told-2
-enum-told-2 c = search needs
 
 returns-2 : tie.Need-returns-2
 unfolding holding
@@ -31,11 +19,5 @@ returns-3 c = rw (c .before .before .before .before .side .given .1, c .before .
 pub held-spec : {M : Type 1} → statement M
 held-spec =
     tie.close
-    (tie.spec
-    enum-known-side
-    enum-told
-    returns
-    enum-known-notional
-    enum-told-2
-    returns-2
+    (tie.spec (λ c. search needs) (λ c. search needs) returns (λ c. search needs) (λ c. search needs) returns-2
     returns-3)

@@ -8,18 +8,11 @@ use Rattle.margins.proofs.lines.line_of.Tie as tie
 returns : tie.Need-returns
 returns c = empty-line _ (c .if1 .taken)
 
-shared-slice-read-if2 : tie.Need-shared-slice-read-if2
-shared-slice-read-if2 c = search needs
-
 returns-2 : tie.Need-returns-2
 returns-2 c = remark _ (c .before .before .if1 .left) (c .if2 .taken)
-
-of-words-requires : tie.Need-of-words-requires
-of-words-requires c κs = search needs
 
 returns-3 : tie.Need-returns-3
 returns-3 c = c .of-words .ensures ∙ has-words _ (c .before .before .before .if1 .left) (c .before .if2 .left)
 
 pub line-of-spec : {M : Type 1} → statement M
-line-of-spec =
-    tie.close (tie.spec returns shared-slice-read-if2 returns-2 of-words-requires returns-3)
+line-of-spec = tie.close (tie.spec returns (λ c. search needs) returns-2 (λ c κs. search needs) returns-3)

@@ -5,9 +5,6 @@ use borrow.Author.Needs.{needs}
 use Rattle.margins.proofs.positions.with_figures.Statement.{statement}
 use Rattle.margins.proofs.positions.with_figures.Tie as tie
 
-with-bad-requires : tie.Need-with-bad-requires
-with-bad-requires c κs = search needs
-
 returns : tie.Need-returns
 returns c = pick-first _ (c .before .if1 .taken) (c .with-bad .ensures)
 
@@ -15,4 +12,4 @@ returns-2 : tie.Need-returns-2
 returns-2 c = pick-second _ (c .if1 .left) refl
 
 pub with-figures-spec : {M : Type 1} → statement M
-with-figures-spec = tie.close (tie.spec with-bad-requires returns returns-2)
+with-figures-spec = tie.close (tie.spec (λ c κs. search needs) returns returns-2)

@@ -7,18 +7,6 @@ use borrow.Author.Needs.{needs}
 use Rattle.margins.proofs.printed.put_record.Statement.{statement}
 use Rattle.margins.proofs.printed.put_record.Tie as tie
 
-enum-known-made : tie.Need-enum-known-made
-enum-known-made c = search needs
-
-put-written-requires : tie.Need-put-written-requires
-put-written-requires c κs = search needs
-
-enum-told : tie.Need-enum-told
-enum-told c = search needs
-
-same-length : tie.Need-same-length
-same-length c = search needs
-
 returns : tie.Need-returns
 unfolding recordMade
 returns c = rw (c .before .before .before .before .before .made .given .1) (c .before .before .put-written .ensures)
@@ -30,4 +18,4 @@ returns-2 c = rw (c .enum-told .given .1) (puts-none _ 0 refl (omega arith))
 pub put-record-spec : {M : Type 1} → statement M
 put-record-spec =
     tie.close
-    (tie.spec enum-known-made put-written-requires enum-told same-length returns returns-2)
+    (tie.spec (λ c. search needs) (λ c κs. search needs) (λ c. search needs) (λ c. search needs) returns returns-2)

@@ -6,23 +6,8 @@ use borrow.Author.Needs.{needs}
 use Rattle.margins.proofs.printed.put_written.Statement.{statement}
 use Rattle.margins.proofs.printed.put_written.Tie as tie
 
-write-requires : tie.Need-write-requires
-write-requires c κs = search needs
-
-enum-known-n : tie.Need-enum-known-n
-enum-known-n c = search needs
-
-enum-told : tie.Need-enum-told
-enum-told c = search needs
-
-same-length : tie.Need-same-length
-same-length c = search needs
-
 returns : tie.Need-returns
 returns c = put-written _ _ _ (omega arith) (c .before .before .before .before .before .write .ensures .1) _ (sym (c .before .n .given .1) ∙ c .before .before .before .before .before .write .ensures .0 .0)
-
-same-length-2 : tie.Need-same-length-2
-same-length-2 c = search needs
 
 returns-2 : tie.Need-returns-2
 returns-2 c = put-refused _ _ _ (omega arith) (c .before .before .before .before .write .ensures .1) _ (sym (c .enum-told .given .1) ∙ c .before .before .before .before .write .ensures .0 .0)
@@ -30,4 +15,5 @@ returns-2 c = put-refused _ _ _ (omega arith) (c .before .before .before .before
 pub put-written-spec : {M : Type 1} → statement M
 put-written-spec =
     tie.close
-    (tie.spec write-requires enum-known-n enum-told same-length returns same-length-2 returns-2)
+    (tie.spec (λ c κs. search needs) (λ c. search needs) (λ c. search needs) (λ c. search needs) returns
+    (λ c. search needs) returns-2)

@@ -76,92 +76,32 @@ passed9 c = next-name products 8 _ _ _ (passed8 (c .before .before .before)) (c 
 passed10 : (c : tie.Else10) → Passed 10 (word10 c)
 passed10 c = next-name products 9 _ _ _ (passed9 (c .before .before .before)) (c .before .is-same10 .ensures) (c .if10 .left)
 
-slice-aggregate-is-same : tie.Need-slice-aggregate-is-same
-slice-aggregate-is-same c = search needs
-
-is-same-requires : tie.Need-is-same-requires
-is-same-requires c κs = search needs
-
 returns : tie.Need-returns
 returns c = this-name products 0 _ _ _ (none-passed products (now (c .before .before .before .before .args .word))) (c .before .is-same .ensures) (c .if1 .taken)
-
-slice-aggregate-is-same-2 : tie.Need-slice-aggregate-is-same-2
-slice-aggregate-is-same-2 c = search needs
-
-is-same-requires-2 : tie.Need-is-same-requires-2
-is-same-requires-2 c κs = search needs
 
 returns-2 : tie.Need-returns-2
 returns-2 c = this-name products 1 _ _ _ (passed1 (c .before .before .before)) (c .before .is-same2 .ensures) (c .if2 .taken)
 
-slice-aggregate-is-same-3 : tie.Need-slice-aggregate-is-same-3
-slice-aggregate-is-same-3 c = search needs
-
-is-same-requires-3 : tie.Need-is-same-requires-3
-is-same-requires-3 c κs = search needs
-
 returns-3 : tie.Need-returns-3
 returns-3 c = this-name products 2 _ _ _ (passed2 (c .before .before .before)) (c .before .is-same3 .ensures) (c .if3 .taken)
-
-slice-aggregate-is-same-4 : tie.Need-slice-aggregate-is-same-4
-slice-aggregate-is-same-4 c = search needs
-
-is-same-requires-4 : tie.Need-is-same-requires-4
-is-same-requires-4 c κs = search needs
 
 returns-4 : tie.Need-returns-4
 returns-4 c = this-name products 3 _ _ _ (passed3 (c .before .before .before)) (c .before .is-same4 .ensures) (c .if4 .taken)
 
-slice-aggregate-is-same-5 : tie.Need-slice-aggregate-is-same-5
-slice-aggregate-is-same-5 c = search needs
-
-is-same-requires-5 : tie.Need-is-same-requires-5
-is-same-requires-5 c κs = search needs
-
 returns-5 : tie.Need-returns-5
 returns-5 c = this-name products 4 _ _ _ (passed4 (c .before .before .before)) (c .before .is-same5 .ensures) (c .if5 .taken)
-
-slice-aggregate-is-same-6 : tie.Need-slice-aggregate-is-same-6
-slice-aggregate-is-same-6 c = search needs
-
-is-same-requires-6 : tie.Need-is-same-requires-6
-is-same-requires-6 c κs = search needs
 
 returns-6 : tie.Need-returns-6
 returns-6 c = this-name products 5 _ _ _ (passed5 (c .before .before .before)) (c .before .is-same6 .ensures) (c .if6 .taken)
 
-slice-aggregate-is-same-7 : tie.Need-slice-aggregate-is-same-7
-slice-aggregate-is-same-7 c = search needs
-
-is-same-requires-7 : tie.Need-is-same-requires-7
-is-same-requires-7 c κs = search needs
-
 returns-7 : tie.Need-returns-7
 returns-7 c = this-name products 6 _ _ _ (passed6 (c .before .before .before)) (c .before .is-same7 .ensures) (c .if7 .taken)
-
-slice-aggregate-is-same-8 : tie.Need-slice-aggregate-is-same-8
-slice-aggregate-is-same-8 c = search needs
-
-is-same-requires-8 : tie.Need-is-same-requires-8
-is-same-requires-8 c κs = search needs
 
 returns-8 : tie.Need-returns-8
 returns-8 c = this-name products 7 _ _ _ (passed7 (c .before .before .before)) (c .before .is-same8 .ensures) (c .if8 .taken)
 
-slice-aggregate-is-same-9 : tie.Need-slice-aggregate-is-same-9
-slice-aggregate-is-same-9 c = search needs
-
-is-same-requires-9 : tie.Need-is-same-requires-9
-is-same-requires-9 c κs = search needs
-
 returns-9 : tie.Need-returns-9
 returns-9 c = this-name products 8 _ _ _ (passed8 (c .before .before .before)) (c .before .is-same9 .ensures) (c .if9 .taken)
-
-slice-aggregate-is-same-10 : tie.Need-slice-aggregate-is-same-10
-slice-aggregate-is-same-10 c = search needs
-
-is-same-requires-10 : tie.Need-is-same-requires-10
-is-same-requires-10 c κs = search needs
 
 returns-10 : tie.Need-returns-10
 returns-10 c = this-name products 9 _ _ _ (passed9 (c .before .before .before)) (c .before .is-same10 .ensures) (c .if10 .taken)
@@ -172,35 +112,9 @@ returns-11 c = all-passed products _ 10 (passed10 c)
 pub product-of-spec : {M : Type 1} → statement M
 product-of-spec =
     tie.close
-    (tie.spec
-    slice-aggregate-is-same
-    is-same-requires
-    returns
-    slice-aggregate-is-same-2
-    is-same-requires-2
-    returns-2
-    slice-aggregate-is-same-3
-    is-same-requires-3
-    returns-3
-    slice-aggregate-is-same-4
-    is-same-requires-4
-    returns-4
-    slice-aggregate-is-same-5
-    is-same-requires-5
-    returns-5
-    slice-aggregate-is-same-6
-    is-same-requires-6
-    returns-6
-    slice-aggregate-is-same-7
-    is-same-requires-7
-    returns-7
-    slice-aggregate-is-same-8
-    is-same-requires-8
-    returns-8
-    slice-aggregate-is-same-9
-    is-same-requires-9
-    returns-9
-    slice-aggregate-is-same-10
-    is-same-requires-10
-    returns-10
+    (tie.spec (λ c. search needs) (λ c κs. search needs) returns (λ c. search needs) (λ c κs. search needs) returns-2
+    (λ c. search needs) (λ c κs. search needs) returns-3 (λ c. search needs) (λ c κs. search needs) returns-4
+    (λ c. search needs) (λ c κs. search needs) returns-5 (λ c. search needs) (λ c κs. search needs) returns-6
+    (λ c. search needs) (λ c κs. search needs) returns-7 (λ c. search needs) (λ c κs. search needs) returns-8
+    (λ c. search needs) (λ c κs. search needs) returns-9 (λ c. search needs) (λ c κs. search needs) returns-10
     returns-11)

@@ -6,41 +6,17 @@ use borrow.Author.Needs.{needs}
 use Rattle.margins.proofs.sides.side_of.Statement.{statement}
 use Rattle.margins.proofs.sides.side_of.Tie as tie
 
-slice-aggregate-is-same : tie.Need-slice-aggregate-is-same
-slice-aggregate-is-same c = search needs
-
-is-same-requires : tie.Need-is-same-requires
-is-same-requires c κs = search needs
-
 returns : tie.Need-returns
 unfolding sideOf
 returns c = pick-first _ (sym (c .before .is-same .ensures) ∙ c .if1 .taken) refl
-
-slice-aggregate-is-same-2 : tie.Need-slice-aggregate-is-same-2
-slice-aggregate-is-same-2 c = search needs
-
-is-same-requires-2 : tie.Need-is-same-requires-2
-is-same-requires-2 c κs = search needs
 
 returns-2 : tie.Need-returns-2
 unfolding sideOf
 returns-2 c = pick-second _ (sym (c .before .before .before .before .is-same .ensures) ∙ c .before .before .before .if1 .left) (pick-first _ (sym (c .before .is-same2 .ensures) ∙ c .if2 .taken) refl)
 
-slice-aggregate-is-same-3 : tie.Need-slice-aggregate-is-same-3
-slice-aggregate-is-same-3 c = search needs
-
-is-same-requires-3 : tie.Need-is-same-requires-3
-is-same-requires-3 c κs = search needs
-
 returns-3 : tie.Need-returns-3
 unfolding sideOf
 returns-3 c = pick-second _ (sym (c .before .before .before .before .before .before .before .is-same .ensures) ∙ c .before .before .before .before .before .before .if1 .left) (pick-second _ (sym (c .before .before .before .before .is-same2 .ensures) ∙ c .before .before .before .if2 .left) (pick-first _ (sym (c .before .is-same3 .ensures) ∙ c .if3 .taken) refl))
-
-slice-aggregate-is-same-4 : tie.Need-slice-aggregate-is-same-4
-slice-aggregate-is-same-4 c = search needs
-
-is-same-requires-4 : tie.Need-is-same-requires-4
-is-same-requires-4 c κs = search needs
 
 returns-4 : tie.Need-returns-4
 unfolding sideOf
@@ -53,17 +29,5 @@ returns-5 c = pick-second _ (sym (c .before .before .before .before .before .bef
 pub side-of-spec : {M : Type 1} → statement M
 side-of-spec =
     tie.close
-    (tie.spec
-    slice-aggregate-is-same
-    is-same-requires
-    returns
-    slice-aggregate-is-same-2
-    is-same-requires-2
-    returns-2
-    slice-aggregate-is-same-3
-    is-same-requires-3
-    returns-3
-    slice-aggregate-is-same-4
-    is-same-requires-4
-    returns-4
-    returns-5)
+    (tie.spec (λ c. search needs) (λ c κs. search needs) returns (λ c. search needs) (λ c κs. search needs) returns-2
+    (λ c. search needs) (λ c κs. search needs) returns-3 (λ c. search needs) (λ c κs. search needs) returns-4 returns-5)

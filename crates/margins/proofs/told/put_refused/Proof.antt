@@ -5,18 +5,6 @@ use borrow.Author.Needs.{needs}
 use Rattle.margins.proofs.told.put_refused.Statement.{statement}
 use Rattle.margins.proofs.told.put_refused.Tie as tie
 
-slice-aggregate-put-text : tie.Need-slice-aggregate-put-text
-slice-aggregate-put-text c = search needs
-
-put-text-requires : tie.Need-put-text-requires
-put-text-requires c κs = search needs
-
-put-number-requires : tie.Need-put-number-requires
-put-number-requires c κs = search needs
-
-same-length : tie.Need-same-length
-same-length c = search needs
-
 returns : tie.Need-returns
 unfolding refusedText
 returns c = and-then _ _ (c .before .before .before .before .before .before .put-text .ensures) (c .before .before .put-number .ensures .0)
@@ -24,4 +12,4 @@ returns c = and-then _ _ (c .before .before .before .before .before .before .put
 pub put-refused-spec : {M : Type 1} → statement M
 put-refused-spec =
     tie.close
-    (tie.spec slice-aggregate-put-text put-text-requires put-number-requires same-length returns)
+    (tie.spec (λ c. search needs) (λ c κs. search needs) (λ c κs. search needs) (λ c. search needs) returns)

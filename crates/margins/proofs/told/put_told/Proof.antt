@@ -14,18 +14,9 @@ returns : tie.Need-returns
 unfolding toldMade pick
 returns c = rw (not-true (c .before .before .args .as-record) (c .if1 .taken)) (puts-none _ 0 refl (omega arith))
 
-refusal-of-requires : tie.Need-refusal-of-requires
-refusal-of-requires c κs = search needs
-
 returns-2 : tie.Need-returns-2
 unfolding toldMade pick
 returns-2 c = rw (not-false (c .before .before .before .before .args .as-record) (c .before .before .if1 .left), sym (c .before .refusal-of .ensures) ∙ c .if2 .taken) (puts-none _ 0 refl (omega arith))
-
-put-refused-requires : tie.Need-put-refused-requires
-put-refused-requires c κs = search needs
-
-same-length : tie.Need-same-length
-same-length c = search needs
 
 returns-3 : tie.Need-returns-3
 returns-3 c = rw (not-false (c .before .before .before .before .before .before .before .before .args .as-record) (c .before .before .before .before .before .before .if1 .left)) (puts-as (told-refused _ _ (c .before .before .before .before .before .refusal-of .ensures) (c .before .before .before .before .if2 .left)) (c .before .before .put-refused .ensures))
@@ -33,4 +24,4 @@ returns-3 c = rw (not-false (c .before .before .before .before .before .before .
 pub put-told-spec : {M : Type 1} → statement M
 put-told-spec =
     tie.close
-    (tie.spec returns refusal-of-requires returns-2 put-refused-requires same-length returns-3)
+    (tie.spec returns (λ c κs. search needs) returns-2 (λ c κs. search needs) (λ c. search needs) returns-3)

@@ -4,15 +4,6 @@ use borrow.Author.Needs.{needs}
 use Rattle.margins.proofs.told.refusal_of.Statement.{statement}
 use Rattle.margins.proofs.told.refusal_of.Tie as tie
 
-enum-known-made : tie.Need-enum-known-made
-enum-known-made c = search needs
-
-fault-of-requires : tie.Need-fault-of-requires
-fault-of-requires c κs = search needs
-
-enum-known-made-2 : tie.Need-enum-known-made-2
-enum-known-made-2 c = search needs
-
 returns : tie.Need-returns
 unfolding refusalMade
 returns c = rw (c .before .before .made .given .1) (c .fault-of .ensures)
@@ -22,5 +13,4 @@ unfolding refusalMade
 returns-2 c = rw (c .before .made2 .given .1)
 
 pub refusal-of-spec : {M : Type 1} → statement M
-refusal-of-spec =
-    tie.close (tie.spec enum-known-made fault-of-requires enum-known-made-2 returns returns-2)
+refusal-of-spec = tie.close (tie.spec (λ c. search needs) (λ c κs. search needs) (λ c. search needs) returns returns-2)

@@ -20,38 +20,11 @@ unfolding closeOutText
 whole zero total numbers losses amounts h = refl
 whole (suc refusal) total numbers losses amounts h = absurd (omega arith)
 
-slice-aggregate-put-labelled : tie.Need-slice-aggregate-put-labelled
-slice-aggregate-put-labelled c = search needs
-
-put-labelled-requires : tie.Need-put-labelled-requires
-put-labelled-requires c κs = search needs
-
-same-length : tie.Need-same-length
-same-length c = search needs
-
 returns : tie.Need-returns
 unfolding wordLine
 returns c =
     let refusal = c .before .before .before .before .before .before .before .before .before .args .refusal in
     rw (alone refusal _ _ _ _ (omega arith)) (c .before .before .put-labelled .ensures)
-
-lesser-requires : tie.Need-lesser-requires
-lesser-requires c κs = search needs
-
-accounts-requires : tie.Need-accounts-requires
-accounts-requires c κs = search needs
-
-put-losses-requires : tie.Need-put-losses-requires
-put-losses-requires c κs = search needs
-
-slice-aggregate-put-labelled-2 : tie.Need-slice-aggregate-put-labelled-2
-slice-aggregate-put-labelled-2 c = search needs
-
-put-labelled-requires-2 : tie.Need-put-labelled-requires-2
-put-labelled-requires-2 c κs = search needs
-
-same-length-2 : tie.Need-same-length-2
-same-length-2 c = search needs
 
 returns-2 : tie.Need-returns-2
 unfolding wordLine
@@ -64,15 +37,6 @@ returns-2 c =
 pub put-close-out-spec : {M : Type 1} → statement M
 put-close-out-spec =
     tie.close
-    (tie.spec
-    slice-aggregate-put-labelled
-    put-labelled-requires
-    same-length
-    returns
-    lesser-requires
-    accounts-requires
-    put-losses-requires
-    slice-aggregate-put-labelled-2
-    put-labelled-requires-2
-    same-length-2
+    (tie.spec (λ c. search needs) (λ c κs. search needs) (λ c. search needs) returns (λ c κs. search needs)
+    (λ c κs. search needs) (λ c κs. search needs) (λ c. search needs) (λ c κs. search needs) (λ c. search needs)
     returns-2)

@@ -50,17 +50,11 @@ counted c = length-take-le _ _ (fits c)
 front : (c : tie.After-needs2) → take (start (zeroed c) .args .n) (after c) ≡ c .needs2 .last .1 .0
 front c = ap (λ (k : ℕ). take k (after c)) (sym (exact c)) ∙ take-append-seam _ _
 
-zeros-requires : tie.Need-zeros-requires
-zeros-requires c κs = search needs
-
 array-borrow-prefix-needs : tie.Need-array-borrow-prefix-needs
 array-borrow-prefix-needs c = wide c
 
 slice-aggregate-needs : tie.Need-slice-aggregate-needs
 slice-aggregate-needs c = sym (length-take-le _ _ (wide (c .before)))
-
-needs-requires : tie.Need-needs-requires
-needs-requires c κs = search needs
 
 returns : tie.Need-returns
 returns c =
@@ -80,9 +74,6 @@ put-list-requires c κs =
     let n = counted (given c) in
     (omega (arith, s .pre .0), omega (arith, s .pre .1))
 
-same-length : tie.Need-same-length
-same-length c = search needs
-
 returns-2 : tie.Need-returns-2
 returns-2 c =
     let g = given (put c .before) in
@@ -94,14 +85,5 @@ returns-2 c =
 pub put-needs-spec : {M : Type 1} → statement M
 put-needs-spec =
     tie.close
-    (tie.spec
-    zeros-requires
-    array-borrow-prefix-needs
-    slice-aggregate-needs
-    needs-requires
-    returns
-    array-share-prefix-needs
-    slice-aggregate-put-list
-    put-list-requires
-    same-length
-    returns-2)
+    (tie.spec (λ c κs. search needs) array-borrow-prefix-needs slice-aggregate-needs (λ c κs. search needs) returns
+    array-share-prefix-needs slice-aggregate-put-list put-list-requires (λ c. search needs) returns-2)

@@ -4,26 +4,8 @@ use native.Mathlib.Omega.{arith}
 use Rattle.report.proofs.standing.put_mode.Statement.{statement}
 use Rattle.report.proofs.standing.put_mode.Tie as tie
 
-slice-aggregate-put-text : tie.Need-slice-aggregate-put-text
-slice-aggregate-put-text c = search needs
-
-put-text-requires : tie.Need-put-text-requires
-put-text-requires c κs = search needs
-
-slice-aggregate-put-text-2 : tie.Need-slice-aggregate-put-text-2
-slice-aggregate-put-text-2 c = search needs
-
-put-text-requires-2 : tie.Need-put-text-requires-2
-put-text-requires-2 c κs = search needs
-
-same-length : tie.Need-same-length
-same-length c = search needs
-
 returns : tie.Need-returns
 returns c = (rw (c .before .before .before .before .before .if1 .taken) (c .before .before .put-text .ensures), omega (arith, c .before .before .put-text .ensures .next))
-
-same-length-2 : tie.Need-same-length-2
-same-length-2 c = search needs
 
 returns-2 : tie.Need-returns-2
 returns-2 c = (rw (c .before .before .before .before .before .if1 .left) (c .before .before .put-text2 .ensures), omega (arith, c .before .before .put-text2 .ensures .next))
@@ -31,12 +13,5 @@ returns-2 c = (rw (c .before .before .before .before .before .if1 .left) (c .bef
 pub put-mode-spec : {M : Type 1} → statement M
 put-mode-spec =
     tie.close
-    (tie.spec
-    slice-aggregate-put-text
-    put-text-requires
-    slice-aggregate-put-text-2
-    put-text-requires-2
-    same-length
-    returns
-    same-length-2
-    returns-2)
+    (tie.spec (λ c. search needs) (λ c κs. search needs) (λ c. search needs) (λ c κs. search needs) (λ c. search needs)
+    returns (λ c. search needs) returns-2)

@@ -6,30 +6,6 @@ use Rattle.report.specs.Reports.{standingLine}
 use Rattle.report.proofs.standing.put_standing.Statement.{statement}
 use Rattle.report.proofs.standing.put_standing.Tie as tie
 
-put-number-requires : tie.Need-put-number-requires
-put-number-requires c κs = search needs
-
-cast-put-sort : tie.Need-cast-put-sort
-cast-put-sort c = search needs
-
-put-sort-requires : tie.Need-put-sort-requires
-put-sort-requires c κs = search needs
-
-put-state-requires : tie.Need-put-state-requires
-put-state-requires c κs = search needs
-
-put-numbers-requires : tie.Need-put-numbers-requires
-put-numbers-requires c κs = search needs
-
-put-mode-requires : tie.Need-put-mode-requires
-put-mode-requires c κs = search needs
-
-put-number-requires-2 : tie.Need-put-number-requires-2
-put-number-requires-2 c κs = search needs
-
-same-length : tie.Need-same-length
-same-length c = search needs
-
 returns : tie.Need-returns
 unfolding standingLine
 returns c =
@@ -49,13 +25,5 @@ returns c =
 pub put-standing-spec : {M : Type 1} → statement M
 put-standing-spec =
     tie.close
-    (tie.spec
-    put-number-requires
-    cast-put-sort
-    put-sort-requires
-    put-state-requires
-    put-numbers-requires
-    put-mode-requires
-    put-number-requires-2
-    same-length
-    returns)
+    (tie.spec (λ c κs. search needs) (λ c. search needs) (λ c κs. search needs) (λ c κs. search needs)
+    (λ c κs. search needs) (λ c κs. search needs) (λ c κs. search needs) (λ c. search needs) returns)

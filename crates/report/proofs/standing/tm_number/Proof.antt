@@ -6,15 +6,6 @@ use lib.ListN.{length, List·getD-eq-default}
 use Rattle.report.proofs.standing.tm_number.Statement.{statement}
 use Rattle.report.proofs.standing.tm_number.Tie as tie
 
-mul-result : tie.Need-mul-result
-mul-result c = search needs
-
-array-read-result : tie.Need-array-read-result
-array-read-result c = search needs
-
-returns : tie.Need-returns
-returns c = search needs
-
 returns-2 : tie.Need-returns-2
 returns-2 c =
     let a = c .before .args in
@@ -22,4 +13,4 @@ returns-2 c =
     sym (List·getD-eq-default (a .t1) 0 (omega arith))
 
 pub tm-number-spec : {M : Type 1} → statement M
-tm-number-spec = tie.close (tie.spec mul-result array-read-result returns returns-2)
+tm-number-spec = tie.close (tie.spec (λ c. search needs) (λ c. search needs) (λ c. search needs) returns-2)

@@ -1,5 +1,4 @@
 -- `rows::deemed::deemed_under_cm` meets its contract: of an account that is no client nothing moves under its TM; otherwise four parts, none of which passes a word.
-use mathlib.Core.Path.{_∙_}
 use Prim.Native.Nat.{_+_, _≤_}
 use native.Mathlib.Omega.{arith}
 use borrow.Author.Needs.{needs}
@@ -45,19 +44,10 @@ come-most c =
       start .pre,
     )
 
-member-due-requires : tie.Need-member-due-requires
-member-due-requires c κs = search needs
-
 add-less : tie.Need-add-less
 add-less c =
     let start = entry (c .before .before) in
     omega (arith, c .member-due .ensures, member-most (start .args .new) (start .args .under), start .pre)
-
-member-due-requires-2 : tie.Need-member-due-requires-2
-member-due-requires-2 c κs = search needs
-
-less-requires : tie.Need-less-requires
-less-requires c κs = search needs
 
 returns : tie.Need-returns
 returns c =
@@ -66,18 +56,6 @@ returns c =
     let f = and-split _ _ (c .before .before .before .if1 .taken) in
     let e = no-client-moves (a .old) (a .new) (a .tm) (a .under) (a .clients) (a .all) (not-true _ (f .0)) (not-true _ (f .1)) in
     omega (arith, e, c .less .ensures, c .before .member-due2 .ensures, c .before .before .member-due .ensures)
-
-deemed-under-tm-requires : tie.Need-deemed-under-tm-requires
-deemed-under-tm-requires c κs = search needs
-
-member-due-requires-3 : tie.Need-member-due-requires-3
-member-due-requires-3 c κs = search needs
-
-member-due-requires-4 : tie.Need-member-due-requires-4
-member-due-requires-4 c κs = search needs
-
-member-due-requires-5 : tie.Need-member-due-requires-5
-member-due-requires-5 c κs = search needs
 
 member-due-requires-6 : tie.Need-member-due-requires-6
 member-due-requires-6 c κs = (entry (c .before .before .before .before .before) .pre .0 .2, after-most (c .before .before .before))
@@ -91,28 +69,9 @@ add-less-3 c = omega (arith, come-most c, entry (c .before .before .before .befo
 add-less-4 : tie.Need-add-less-4
 add-less-4 c = omega (arith, gone-most (c .before))
 
-less-requires-2 : tie.Need-less-requires-2
-less-requires-2 c κs = search needs
-
-returns-2 : tie.Need-returns-2
-returns-2 c = cc
-
 pub deemed-under-cm-spec : {M : Type 1} → statement M
 deemed-under-cm-spec =
     tie.close
-    (tie.spec
-    member-due-requires
-    add-less
-    member-due-requires-2
-    less-requires
-    returns
-    deemed-under-tm-requires
-    member-due-requires-3
-    member-due-requires-4
-    member-due-requires-5
-    member-due-requires-6
-    add-less-2
-    add-less-3
-    add-less-4
-    less-requires-2
-    returns-2)
+    (tie.spec (λ c κs. search needs) add-less (λ c κs. search needs) (λ c κs. search needs) returns
+    (λ c κs. search needs) (λ c κs. search needs) (λ c κs. search needs) (λ c κs. search needs) member-due-requires-6
+    add-less-2 add-less-3 add-less-4 (λ c κs. search needs) (λ c. cc))

@@ -1,5 +1,5 @@
 -- `rows::deemed::need_by` meets its contract.
-use mathlib.Core.Path.{_≡_, sym}
+use mathlib.Core.Path.{sym}
 use borrow.Author.Tests.{le-leb, lt-leb}
 use Rattle.sums.proofs.Choices.{pick-yes, pick-no}
 use Rattle.rows.proofs.deemed.need_by.Statement.{statement}

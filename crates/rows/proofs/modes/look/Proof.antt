@@ -13,15 +13,6 @@ returns c =
     let e : (eqb (a .i) 0 || eqb (a .a .sort) 1) ≡ false = not-true _ (c .if1 .taken) in
     rw e
 
-mul-used : tie.Need-mul-used
-mul-used c = search needs
-
-add-used : tie.Need-add-used
-add-used c = search needs
-
-mode-after-requires : tie.Need-mode-after-requires
-mode-after-requires c κs = search needs
-
 returns-2 : tie.Need-returns-2
 returns-2 c =
     let n = c .before .before in
@@ -30,4 +21,4 @@ returns-2 c =
     rw e (c .mode-after .ensures)
 
 pub look-spec : {M : Type 1} → statement M
-look-spec = tie.close (tie.spec returns mul-used add-used mode-after-requires returns-2)
+look-spec = tie.close (tie.spec returns (λ c. search needs) (λ c. search needs) (λ c κs. search needs) returns-2)

@@ -13,18 +13,9 @@ chosen true off before = refl
 chosen false true before = refl
 chosen false false before = refl
 
-mul-on : tie.Need-mul-on
-mul-on c = search needs
-
-mul-off : tie.Need-mul-off
-mul-off c = search needs
-
-mul-off-2 : tie.Need-mul-off-2
-mul-off-2 c = search needs
-
 returns : tie.Need-returns
 unfolding modeAfter
 returns c = chosen _ _ _
 
 pub mode-after-spec : {M : Type 1} → statement M
-mode-after-spec = tie.close (tie.spec mul-on mul-off mul-off-2 returns)
+mode-after-spec = tie.close (tie.spec (λ c. search needs) (λ c. search needs) (λ c. search needs) returns)

@@ -6,27 +6,13 @@ use Rattle.rows.proofs.Counted.{counted-most}
 use Rattle.rows.proofs.needs.collateral_of.Statement.{statement}
 use Rattle.rows.proofs.needs.collateral_of.Tie as tie
 
-add-result : tie.Need-add-result
-add-result c = search needs
-
-add-result-2 : tie.Need-add-result-2
-add-result-2 c = search needs
-
-add-result-3 : tie.Need-add-result-3
-add-result-3 c = search needs
-
-counted-of-requires : tie.Need-counted-of-requires
-counted-of-requires c κs = search needs
-
 add-result-4 : tie.Need-add-result-4
 add-result-4 c =
     let start = c .before .before .before .before .before in
     omega (arith, c .counted-of .ensures, counted-most New (start .args .r .allocated .securities), start .pre)
 
-returns : tie.Need-returns
-returns c = search needs
-
 pub collateral-of-spec : {M : Type 1} → statement M
 collateral-of-spec =
     tie.close
-    (tie.spec add-result add-result-2 add-result-3 counted-of-requires add-result-4 returns)
+    (tie.spec (λ c. search needs) (λ c. search needs) (λ c. search needs) (λ c κs. search needs) add-result-4
+    (λ c. search needs))

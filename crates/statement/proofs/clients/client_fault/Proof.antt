@@ -7,20 +7,11 @@ use Rattle.statement.specs.Inner.{wantedRefusal}
 use Rattle.statement.proofs.clients.client_fault.Statement.{statement}
 use Rattle.statement.proofs.clients.client_fault.Tie as tie
 
-kinds-at-requires : tie.Need-kinds-at-requires
-kinds-at-requires c κs = search needs
-
 total-requires : tie.Need-total-requires
 total-requires c κs = rw (c .kinds-at .ensures) (c .before .before .pre .1)
 
-kinds-at-requires-2 : tie.Need-kinds-at-requires-2
-kinds-at-requires-2 c κs = search needs
-
 total-requires-2 : tie.Need-total-requires-2
 total-requires-2 c κs = rw (c .kinds-at2 .ensures) (c .before .before .before .before .pre .2)
-
-record-fault-requires : tie.Need-record-fault-requires
-record-fault-requires c κs = search needs
 
 returns : tie.Need-returns
 returns c =
@@ -34,10 +25,5 @@ returns c =
 pub client-fault-spec : {M : Type 1} → statement M
 client-fault-spec =
     tie.close
-    (tie.spec
-    kinds-at-requires
-    total-requires
-    kinds-at-requires-2
-    total-requires-2
-    record-fault-requires
+    (tie.spec (λ c κs. search needs) total-requires (λ c κs. search needs) total-requires-2 (λ c κs. search needs)
     returns)

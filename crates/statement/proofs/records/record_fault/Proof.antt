@@ -17,16 +17,10 @@ use Rattle.statement.proofs.records.record_fault.Tie as tie
 returns : tie.Need-returns
 returns c = let a = c .before .before .args in wanted-end (now (a .piece)) (a .place) (a .account) (a .received) (a .allocated) (c .if1 .taken)
 
-form-fault-requires : tie.Need-form-fault-requires
-form-fault-requires c κs = search needs
-
 returns-2 : tie.Need-returns-2
 returns-2 c =
     let a = c .before .before .before .before .args in
     wanted-form (now (a .piece)) (a .place) (a .account) (a .received) (a .allocated) (c .before .before .if1 .left) _ (c .before .form-fault .ensures) (c .if2 .taken)
-
-add-number2 : tie.Need-add-number2
-add-number2 c = search needs
 
 -- past the second test the record is whole
 whole : (c : tie.Else2) →
@@ -47,12 +41,6 @@ returns-3 c =
     let a = k .before .before .before .before .args in
     wanted-26 (now (a .piece)) (a .place) (a .account) (a .received) (a .allocated) (k .before .before .if1 .left) _ (k .before .form-fault .ensures) (k .if2 .left)
     (λ e. c .if3 .taken (c .before .number2 .ensures ∙ e))
-
-add-parts-at : tie.Need-add-parts-at
-add-parts-at c = search needs
-
-add-parts-at-2 : tie.Need-add-parts-at-2
-add-parts-at-2 c = search needs
 
 shared-slice-read-parts-at : tie.Need-shared-slice-read-parts-at
 shared-slice-read-parts-at c = omega (arith, whole (c .before .before .before) .0)
@@ -79,16 +67,5 @@ returns-4 c =
 pub record-fault-spec : {M : Type 1} → statement M
 record-fault-spec =
     tie.close
-    (tie.spec
-    returns
-    form-fault-requires
-    returns-2
-    add-number2
-    number2-requires
-    returns-3
-    add-parts-at
-    add-parts-at-2
-    shared-slice-read-parts-at
-    parts-at-requires
-    sum-fault-requires
-    returns-4)
+    (tie.spec returns (λ c κs. search needs) returns-2 (λ c. search needs) number2-requires returns-3
+    (λ c. search needs) (λ c. search needs) shared-slice-read-parts-at parts-at-requires sum-fault-requires returns-4)

@@ -77,36 +77,6 @@ module _ (a : tie.After-as-place) where
   place-is : a .as-place .result ≡ getD (start (own a) .args .tm .now) (start (own a) .args .i) 0
   place-is = a .as-place .ensures
 
-word-at-requires : tie.Need-word-at-requires
-word-at-requires c κs = search needs
-
-collateral-at-requires : tie.Need-collateral-at-requires
-collateral-at-requires c κs = search needs
-
-mul-less : tie.Need-mul-less
-mul-less c = search needs
-
-element-copy-out-less : tie.Need-element-copy-out-less
-element-copy-out-less c = search needs
-
-less-requires : tie.Need-less-requires
-less-requires c κs = search needs
-
-mul-e : tie.Need-mul-e
-mul-e c = search needs
-
-element-copy-out-e : tie.Need-element-copy-out-e
-element-copy-out-e c = search needs
-
-mul-due-of : tie.Need-mul-due-of
-mul-due-of c = search needs
-
-element-copy-out-due-of : tie.Need-element-copy-out-due-of
-element-copy-out-due-of c = search needs
-
-due-of-requires : tie.Need-due-of-requires
-due-of-requires c κs = search needs
-
 due-of-requires-2 : tie.Need-due-of-requires-2
 due-of-requires-2 c κs =
     let k = c .before .before .before .before .before in
@@ -117,24 +87,6 @@ due-of-requires-2 c κs =
       omega (arith, h .over),
       rw (k .collateral-at .ensures) (collateral-fits _ _ _ _ _ _ _ _ _ _ h),
     )
-
-mul-kept : tie.Need-mul-kept
-mul-kept c = search needs
-
-element-write-kept : tie.Need-element-write-kept
-element-write-kept c = search needs
-
-element-copy-out-put-own : tie.Need-element-copy-out-put-own
-element-copy-out-put-own c = search needs
-
-add-put-own : tie.Need-add-put-own
-add-put-own c = search needs
-
-mul-put-own : tie.Need-mul-put-own
-mul-put-own c = search needs
-
-add-put-own-2 : tie.Need-add-put-own-2
-add-put-own-2 c = search needs
 
 put-own-requires : tie.Need-put-own-requires
 put-own-requires c κs =
@@ -148,9 +100,6 @@ put-own-requires c κs =
       rw (k .collateral-at .ensures) (collateral-fits _ _ _ _ _ _ _ _ _ _ h),
     )
 
-same-due-requires : tie.Need-same-due-requires
-same-due-requires c κs = search needs
-
 returns : tie.Need-returns
 returns c =
     let p = c .before .before in
@@ -162,9 +111,6 @@ mul-as-place c = let s = start (c .before .before) in omega (arith, s .pre .0 .r
 
 element-copy-out-as-place : tie.Need-element-copy-out-as-place
 element-copy-out-as-place c = start (c .before .before) .pre .0 .ranging .inside
-
-as-place-requires : tie.Need-as-place-requires
-as-place-requires c κs = search needs
 
 rise-requires : tie.Need-rise-requires
 rise-requires c κs =
@@ -206,31 +152,8 @@ returns-3 c =
 pub follow-spec : {M : Type 1} → statement M
 follow-spec =
     tie.close
-    (tie.spec
-    word-at-requires
-    collateral-at-requires
-    mul-less
-    element-copy-out-less
-    less-requires
-    mul-e
-    element-copy-out-e
-    mul-due-of
-    element-copy-out-due-of
-    due-of-requires
-    due-of-requires-2
-    mul-kept
-    element-write-kept
-    element-copy-out-put-own
-    add-put-own
-    mul-put-own
-    add-put-own-2
-    put-own-requires
-    same-due-requires
-    returns
-    mul-as-place
-    element-copy-out-as-place
-    as-place-requires
-    rise-requires
-    returns-2
-    lift-requires
-    returns-3)
+    (tie.spec (λ c κs. search needs) (λ c κs. search needs) (λ c. search needs) (λ c. search needs)
+    (λ c κs. search needs) (λ c. search needs) (λ c. search needs) (λ c. search needs) (λ c. search needs)
+    (λ c κs. search needs) due-of-requires-2 (λ c. search needs) (λ c. search needs) (λ c. search needs)
+    (λ c. search needs) (λ c. search needs) (λ c. search needs) put-own-requires (λ c κs. search needs) returns
+    mul-as-place element-copy-out-as-place (λ c κs. search needs) rise-requires returns-2 lift-requires returns-3)

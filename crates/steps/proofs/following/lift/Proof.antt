@@ -24,20 +24,11 @@ after-is d =
     let p = start r .pre in
     d .due-at2 .ensures ∙ due-risen _ _ _ _ _ _ _ _ _ _ _ _ (p .0) (r .rise .ensures) (p .5)
 
-due-at-requires : tie.Need-due-at-requires
-due-at-requires c κs = search needs
-
-rise-requires : tie.Need-rise-requires
-rise-requires c κs = search needs
-
 due-at-requires-2 : tie.Need-due-at-requires-2
 due-at-requires-2 c κs =
     let r = c .before .before in
     let p = start r .pre in
     fits-here _ _ _ _ _ _ _ _ _ _ _ _ (p .0) (r .rise .ensures) (p .5) (p .2)
-
-same-due-requires : tie.Need-same-due-requires
-same-due-requires c κs = search needs
 
 rise-requires-2 : tie.Need-rise-requires-2
 rise-requires-2 c κs =
@@ -68,11 +59,5 @@ returns-2 c =
 pub lift-spec : {M : Type 1} → statement M
 lift-spec =
     tie.close
-    (tie.spec
-    due-at-requires
-    rise-requires
-    due-at-requires-2
-    same-due-requires
-    rise-requires-2
-    returns
-    returns-2)
+    (tie.spec (λ c κs. search needs) (λ c κs. search needs) due-at-requires-2 (λ c κs. search needs) rise-requires-2
+    returns returns-2)

@@ -7,12 +7,6 @@ use mathlib.Core.Bool.{false}
 use Rattle.steps.proofs.following.mode_of.Statement.{statement}
 use Rattle.steps.proofs.following.mode_of.Tie as tie
 
-element-copy-out-result : tie.Need-element-copy-out-result
-element-copy-out-result c = search needs
-
-element-copy-out-result-2 : tie.Need-element-copy-out-result-2
-element-copy-out-result-2 c = search needs
-
 returns : tie.Need-returns
 returns c =
     let a = c .before .before .args in
@@ -24,4 +18,4 @@ returns-2 c =
     sym (ap (λ l. getD l (a .j) false) (pick-no (a .waiting) _ _ (c .before .if1 .left)))
 
 pub mode-of-spec : {M : Type 1} → statement M
-mode-of-spec = tie.close (tie.spec element-copy-out-result element-copy-out-result-2 returns returns-2)
+mode-of-spec = tie.close (tie.spec (λ c. search needs) (λ c. search needs) returns returns-2)

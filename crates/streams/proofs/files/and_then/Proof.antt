@@ -8,12 +8,6 @@ use Rattle.streams.proofs.Signed.{below-zero}
 use Rattle.streams.proofs.files.and_then.Statement.{statement}
 use Rattle.streams.proofs.files.and_then.Tie as tie
 
-cannot-requires : tie.Need-cannot-requires
-cannot-requires c κs = search needs
-
-nothing-moved-requires : tie.Need-nothing-moved-requires
-nothing-moved-requires c κs = search needs
-
 returns : tie.Need-returns
 unfolding andThen
 returns c =
@@ -27,4 +21,4 @@ returns-2 c =
     pick-second nothingMoved (sym (below-zero w32 (s .args .answer) (s .fits .answer)) ∙ c .if1 .left) refl
 
 pub and-then-spec : {M : Type 1} → statement M
-and-then-spec = tie.close (tie.spec cannot-requires nothing-moved-requires returns returns-2)
+and-then-spec = tie.close (tie.spec (λ c κs. search needs) (λ c κs. search needs) returns returns-2)

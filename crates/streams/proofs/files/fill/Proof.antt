@@ -4,23 +4,8 @@ use Rattle.streams.proofs.Taken.{all-taken, no-bytes, whole, still-whol
 use Rattle.streams.proofs.files.fill.Statement.{statement}
 use Rattle.streams.proofs.files.fill.Tie as tie
 
-write-all-requires : tie.Need-write-all-requires
-write-all-requires c κs = search needs
-
-cannot-requires : tie.Need-cannot-requires
-cannot-requires c κs = search needs
-
-nothing-moved-requires : tie.Need-nothing-moved-requires
-nothing-moved-requires c κs = search needs
-
 returns : tie.Need-returns
 returns c = no-bytes (c .nothing-moved .ensures) _
-
-fsync-requires : tie.Need-fsync-requires
-fsync-requires c κs = search needs
-
-and-then-requires : tie.Need-and-then-requires
-and-then-requires c κs = search needs
 
 returns-2 : tie.Need-returns-2
 returns-2 c =
@@ -31,11 +16,5 @@ returns-2 c =
 pub fill-spec : {M : Type 1} → statement M
 fill-spec =
     tie.close
-    (tie.spec
-    write-all-requires
-    cannot-requires
-    nothing-moved-requires
-    returns
-    fsync-requires
-    and-then-requires
-    returns-2)
+    (tie.spec (λ c κs. search needs) (λ c κs. search needs) (λ c κs. search needs) returns (λ c κs. search needs)
+    (λ c κs. search needs) returns-2)

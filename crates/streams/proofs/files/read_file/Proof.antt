@@ -10,26 +10,8 @@ use Rattle.streams.proofs.Taken.{nothing-came, it-failed}
 use Rattle.streams.proofs.files.read_file.Statement.{statement}
 use Rattle.streams.proofs.files.read_file.Tie as tie
 
-slice-aggregate-cannot : tie.Need-slice-aggregate-cannot
-slice-aggregate-cannot c = search needs
-
-cannot-requires : tie.Need-cannot-requires
-cannot-requires c κs = search needs
-
-nothing-moved-requires : tie.Need-nothing-moved-requires
-nothing-moved-requires c κs = search needs
-
 returns : tie.Need-returns
 returns c = (nothing-came (c .nothing-moved .ensures) _ .0, (nothing-came (c .nothing-moved .ensures) 0 .1, it-failed (c .nothing-moved .ensures)))
-
-open-read-requires : tie.Need-open-read-requires
-open-read-requires c κs = search needs
-
-read-opened-requires : tie.Need-read-opened-requires
-read-opened-requires c κs = search needs
-
-same-length : tie.Need-same-length
-same-length c = search needs
 
 returns-2 : tie.Need-returns-2
 returns-2 c =
@@ -41,12 +23,5 @@ returns-2 c =
 pub read-file-spec : {M : Type 1} → statement M
 read-file-spec =
     tie.close
-    (tie.spec
-    slice-aggregate-cannot
-    cannot-requires
-    nothing-moved-requires
-    returns
-    open-read-requires
-    read-opened-requires
-    same-length
-    returns-2)
+    (tie.spec (λ c. search needs) (λ c κs. search needs) (λ c κs. search needs) returns (λ c κs. search needs)
+    (λ c κs. search needs) (λ c. search needs) returns-2)

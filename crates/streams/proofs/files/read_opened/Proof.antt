@@ -8,38 +8,11 @@ use Rattle.streams.proofs.Taken.{nothing-came, it-failed}
 use Rattle.streams.proofs.files.read_opened.Statement.{statement}
 use Rattle.streams.proofs.files.read_opened.Tie as tie
 
-cannot-requires : tie.Need-cannot-requires
-cannot-requires c κs = search needs
-
-nothing-moved-requires : tie.Need-nothing-moved-requires
-nothing-moved-requires c κs = search needs
-
 returns : tie.Need-returns
 returns c = (nothing-came (c .nothing-moved .ensures) _ .0, (nothing-came (c .nothing-moved .ensures) 0 .1, it-failed (c .nothing-moved .ensures)))
 
-read-all-requires : tie.Need-read-all-requires
-read-all-requires c κs = search needs
-
-cannot-requires-2 : tie.Need-cannot-requires-2
-cannot-requires-2 c κs = search needs
-
-close-requires : tie.Need-close-requires
-close-requires c κs = search needs
-
-nothing-moved-requires-2 : tie.Need-nothing-moved-requires-2
-nothing-moved-requires-2 c κs = search needs
-
-same-length : tie.Need-same-length
-same-length c = search needs
-
 returns-2 : tie.Need-returns-2
 returns-2 c = (nothing-came (c .nothing-moved2 .ensures) _ .0, (nothing-came (c .nothing-moved2 .ensures) 0 .1, it-failed (c .nothing-moved2 .ensures)))
-
-close-requires-2 : tie.Need-close-requires-2
-close-requires-2 c κs = search needs
-
-same-length-2 : tie.Need-same-length-2
-same-length-2 c = search needs
 
 returns-3 : tie.Need-returns-3
 returns-3 c =
@@ -51,16 +24,6 @@ returns-3 c =
 pub read-opened-spec : {M : Type 1} → statement M
 read-opened-spec =
     tie.close
-    (tie.spec
-    cannot-requires
-    nothing-moved-requires
-    returns
-    read-all-requires
-    cannot-requires-2
-    close-requires
-    nothing-moved-requires-2
-    same-length
-    returns-2
-    close-requires-2
-    same-length-2
-    returns-3)
+    (tie.spec (λ c κs. search needs) (λ c κs. search needs) returns (λ c κs. search needs) (λ c κs. search needs)
+    (λ c κs. search needs) (λ c κs. search needs) (λ c. search needs) returns-2 (λ c κs. search needs)
+    (λ c. search needs) returns-3)

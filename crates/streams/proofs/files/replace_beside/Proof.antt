@@ -10,15 +10,7 @@ use Rattle.streams.proofs.files.replace_beside.Tie as tie
 create-beside-requires : tie.Need-create-beside-requires
 create-beside-requires c κs = let s = c .before .before .before .before .before .before in omega (arith, ap length (s .pre), length-append (s .args .name .now) besideMark)
 
-replace-by-requires : tie.Need-replace-by-requires
-replace-by-requires c κs = search needs
-
-same-length : tie.Need-same-length
-same-length c = search needs
-
-returns : tie.Need-returns
-returns c = search needs
-
 pub replace-beside-spec : {M : Type 1} → statement M
 replace-beside-spec =
-    tie.close (tie.spec create-beside-requires replace-by-requires same-length returns)
+    tie.close
+    (tie.spec create-beside-requires (λ c κs. search needs) (λ c. search needs) (λ c. search needs))

@@ -19,35 +19,11 @@ renamed : (c : tie.After-and-then) → (let f = c .before .before .before .befor
     c .and-then .result .count ≡ pick (c .and-then .result .failed) 0 (length (f .before .before .before .before .before .before .before .args .text .now)))
 renamed c = let f = c .before .before .before .before in still-whole (f .fill .result) _ _ _ (c .and-then .ensures) (f .fill .ensures)
 
-cannot-requires : tie.Need-cannot-requires
-cannot-requires c κs = search needs
-
-nothing-moved-requires : tie.Need-nothing-moved-requires
-nothing-moved-requires c κs = search needs
-
 returns : tie.Need-returns
 returns c = (no-bytes (c .nothing-moved .ensures) _, it-failed (c .nothing-moved .ensures))
 
-fill-requires : tie.Need-fill-requires
-fill-requires c κs = search needs
-
-close-requires : tie.Need-close-requires
-close-requires c κs = search needs
-
-unlink-requires : tie.Need-unlink-requires
-unlink-requires c κs = search needs
-
 returns-2 : tie.Need-returns-2
 returns-2 c = let f = c .before .before .before in (f .fill .ensures, made (f .before))
-
-rename-requires : tie.Need-rename-requires
-rename-requires c κs = search needs
-
-and-then-requires : tie.Need-and-then-requires
-and-then-requires c κs = search needs
-
-unlink-requires-2 : tie.Need-unlink-requires-2
-unlink-requires-2 c κs = search needs
 
 returns-3 : tie.Need-returns-3
 returns-3 c = let a = c .before .before in (renamed a, made (a .before .before .before .before .before))
@@ -58,16 +34,6 @@ returns-4 c = let a = c .before in (renamed a, made (a .before .before .before .
 pub replace-by-spec : {M : Type 1} → statement M
 replace-by-spec =
     tie.close
-    (tie.spec
-    cannot-requires
-    nothing-moved-requires
-    returns
-    fill-requires
-    close-requires
-    unlink-requires
-    returns-2
-    rename-requires
-    and-then-requires
-    unlink-requires-2
-    returns-3
+    (tie.spec (λ c κs. search needs) (λ c κs. search needs) returns (λ c κs. search needs) (λ c κs. search needs)
+    (λ c κs. search needs) returns-2 (λ c κs. search needs) (λ c κs. search needs) (λ c κs. search needs) returns-3
     returns-4)

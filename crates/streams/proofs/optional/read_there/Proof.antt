@@ -16,12 +16,6 @@ use Rattle.streams.proofs.optional.read_there.Tie as tie
 missing : (c : tie.Start) → missingBy (c .args .fd) (c .args .error) ≡ missingBy (toZ w32 (ofZ w32 (c .args .fd))) (toZ w32 (ofZ w32 (c .args .error)))
 missing c = sym (read-back missingBy (c .args .fd) (c .args .error) (c .fits .fd) (c .fits .error))
 
-is-missing-requires : tie.Need-is-missing-requires
-is-missing-requires c κs = search needs
-
-no-bytes-requires : tie.Need-no-bytes-requires
-no-bytes-requires c κs = search needs
-
 returns : tie.Need-returns
 returns c =
     let i = c .before .before in
@@ -30,12 +24,6 @@ returns c =
     let e = missing s ∙ sym (i .is-missing .ensures) ∙ c .before .if1 .taken in
     let n = none-came (c .no-bytes .ensures) in
     (n _ .0, (n 0 .1, ((λ _. c .no-bytes .ensures), (λ _. ap (λ (t : Bool). failedBy (a .fd) && not t) e ∙ and-false (failedBy (a .fd))))))
-
-read-opened-requires : tie.Need-read-opened-requires
-read-opened-requires c κs = search needs
-
-same-length : tie.Need-same-length
-same-length c = search needs
 
 returns-2 : tie.Need-returns-2
 returns-2 c =
@@ -50,10 +38,4 @@ returns-2 c =
 pub read-there-spec : {M : Type 1} → statement M
 read-there-spec =
     tie.close
-    (tie.spec
-    is-missing-requires
-    no-bytes-requires
-    returns
-    read-opened-requires
-    same-length
-    returns-2)
+    (tie.spec (λ c κs. search needs) (λ c κs. search needs) returns (λ c κs. search needs) (λ c. search needs) returns-2)

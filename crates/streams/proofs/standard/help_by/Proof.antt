@@ -7,24 +7,13 @@ use Rattle.sums.specs.Choice.{pick}
 use Rattle.streams.proofs.standard.help_by.Statement.{statement}
 use Rattle.streams.proofs.standard.help_by.Tie as tie
 
-slice-aggregate-is-same : tie.Need-slice-aggregate-is-same
-slice-aggregate-is-same c = search needs
-
-is-same-requires : tie.Need-is-same-requires
-is-same-requires c κs = search needs
-
 returns : tie.Need-returns
 unfolding pick
 returns c = (sym (not-true _ (c .if1 .taken)) ∙ c .before .is-same .ensures, (omega arith, refl))
-
-write-all-requires : tie.Need-write-all-requires
-write-all-requires c κs = search needs
 
 returns-2 : tie.Need-returns-2
 unfolding pick
 returns-2 c = (sym (not-false _ (c .before .if1 .left)) ∙ c .before .before .is-same .ensures, (c .write-all .ensures .0, c .write-all .ensures .1))
 
 pub help-by-spec : {M : Type 1} → statement M
-help-by-spec =
-    tie.close
-    (tie.spec slice-aggregate-is-same is-same-requires returns write-all-requires returns-2)
+help-by-spec = tie.close (tie.spec (λ c. search needs) (λ c κs. search needs) returns (λ c κs. search needs) returns-2)

@@ -4,11 +4,8 @@ use Rattle.streams.proofs.SameBytes.{by-bytes}
 use Rattle.streams.proofs.words.is_same.Statement.{statement}
 use Rattle.streams.proofs.words.is_same.Tie as tie
 
-same-requires : tie.Need-same-requires
-same-requires c κs = search needs
-
 returns : tie.Need-returns
 returns c = by-bytes _ _ _ (c .same .ensures)
 
 pub is-same-spec : {M : Type 1} → statement M
-is-same-spec = tie.close (tie.spec same-requires returns)
+is-same-spec = tie.close (tie.spec (λ c κs. search needs) returns)

@@ -11,11 +11,8 @@ use Rattle.streams.proofs.words.too_many.Tie as tie
 returns : tie.Need-returns
 returns c = let a = c .before .args in sym (le-ltb (a .most + 1) (a .count) (omega arith))
 
-sub-result : tie.Need-sub-result
-sub-result c = search needs
-
 returns-2 : tie.Need-returns-2
 returns-2 c = let a = c .before .args in two-more (a .count) (a .most)
 
 pub too-many-spec : {M : Type 1} → statement M
-too-many-spec = tie.close (tie.spec returns sub-result returns-2)
+too-many-spec = tie.close (tie.spec returns (λ c. search needs) returns-2)

@@ -8,9 +8,6 @@ use Rattle.rows.proofs.Counted.{collateral-most}
 use Rattle.table.proofs.needs.account_as.Statement.{statement}
 use Rattle.table.proofs.needs.account_as.Tie as tie
 
-account-at-requires : tie.Need-account-at-requires
-account-at-requires c κs = search needs
-
 in-tenths-requires : tie.Need-in-tenths-requires
 in-tenths-requires c κs =
     let start = c .before .before in
@@ -24,4 +21,4 @@ returns-2 : tie.Need-returns-2
 returns-2 c = rw (c .if1 .left) (c .before .account-at .ensures)
 
 pub account-as-spec : {M : Type 1} → statement M
-account-as-spec = tie.close (tie.spec account-at-requires in-tenths-requires returns returns-2)
+account-as-spec = tie.close (tie.spec (λ c κs. search needs) in-tenths-requires returns returns-2)

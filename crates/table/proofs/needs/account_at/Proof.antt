@@ -27,29 +27,11 @@ most c = let h = held (c .before) in rw (c .kinds-at .ensures) (omega arith)
 abbrev kinds : tie.After-word-at2 → tie.After-kinds-at
 kinds c = c .before .before .before .before .before .before
 
-kinds-at-requires : tie.Need-kinds-at-requires
-kinds-at-requires c κs = search needs
-
-element-copy-out-t9 : tie.Need-element-copy-out-t9
-element-copy-out-t9 c = search needs
-
-mul-t10 : tie.Need-mul-t10
-mul-t10 c = search needs
-
-element-copy-out-t13 : tie.Need-element-copy-out-t13
-element-copy-out-t13 c = search needs
-
-word-at-requires : tie.Need-word-at-requires
-word-at-requires c κs = search needs
-
 add-t15 : tie.Need-add-t15
 add-t15 c = omega (arith, most (c .before .before .before .before))
 
 add-t16 : tie.Need-add-t16
 add-t16 c = omega (arith, most (c .before .before .before .before .before))
-
-word-at-requires-2 : tie.Need-word-at-requires-2
-word-at-requires-2 c κs = search needs
 
 add-t18 : tie.Need-add-t18
 add-t18 c = omega (arith, most (kinds c), c .word-at2 .ensures, held (kinds c .before) .pledged)
@@ -87,16 +69,5 @@ returns c =
 pub account-at-spec : {M : Type 1} → statement M
 account-at-spec =
     tie.close
-    (tie.spec
-    kinds-at-requires
-    element-copy-out-t9
-    mul-t10
-    element-copy-out-t13
-    word-at-requires
-    add-t15
-    add-t16
-    word-at-requires-2
-    add-t18
-    counted-of-requires
-    add-t20
-    returns)
+    (tie.spec (λ c κs. search needs) (λ c. search needs) (λ c. search needs) (λ c. search needs) (λ c κs. search needs)
+    add-t15 add-t16 (λ c κs. search needs) add-t18 counted-of-requires add-t20 returns)

@@ -15,12 +15,6 @@ use Rattle.table.proofs.needs.deemed_under_by.Tie as tie
 client-sums-requires : tie.Need-client-sums-requires
 client-sums-requires c κs = (c .before .pre .0, c .before .pre .2)
 
-members-sum-requires : tie.Need-members-sum-requires
-members-sum-requires c κs = search needs
-
-element-write-under : tie.Need-element-write-under
-element-write-under c = search needs
-
 returns : tie.Need-returns
 returns c =
     let sums = c .before .before in
@@ -32,5 +26,4 @@ returns c =
     (under-first v (shaped-in (a .tenths) (start .pre .1)) (start .pre .0 .most) clients (sums .client-sums .ensures))
 
 pub deemed-under-by-spec : {M : Type 1} → statement M
-deemed-under-by-spec =
-    tie.close (tie.spec client-sums-requires members-sum-requires element-write-under returns)
+deemed-under-by-spec = tie.close (tie.spec client-sums-requires (λ c κs. search needs) (λ c. search needs) returns)

@@ -1,11 +1,10 @@
 -- `table::needs::kept_at` meets its contract.
-use mathlib.Core.List.{[]}
-use mathlib.Core.Path.{_≡_, ap, sym, _∙_}
+use mathlib.Core.Path.{ap, sym, _∙_}
 use Prim.Native.Nat.{_+_, _<_}
 use native.Mathlib.Omega.{arith}
 use borrow.Author.Tests.{le-leb, lt-leb, eq-eqb, ne-eqb}
 use Rattle.sums.proofs.Choices.{pick-yes, pick-no}
-use Rattle.rows.specs.Rows.{rowAt, accountOf}
+use Rattle.rows.specs.Rows.{rowAt}
 use Rattle.rows.specs.Facts.{InRange}
 use Rattle.rows.specs.DeemedUnder.{needToKeep}
 use Rattle.table.specs.Facts.{seenBook}

@@ -14,11 +14,8 @@ returns c = (sym (pick-no _ _ _ (and-left-fails _ _ (lt-leb _ _ (c .if1 .taken))
 returns-2 : tie.Need-returns-2
 returns-2 c = (sym (pick-no _ _ _ (and-right-fails (leb 48 (c .before .before .args .byte)) _ (lt-leb _ _ (c .if2 .taken)))), omega arith)
 
-cast-result : tie.Need-cast-result
-cast-result c = search needs
-
 returns-3 : tie.Need-returns-3
 returns-3 c = (sym (pick-yes _ _ _ (and-join (le-leb _ _ (c .before .if1 .left)) (le-leb _ _ (c .if2 .left)))), omega arith)
 
 pub digit-of-spec : {M : Type 1} → statement M
-digit-of-spec = tie.close (tie.spec returns returns-2 cast-result returns-3)
+digit-of-spec = tie.close (tie.spec returns returns-2 (λ c. search needs) returns-3)

@@ -9,15 +9,6 @@ use borrow.Author.Needs.{needs}
 use Rattle.text.proofs.decimals.with_digit.Statement.{statement}
 use Rattle.text.proofs.decimals.with_digit.Tie as tie
 
-sub-if1 : tie.Need-sub-if1
-sub-if1 c = search needs
-
-mul-result : tie.Need-mul-result
-mul-result c = search needs
-
-add-result : tie.Need-add-result
-add-result c = search needs
-
 returns : tie.Need-returns
 returns c =
     let a = c .before .args in
@@ -29,4 +20,4 @@ returns-2 c =
     sym (pick-no _ _ _ (lt-leb (10 * a .n + a .digit) largest (omega arith)))
 
 pub with-digit-spec : {M : Type 1} → statement M
-with-digit-spec = tie.close (tie.spec sub-if1 mul-result add-result returns returns-2)
+with-digit-spec = tie.close (tie.spec (λ c. search needs) (λ c. search needs) (λ c. search needs) returns returns-2)

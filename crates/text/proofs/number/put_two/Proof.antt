@@ -4,20 +4,8 @@ use Rattle.text.proofs.Digits.{decimal-one, decimal-two}
 use Rattle.text.proofs.number.put_two.Statement.{statement}
 use Rattle.text.proofs.number.put_two.Tie as tie
 
-put-digit-requires : tie.Need-put-digit-requires
-put-digit-requires c κs = search needs
-
-put-pair-requires : tie.Need-put-pair-requires
-put-pair-requires c κs = search needs
-
-same-length : tie.Need-same-length
-same-length c = search needs
-
 returns : tie.Need-returns
 returns c = rw (decimal-one _ (c .before .before .before .before .if1 .taken)) (c .before .before .put-digit .ensures)
-
-same-length-2 : tie.Need-same-length-2
-same-length-2 c = search needs
 
 returns-2 : tie.Need-returns-2
 returns-2 c =
@@ -27,4 +15,4 @@ returns-2 c =
 pub put-two-spec : {M : Type 1} → statement M
 put-two-spec =
     tie.close
-    (tie.spec put-digit-requires put-pair-requires same-length returns same-length-2 returns-2)
+    (tie.spec (λ c κs. search needs) (λ c κs. search needs) (λ c. search needs) returns (λ c. search needs) returns-2)
