@@ -20,15 +20,11 @@ pub struct Archived {
 fn refused(t: Table, refusal: u8) -> Archived
     ensures { λ x. ⌜ x ≡ record { refusal = refusal; moved = 0; table = turned (turnedBack t) } ⌝ }
 {
-    let sort = t.sort;
-    let live = t.live;
-    let tm = t.tm;
-    let amounts = t.amounts;
-    table::sizes(sort, live, tm, amounts);
+    let table = table::same(t);
     Archived {
         refusal,
         moved: 0,
-        table: t,
+        table,
     }
 }
 

@@ -24,9 +24,7 @@ use Rattle.rules.specs.Numbered.{placed, actOf, recordAfter}
 use Rattle.rules.proofs.Deciding.{never-one, refuse-some, refuse-number}
 use Rattle.steps.specs.Steps.{refusalShown, givenShown}
 use Rattle.table.specs.declared.Table.{Table}
-use Rattle.table.specs.Words.{marksOf, turnedBack}
-use Rattle.table.specs.Facts.{Sized}
-use Rattle.table.proofs.Turning.{turned-from}
+use Rattle.table.specs.Words.{turned}
 use Rattle.desk.specs.declared.Outcome.{Outcome}
 use Rattle.desk.specs.declared.Outcome.the-variants.{CarriedOut, Refused}
 use Rattle.desk.specs.declared.Done.{Done}
@@ -53,13 +51,12 @@ answer-by b r s (Open x) e = ap (ofRecord r) (pick-no (eqb (b .next) 0) CarriedO
 
 -- one record on words in place is the old order's, turned over
 pub stepped-over : (b : Book) (r : Record) → Sound b → (n g : ℕ) (o : Outcome) (t : Table) → o ≡ outcomeBy n g → n ≡ refusalShown (actOf b r) → g ≡ givenShown (b .next) (actOf b r)
-    → Sized (marksOf t) (t .amounts) → turnedBack t ≡ recordAfter b r
-    → _≡_ {A = Carried} (record { answer = ofRecord r o; table = t }) (overDone (stepOf b r))
+    → t ≡ turned (recordAfter b r) → _≡_ {A = Carried} (record { answer = ofRecord r o; table = t }) (overDone (stepOf b r))
 unfolding stepOf
-stepped-over b r s n g o t eo en eg h e =
+stepped-over b r s n g o t eo en eg e =
     ap (λ o. record { answer = ofRecord r o; table = t }) (eo ∙ both en eg)
     ∙ ap (λ a. record { answer = a; table = t }) (answer-by b r s (actOf b r) refl)
-    ∙ ap (λ x. record { answer = answerOf (b .next) r (actOf b r); table = x }) (turned-from t _ h e)
+    ∙ ap (λ x. record { answer = answerOf (b .next) r (actOf b r); table = x }) e
   where
     both : {n n′ g g′ : ℕ} → n ≡ n′ → g ≡ g′ → outcomeBy n g ≡ outcomeBy n′ g′
     both p q = cc

@@ -11,11 +11,9 @@ use dayfile::Found;
 pub use dayfile::Record;
 use rows::Book;
 pub use rows::Kinds;
-use steps::At;
-use steps::following::collaterals;
+use steps::entry::enter;
+use steps::entry::leave;
 pub use table::Table;
-use table::modes::look_all;
-use table::needs::deemed_under;
 
 // What became of a record; the end is no refusal.
 pub enum Outcome {
@@ -86,27 +84,18 @@ fn step_at(t: Table, r: Record) -> Carried
     requires { ⌜ Sound (turnedBack t) ⌝ }
     ensures { λ d. ⌜ d ≡ overDone (stepOf (turnedBack t) r) ⌝ }
 {
+    let entered = enter(t);
+    let at = entered.at;
     let mut sort = t.sort;
     let mut live = t.live;
     let mut tm = t.tm;
     let mut amounts = t.amounts;
+    let mut kept = entered.kept;
+    let mut modes = entered.modes;
     let mut needs = t.needs;
     let mut numbers = t.numbers;
+    let mut excess = entered.excess;
     let was = t.modes;
-    table::sizes(sort, live, tm, amounts);
-    table::modes::size(was);
-    table::needs::size(needs);
-    let count = t.count;
-    let mut excess = [0u64; 256];
-    deemed_under(&sort, &tm, &amounts, count, true, &mut excess);
-    let mut modes = look_all(&sort, &tm, &amounts, count, &excess, &was);
-    let mut kept = collaterals(&amounts);
-    let at = At {
-        count,
-        serial: t.serial,
-        next: t.next,
-        waiting: true,
-    };
     let gone = steps::step(
         &mut sort,
         &mut live,
@@ -129,18 +118,7 @@ fn step_at(t: Table, r: Record) -> Carried
         outcome,
     };
     let after = steps::on(at, gone);
-    let table = Table {
-        count: after.count,
-        serial: after.serial,
-        sort,
-        live,
-        tm,
-        amounts,
-        modes: steps::modes_of(was, modes, after.waiting),
-        needs,
-        next: after.next,
-        numbers,
-    };
+    let table = leave(after, sort, live, tm, amounts, was, modes, needs, numbers);
     Carried { answer, table }
 }
 
@@ -148,13 +126,9 @@ fn step_at(t: Table, r: Record) -> Carried
 fn stays(t: Table, outcome: Outcome) -> Carried
     ensures { λ d. ⌜ d ≡ record { answer = nobody outcome; table = turned (turnedBack t) } ⌝ }
 {
-    let sort = t.sort;
-    let live = t.live;
-    let tm = t.tm;
-    let amounts = t.amounts;
-    table::sizes(sort, live, tm, amounts);
     let answer = about_nobody(outcome);
-    Carried { answer, table: t }
+    let table = table::same(t);
+    Carried { answer, table }
 }
 
 fn at(c: Carried, place: usize) -> CarriedNext

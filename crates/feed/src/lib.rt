@@ -9,12 +9,10 @@ use print::ROOM;
 use print::print_lines;
 pub use records::Closing;
 use space::SPACE;
-use steps::At;
-use steps::modes_of;
+use steps::entry::enter;
+use steps::entry::leave;
 pub use streams::Moved;
 pub use table::Table;
-use table::modes::look_all;
-use table::needs::deemed_under;
 use turn::NUMBERS;
 use turn::stops;
 
@@ -36,18 +34,6 @@ pub struct Day {
     pub failed: bool,
 }
 
-// Where a book stands that was handed over.
-fn starting(count: u16, serial: u16, next: u32) -> At
-    ensures { λ x. ⌜ x ≡ record { count = count; serial = serial; next = next; waiting = true } ⌝ }
-{
-    At {
-        count,
-        serial,
-        next,
-        waiting: true,
-    }
-}
-
 fn no_day() -> Day
     ensures { λ d. ⌜ d ≡ noDay ⌝ }
 {
@@ -65,13 +51,9 @@ fn no_day() -> Day
 fn unsound(t: Table) -> Day
     ensures { λ d. ⌜ d ≡ dayOf 0 (endedWith Closing.Unsound (turnedBack t) 0 0 0) ⌝ }
 {
-    let sort = t.sort;
-    let live = t.live;
-    let tm = t.tm;
-    let amounts = t.amounts;
-    table::sizes(sort, live, tm, amounts);
+    let table = table::same(t);
     Day {
-        table: t,
+        table,
         closing: Closing::Unsound,
         read: 0,
         done: 0,
@@ -89,21 +71,18 @@ fn in_turns(program: &[u8], printing: bool, t: Table) -> Day
     let mut space = space::blank();
     let mut numbers = [0u16; NUMBERS];
     let mut text = [0u8; ROOM];
+    let entered = enter(t);
+    let mut at = entered.at;
     let mut sort = t.sort;
     let mut live = t.live;
     let mut tm = t.tm;
     let mut amounts = t.amounts;
+    let mut kept = entered.kept;
+    let mut modes = entered.modes;
     let mut needs = t.needs;
     let mut accounts = t.numbers;
+    let mut excess = entered.excess;
     let was = t.modes;
-    table::sizes(sort, live, tm, amounts);
-    table::modes::size(was);
-    table::needs::size(needs);
-    let mut excess = [0u64; 256];
-    deemed_under(&sort, &tm, &amounts, t.count, true, &mut excess);
-    let mut modes = look_all(&sort, &tm, &amounts, t.count, &excess, &was);
-    let mut kept = steps::following::collaterals(&amounts);
-    let mut at = starting(t.count, t.serial, t.next);
     let mut rest: usize = 0;
     let mut read: u64 = 0;
     let mut done: u64 = 0;
@@ -146,18 +125,7 @@ fn in_turns(program: &[u8], printing: bool, t: Table) -> Day
         }
         rest = space::to_front(&mut space, went.place, held);
     };
-    let table = Table {
-        count: at.count,
-        serial: at.serial,
-        sort,
-        live,
-        tm,
-        amounts,
-        modes: modes_of(was, modes, at.waiting),
-        needs,
-        next: at.next,
-        numbers: accounts,
-    };
+    let table = leave(at, sort, live, tm, amounts, was, modes, needs, accounts);
     Day {
         table,
         closing,

@@ -12,10 +12,9 @@ ghost use Rattle.records.specs.Inner.{putNumbersFrom};
 ghost use Rattle.run.specs.Over.{overRan};
 pub use records::Closing;
 use records::go;
-use steps::At;
+use steps::entry::enter;
+use steps::entry::leave;
 pub use table::Table;
-use table::modes::look_all;
-use table::needs::deemed_under;
 
 // The table after the records, the place reached, why they stopped, and the two counts.
 pub struct Ended {
@@ -32,27 +31,18 @@ fn run(t: Table, piece: &[u8], most: u64, room: &mut [u16], numbered: bool) -> E
     ensures { λ r. ⌜ r ≡ overRan (runOf (now (piece .entry)) most (turnedBack t) 0 0 0) ⌝ }
     ensures { λ r. ⌜ now (room .exit) ≡ pick numbered (putNumbersFrom (now (piece .entry)) most (turnedBack t) 0 0 (now (room .entry))) (now (room .entry)) ⌝ }
 {
+    let entered = enter(t);
+    let first = entered.at;
     let mut sort = t.sort;
     let mut live = t.live;
     let mut tm = t.tm;
     let mut amounts = t.amounts;
+    let mut kept = entered.kept;
+    let mut modes = entered.modes;
     let mut needs = t.needs;
     let mut numbers = t.numbers;
+    let mut excess = entered.excess;
     let was = t.modes;
-    table::sizes(sort, live, tm, amounts);
-    table::modes::size(was);
-    table::needs::size(needs);
-    let count = t.count;
-    let mut excess = [0u64; 256];
-    deemed_under(&sort, &tm, &amounts, count, true, &mut excess);
-    let mut modes = look_all(&sort, &tm, &amounts, count, &excess, &was);
-    let mut kept = steps::following::collaterals(&amounts);
-    let first = At {
-        count,
-        serial: t.serial,
-        next: t.next,
-        waiting: true,
-    };
     let went = go(
         &mut sort,
         &mut live,
@@ -72,18 +62,7 @@ fn run(t: Table, piece: &[u8], most: u64, room: &mut [u16], numbered: bool) -> E
     );
     let closing = went.closing;
     let at = went.at;
-    let table = Table {
-        count: at.count,
-        serial: at.serial,
-        sort,
-        live,
-        tm,
-        amounts,
-        modes: steps::modes_of(was, modes, at.waiting),
-        needs,
-        next: at.next,
-        numbers,
-    };
+    let table = leave(at, sort, live, tm, amounts, was, modes, needs, numbers);
     Ended {
         table,
         place: went.place,
@@ -96,13 +75,9 @@ fn run(t: Table, piece: &[u8], most: u64, room: &mut [u16], numbered: bool) -> E
 fn unsound(t: Table) -> Ended
     ensures { λ r. ⌜ r ≡ overRan (endedWith Closing.Unsound (turnedBack t) 0 0 0) ⌝ }
 {
-    let sort = t.sort;
-    let live = t.live;
-    let tm = t.tm;
-    let amounts = t.amounts;
-    table::sizes(sort, live, tm, amounts);
+    let table = table::same(t);
     Ended {
-        table: t,
+        table,
         place: 0,
         closing: Closing::Unsound,
         read: 0,

@@ -1,5 +1,5 @@
 -- A record carried out on the table's words in place, against the book of the old order: only for internal functions.
-use mathlib.Core.Bool.{Bool, _&&_}
+use mathlib.Core.Bool.{Bool, true, _&&_}
 use mathlib.Core.List.{List}
 use mathlib.Core.Path.{_≡_}
 use Prim.Native.Nat.{ℕ, _+_}
@@ -16,6 +16,7 @@ use Rattle.dayfile.specs.declared.Record.{Record}
 use Rattle.rules.specs.declared.Change.{Change}
 use Rattle.rules.specs.declared.Change.the-variants.{Refuse, Put, Open}
 use Rattle.rules.specs.Effects.{changeOf, changedBy, bookAfter, nextSerial}
+use Rattle.table.specs.declared.Table.{Table}
 use Rattle.table.specs.Words.{Marks, bookFrom}
 use Rattle.table.specs.Facts.{Sized}
 use Rattle.steps.specs.declared.At.{At}
@@ -79,6 +80,10 @@ modesIn waiting was modes = pick waiting was modes
 -- the book that the arrays are
 abbrev pub bookAt : At → Marks → List ℕ → List Bool → List Bool → List ℕ → List ℕ → Book
 bookAt at m w was modes needs numbers = bookFrom (at .count) (at .serial) m w (modesIn (at .waiting) was modes) needs (at .next) numbers
+
+-- where a table's book stands that was handed over
+abbrev pub startOf : Table → At
+startOf t = record { count = t .count; serial = t .serial; next = t .next; waiting = true }
 
 -- where it stands after a record that came to x
 abbrev pub atAfter : At → Gone → At

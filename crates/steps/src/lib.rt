@@ -18,6 +18,7 @@ use rows::needs::slot;
 use rules::naming;
 use table::places::word_at;
 
+pub mod entry;
 pub mod following;
 
 // Where a book stands: how many rows it has, the next serial, the next number, and whether no record was carried out since it was handed over.

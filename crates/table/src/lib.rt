@@ -35,6 +35,18 @@ pub fn sizes(sort: [u8; 256], live: [bool; 256], tm: [u16; 256], amounts: [u64; 
     true
 }
 
+// A table that stays is its book turned over.
+pub fn same(t: Table) -> Table
+    ensures { λ x. ⌜ x ≡ turned (turnedBack t) ⌝ }
+{
+    let sort = t.sort;
+    let live = t.live;
+    let tm = t.tm;
+    let amounts = t.amounts;
+    sizes(sort, live, tm, amounts);
+    t
+}
+
 fn width(a: [Row; 256]) -> bool
     ensures { λ _. ⌜ length a ≡ 256 ⌝ }
 {

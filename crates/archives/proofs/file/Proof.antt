@@ -24,51 +24,15 @@ Inv-loop room₀ n entries before count₀ i₀ room count i =
 abbrev μ-loop : tie.MeasureT-loop
 μ-loop room₀ n entries before count₀ i₀ room count i = length entries / 3 - i
 
-end-line-requires : tie.Need-end-line-requires Inv-loop μ-loop
-end-line-requires c κs = search needs
-
 loop-holds : tie.Need-loop-holds Inv-loop μ-loop
 unfolding filedTo
 loop-holds c = (holds-same _ _ (c .before .before .end-line .ensures .0 .within), omega arith, omega arith, refl)
-
-mul-k : tie.Need-mul-k Inv-loop μ-loop
-mul-k c = omega arith
-
-mul-with-entry : tie.Need-mul-with-entry Inv-loop μ-loop
-mul-with-entry c = omega arith
-
-shared-slice-read-with-entry : tie.Need-shared-slice-read-with-entry Inv-loop μ-loop
-shared-slice-read-with-entry c = omega arith
-
-add-with-entry : tie.Need-add-with-entry Inv-loop μ-loop
-add-with-entry c = omega arith
-
-mul-with-entry-2 : tie.Need-mul-with-entry-2 Inv-loop μ-loop
-mul-with-entry-2 c = omega arith
-
-shared-slice-read-with-entry-2 : tie.Need-shared-slice-read-with-entry-2 Inv-loop μ-loop
-shared-slice-read-with-entry-2 c = omega arith
-
-add-with-entry-2 : tie.Need-add-with-entry-2 Inv-loop μ-loop
-add-with-entry-2 c = omega arith
-
-mul-with-entry-3 : tie.Need-mul-with-entry-3 Inv-loop μ-loop
-mul-with-entry-3 c = omega arith
-
-shared-slice-read-with-entry-3 : tie.Need-shared-slice-read-with-entry-3 Inv-loop μ-loop
-shared-slice-read-with-entry-3 c = omega arith
 
 with-entry-requires : tie.Need-with-entry-requires Inv-loop μ-loop
 with-entry-requires c κs =
     let l = c .before .before .before .before .before in
     let d = l .before .before .before in
     omega (arith, l .loop .inv, d .end-line .ensures .1, d .end-line .kept .0)
-
-add-i : tie.Need-add-i Inv-loop μ-loop
-add-i c = omega arith
-
-loop-less : tie.Need-loop-less Inv-loop μ-loop
-loop-less c = omega arith
 
 loop-again : tie.Need-loop-again Inv-loop μ-loop
 unfolding filedTo
@@ -94,23 +58,6 @@ returns c =
 pub file-spec : {M : Type 1} → statement M
 file-spec =
     tie.close
-    (tie.spec
-    Inv-loop
-    μ-loop
-    end-line-requires
-    loop-holds
-    mul-k
-    mul-with-entry
-    shared-slice-read-with-entry
-    add-with-entry
-    mul-with-entry-2
-    shared-slice-read-with-entry-2
-    add-with-entry-2
-    mul-with-entry-3
-    shared-slice-read-with-entry-3
-    with-entry-requires
-    add-i
-    loop-less
-    loop-again
-    same-length
-    returns)
+    (tie.spec Inv-loop μ-loop (λ c κs. search needs) loop-holds (λ c. omega arith) (λ c. omega arith) (λ c. omega arith)
+    (λ c. omega arith) (λ c. omega arith) (λ c. omega arith) (λ c. omega arith) (λ c. omega arith) (λ c. omega arith)
+    with-entry-requires (λ c. omega arith) (λ c. omega arith) loop-again same-length returns)

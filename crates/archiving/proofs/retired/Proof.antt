@@ -30,20 +30,11 @@ loop-holds c = (omega arith, sym (sum-zero 0 (gone (c .args .live .now)) (λ i l
 element-copy-out-only-if : tie.Need-element-copy-out-only-if Inv-loop μ-loop
 element-copy-out-only-if c = omega (arith, c .before .before .pre)
 
-only-if-requires : tie.Need-only-if-requires Inv-loop μ-loop
-only-if-requires c κs = search needs
-
 add-many : tie.Need-add-many Inv-loop μ-loop
 add-many c =
     let l = c .before .before .before .loop in
     let live = c .before .before .before .before .args .live .now in
     omega (arith, l .inv, few live (l .i), c .before .before .before .before .pre, c .only-if .ensures, only-most (not (getD live (l .i) false)) 1)
-
-add-i : tie.Need-add-i Inv-loop μ-loop
-add-i c = omega arith
-
-loop-less : tie.Need-loop-less Inv-loop μ-loop
-loop-less c = omega arith
 
 loop-again : tie.Need-loop-again Inv-loop μ-loop
 loop-again c =
@@ -63,15 +54,5 @@ returns c =
 pub retired-spec : {M : Type 1} → statement M
 retired-spec =
     tie.close
-    (tie.spec
-    Inv-loop
-    μ-loop
-    loop-holds
-    element-copy-out-only-if
-    only-if-requires
-    add-many
-    add-i
-    loop-less
-    loop-again
-    cast-result
-    returns)
+    (tie.spec Inv-loop μ-loop loop-holds element-copy-out-only-if (λ c κs. search needs) add-many (λ c. omega arith)
+    (λ c. omega arith) loop-again cast-result returns)

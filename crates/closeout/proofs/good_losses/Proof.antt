@@ -36,9 +36,6 @@ shared-slice-read-good-2 c = omega (arith, c .before .before .before .before .be
 add-i : tie.Need-add-i Inv-loop μ-loop
 add-i c = omega (arith, c .before .before .before .before .before .pre .1)
 
-loop-less : tie.Need-loop-less Inv-loop μ-loop
-loop-less c = omega arith
-
 loop-again : tie.Need-loop-again Inv-loop μ-loop
 loop-again c =
     let at = c .before .before .before .before .loop in
@@ -55,16 +52,5 @@ returns c =
 pub good-losses-spec : {M : Type 1} → statement M
 good-losses-spec =
     tie.close
-    (tie.spec
-    Inv-loop
-    μ-loop
-    loop-holds
-    mul-good
-    shared-slice-read-good
-    element-copy-out-good
-    mul-good-2
-    shared-slice-read-good-2
-    add-i
-    loop-less
-    loop-again
-    returns)
+    (tie.spec Inv-loop μ-loop loop-holds mul-good shared-slice-read-good element-copy-out-good mul-good-2
+    shared-slice-read-good-2 add-i (λ c. omega arith) loop-again returns)

@@ -10,26 +10,11 @@ Inv-loop left₀ left = Unit {0}
 abbrev μ-loop : tie.MeasureT-loop
 μ-loop left₀ left = left
 
-slice-aggregate-help : tie.Need-slice-aggregate-help Inv-loop μ-loop
-slice-aggregate-help c = search needs
-
-help-requires : tie.Need-help-requires Inv-loop μ-loop
-help-requires c κs = search needs
-
 returns : tie.Need-returns Inv-loop μ-loop
 returns c = tt
 
 loop-holds : tie.Need-loop-holds Inv-loop μ-loop
 loop-holds c = tt
-
-next-day-requires : tie.Need-next-day-requires Inv-loop μ-loop
-next-day-requires c κs = search needs
-
-sub-left : tie.Need-sub-left Inv-loop μ-loop
-sub-left c = omega arith
-
-loop-less : tie.Need-loop-less Inv-loop μ-loop
-loop-less c = omega arith
 
 loop-again : tie.Need-loop-again Inv-loop μ-loop
 loop-again c = tt
@@ -43,16 +28,5 @@ returns-3 c = tt
 pub main-spec : {M : Type 1} → statement M
 main-spec =
     tie.close
-    (tie.spec
-    Inv-loop
-    μ-loop
-    slice-aggregate-help
-    help-requires
-    returns
-    loop-holds
-    next-day-requires
-    sub-left
-    loop-less
-    loop-again
-    returns-2
-    returns-3)
+    (tie.spec Inv-loop μ-loop (λ c. search needs) (λ c κs. search needs) returns loop-holds (λ c κs. search needs)
+    (λ c. omega arith) (λ c. omega arith) loop-again returns-2 returns-3)

@@ -1,8 +1,7 @@
 -- `desk::stays` meets its contract.
-use mathlib.Core.Path.{sym, ap, _∙_}
+use mathlib.Core.Path.{ap, _∙_}
 use borrow.Author.Needs.{needs}
 use Rattle.table.specs.declared.Table.{Table}
-use Rattle.table.proofs.Turning.{back-and-over}
 use Rattle.desk.specs.declared.Answer.{Answer}
 use Rattle.desk.specs.Answers.{nobody}
 use Rattle.desk.proofs.stays.Statement.{statement}
@@ -10,9 +9,8 @@ use Rattle.desk.proofs.stays.Tie as tie
 
 returns : tie.Need-returns
 returns c =
-    let a = c .before .before .before .before .before .before .args in
-    ap (λ (x : Answer). record { answer = x; table = a .t }) (c .about-nobody .ensures)
-    ∙ ap (λ (x : Table). record { answer = nobody (a .outcome); table = x }) (sym (back-and-over (a .t) (c .before .sizes .ensures)))
+    ap (λ (x : Answer). record { answer = x; table = c .same .result }) (c .before .about-nobody .ensures)
+    ∙ ap (λ (x : Table). record { answer = nobody (c .before .before .args .outcome); table = x }) (c .same .ensures)
 
 pub stays-spec : {M : Type 1} → statement M
 stays-spec = tie.close (tie.spec (λ c κs. search needs) (λ c κs. search needs) returns)

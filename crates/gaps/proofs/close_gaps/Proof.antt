@@ -55,9 +55,6 @@ slide-need-requires c κs = let t = turn (c .before .before .before) in (i-insid
 slide-number-requires : tie.Need-slide-number-requires Inv-loop μ-loop
 slide-number-requires c κs = let t = turn (c .before .before .before .before .before) in (i-inside t, k-inside t)
 
-only-if-requires : tie.Need-only-if-requires Inv-loop μ-loop
-only-if-requires c κs = search needs
-
 add-k : tie.Need-add-k Inv-loop μ-loop
 add-k c =
     let row = c .before .before .before .before .before .before .before in
@@ -93,21 +90,6 @@ returns c =
 pub close-gaps-spec : {M : Type 1} → statement M
 close-gaps-spec =
     tie.close
-    (tie.spec
-    Inv-loop
-    μ-loop
-    loop-holds
-    cast-to
-    mul-to
-    array-write-to
-    slide-row-requires
-    slide-mode-requires
-    slide-need-requires
-    slide-number-requires
-    only-if-requires
-    add-k
-    add-i
-    loop-less
-    loop-again
-    cast-result
+    (tie.spec Inv-loop μ-loop loop-holds cast-to mul-to array-write-to slide-row-requires slide-mode-requires
+    slide-need-requires slide-number-requires (λ c κs. search needs) add-k add-i loop-less loop-again cast-result
     returns)

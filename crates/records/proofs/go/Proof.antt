@@ -74,18 +74,6 @@ loop-holds c =
       start .pre .0,
     )
 
-found-at-requires : tie.Need-found-at-requires Inv-loop μ-loop
-found-at-requires c κs = search needs
-
-enum-told : tie.Need-enum-told Inv-loop μ-loop
-enum-told c = search needs
-
-enum-told-2 : tie.Need-enum-told-2 Inv-loop μ-loop
-enum-told-2 c = search needs
-
-enum-known-found : tie.Need-enum-known-found Inv-loop μ-loop
-enum-known-found c = search needs
-
 step-requires : tie.Need-step-requires Inv-loop μ-loop
 step-requires c κs = turn (looked (whole (c .before .before .before .before .before .before .before .before .before))) .loop .inv .1
 
@@ -94,9 +82,6 @@ put-line-numbers-requires c κs =
     let s = c .before .before in
     let g = its-turn s .loop .inv .0 in
     omega (arith, g .space (c .before .if3 .taken), g .same, more s .if2 .left)
-
-on-requires : tie.Need-on-requires Inv-loop μ-loop
-on-requires c κs = search needs
 
 add-read : tie.Need-add-read Inv-loop μ-loop
 add-read c = omega (arith, more (c .before .before) .if2 .left, called (its-turn (c .before .before)) .fits .most .fits)
@@ -163,26 +148,6 @@ returns-4 c =
 pub go-spec : {M : Type 1} → statement M
 go-spec =
     tie.close
-    (tie.spec
-    Inv-loop
-    μ-loop
-    loop-holds
-    found-at-requires
-    enum-told
-    enum-told-2
-    enum-known-found
-    step-requires
-    put-line-numbers-requires
-    on-requires
-    add-read
-    add-done
-    loop-less
-    loop-again
-    same-length
-    returns
-    same-length-2
-    returns-2
-    same-length-3
-    returns-3
-    same-length-4
-    returns-4)
+    (tie.spec Inv-loop μ-loop loop-holds (λ c κs. search needs) (λ c. search needs) (λ c. search needs)
+    (λ c. search needs) step-requires put-line-numbers-requires (λ c κs. search needs) add-read add-done loop-less
+    loop-again same-length returns same-length-2 returns-2 same-length-3 returns-3 same-length-4 returns-4)

@@ -14,21 +14,6 @@ Inv-loop fd text n₀ n = n ≤ length text
 abbrev μ-loop : tie.MeasureT-loop
 μ-loop fd text n₀ n = length text - n
 
-loop-holds : tie.Need-loop-holds Inv-loop μ-loop
-loop-holds c = omega arith
-
-sub-write-more : tie.Need-sub-write-more Inv-loop μ-loop
-sub-write-more c = omega arith
-
-part-write-more-start : tie.Need-part-write-more-start Inv-loop μ-loop
-part-write-more-start c = omega arith
-
-part-write-more-end : tie.Need-part-write-more-end Inv-loop μ-loop
-part-write-more-end c = omega arith
-
-write-more-requires : tie.Need-write-more-requires Inv-loop μ-loop
-write-more-requires c κs = search needs
-
 returns : tie.Need-returns Inv-loop μ-loop
 returns c =
     let l = c .before .before .before .before in
@@ -51,16 +36,5 @@ returns-2 c =
 pub write-all-spec : {M : Type 1} → statement M
 write-all-spec =
     tie.close
-    (tie.spec
-    Inv-loop
-    μ-loop
-    loop-holds
-    sub-write-more
-    part-write-more-start
-    part-write-more-end
-    write-more-requires
-    returns
-    add-n
-    loop-less
-    loop-again
-    returns-2)
+    (tie.spec Inv-loop μ-loop (λ c. omega arith) (λ c. omega arith) (λ c. omega arith) (λ c. omega arith)
+    (λ c κs. search needs) returns add-n loop-less loop-again returns-2)

@@ -16,26 +16,11 @@ abbrev μ-loop : tie.MeasureT-loop
 loop-holds : tie.Need-loop-holds Inv-loop μ-loop
 loop-holds c = puts-none _ _ (omega arith) (omega arith)
 
-shared-slice-read-room : tie.Need-shared-slice-read-room Inv-loop μ-loop
-shared-slice-read-room c = omega arith
-
-add-room : tie.Need-add-room Inv-loop μ-loop
-add-room c = omega arith
-
 slice-write-room : tie.Need-slice-write-room Inv-loop μ-loop
 slice-write-room c = omega (arith, puts-length (c .before .before .loop .inv))
 
-add-i : tie.Need-add-i Inv-loop μ-loop
-add-i c = omega arith
-
-loop-less : tie.Need-loop-less Inv-loop μ-loop
-loop-less c = omega arith
-
 loop-again : tie.Need-loop-again Inv-loop μ-loop
 loop-again c = byte-at _ (c .before .loop-test .taken) (c .before .before .before .pre) (c .before .before .loop .inv)
-
-add-result : tie.Need-add-result Inv-loop μ-loop
-add-result c = omega arith
 
 same-length : tie.Need-same-length Inv-loop μ-loop
 same-length c = puts-length (c .before .loop .inv)
@@ -46,16 +31,5 @@ returns c = puts-whole _ (c .loop-test .left) (c .before .loop .inv)
 pub put-text-spec : {M : Type 1} → statement M
 put-text-spec =
     tie.close
-    (tie.spec
-    Inv-loop
-    μ-loop
-    loop-holds
-    shared-slice-read-room
-    add-room
-    slice-write-room
-    add-i
-    loop-less
-    loop-again
-    add-result
-    same-length
-    returns)
+    (tie.spec Inv-loop μ-loop loop-holds (λ c. omega arith) (λ c. omega arith) slice-write-room (λ c. omega arith)
+    (λ c. omega arith) loop-again (λ c. omega arith) same-length returns)

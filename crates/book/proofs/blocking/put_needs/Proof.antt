@@ -40,9 +40,6 @@ mul-need-by c = omega (arith, inside (c .before))
 element-copy-out-need-by : tie.Need-element-copy-out-need-by Inv-loop μ-loop
 element-copy-out-need-by c = inside (c .before)
 
-need-by-requires : tie.Need-need-by-requires Inv-loop μ-loop
-need-by-requires c κs = search needs
-
 mul-room : tie.Need-mul-room Inv-loop μ-loop
 mul-room c = omega (arith, inside (c .before .before .before))
 
@@ -51,9 +48,6 @@ slice-write-room c = let l = c .before .before .before .before .loop in omega (a
 
 add-i : tie.Need-add-i Inv-loop μ-loop
 add-i c = omega (arith, inside (c .before .before .before))
-
-loop-less : tie.Need-loop-less Inv-loop μ-loop
-loop-less c = omega arith
 
 loop-again : tie.Need-loop-again Inv-loop μ-loop
 loop-again c =
@@ -85,18 +79,5 @@ returns c =
 pub put-needs-spec : {M : Type 1} → statement M
 put-needs-spec =
     tie.close
-    (tie.spec
-    Inv-loop
-    μ-loop
-    loop-holds
-    account-at-requires
-    mul-need-by
-    element-copy-out-need-by
-    need-by-requires
-    mul-room
-    slice-write-room
-    add-i
-    loop-less
-    loop-again
-    same-length
-    returns)
+    (tie.spec Inv-loop μ-loop loop-holds account-at-requires mul-need-by element-copy-out-need-by (λ c κs. search needs)
+    mul-room slice-write-room add-i (λ c. omega arith) loop-again same-length returns)

@@ -23,21 +23,6 @@ good c j = goodMode j (getD (c .args .sort .now) j 0) (getD (c .args .live .now)
 loop-holds : tie.Need-loop-holds Inv-loop μ-loop
 loop-holds c = (omega arith, sym (all-none (good c)))
 
-element-copy-out-ok : tie.Need-element-copy-out-ok Inv-loop μ-loop
-element-copy-out-ok c = omega arith
-
-element-copy-out-ok-2 : tie.Need-element-copy-out-ok-2 Inv-loop μ-loop
-element-copy-out-ok-2 c = omega arith
-
-element-copy-out-ok-3 : tie.Need-element-copy-out-ok-3 Inv-loop μ-loop
-element-copy-out-ok-3 c = omega arith
-
-add-i : tie.Need-add-i Inv-loop μ-loop
-add-i c = omega arith
-
-loop-less : tie.Need-loop-less Inv-loop μ-loop
-loop-less c = omega arith
-
 loop-again : tie.Need-loop-again Inv-loop μ-loop
 loop-again c =
     let at = c .before .before .before .before in
@@ -51,14 +36,5 @@ returns c = c .before .loop .inv .1 ∙ ap (λ (k : ℕ). all k (good (c .before
 pub modes-sound-spec : {M : Type 1} → statement M
 modes-sound-spec =
     tie.close
-    (tie.spec
-    Inv-loop
-    μ-loop
-    loop-holds
-    element-copy-out-ok
-    element-copy-out-ok-2
-    element-copy-out-ok-3
-    add-i
-    loop-less
-    loop-again
-    returns)
+    (tie.spec Inv-loop μ-loop loop-holds (λ c. omega arith) (λ c. omega arith) (λ c. omega arith) (λ c. omega arith)
+    (λ c. omega arith) loop-again returns)

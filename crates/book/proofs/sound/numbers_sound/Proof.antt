@@ -23,9 +23,6 @@ returns : tie.Need-returns Inv-loop μ-loop
 unfolding numbersSound
 returns c = simp (lt-leb (c .before .args .next) 65536 (c .if1 .taken))
 
-array-read-before : tie.Need-array-read-before Inv-loop μ-loop
-array-read-before c = search needs
-
 wide : (c : tie.Start Inv-loop μ-loop) → length (c .args .t1) ≡ 256
 wide c = search needs
 
@@ -34,21 +31,6 @@ good c j = goodNumber (c .args .count) (c .args .next) j (getD (c .args .t1) (j 
 
 loop-holds : tie.Need-loop-holds Inv-loop μ-loop
 loop-holds c = (refl, omega arith, refl, sym (all-none (good (c .before))))
-
-mul-own : tie.Need-mul-own Inv-loop μ-loop
-mul-own c = omega arith
-
-array-read-own : tie.Need-array-read-own Inv-loop μ-loop
-array-read-own c = omega arith
-
-good-number-requires : tie.Need-good-number-requires Inv-loop μ-loop
-good-number-requires c κs = search needs
-
-add-i : tie.Need-add-i Inv-loop μ-loop
-add-i c = omega arith
-
-loop-less : tie.Need-loop-less Inv-loop μ-loop
-loop-less c = omega arith
 
 loop-again : tie.Need-loop-again Inv-loop μ-loop
 loop-again c =
@@ -76,16 +58,5 @@ returns-2 c =
 pub numbers-sound-spec : {M : Type 1} → statement M
 numbers-sound-spec =
     tie.close
-    (tie.spec
-    Inv-loop
-    μ-loop
-    returns
-    array-read-before
-    loop-holds
-    mul-own
-    array-read-own
-    good-number-requires
-    add-i
-    loop-less
-    loop-again
-    returns-2)
+    (tie.spec Inv-loop μ-loop returns (λ c. search needs) loop-holds (λ c. omega arith) (λ c. omega arith)
+    (λ c κs. search needs) (λ c. omega arith) (λ c. omega arith) loop-again returns-2)

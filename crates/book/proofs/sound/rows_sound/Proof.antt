@@ -24,15 +24,6 @@ bookOf c = bookFrom (c .args .count) 0 (marksFrom (c .args .sort .now) (c .args 
 loop-holds : tie.Need-loop-holds Inv-loop μ-loop
 loop-holds c = (refl, omega arith, sym (all-none (rowSound (bookOf c))))
 
-good-row-requires : tie.Need-good-row-requires Inv-loop μ-loop
-good-row-requires c κs = omega arith
-
-add-i : tie.Need-add-i Inv-loop μ-loop
-add-i c = omega arith
-
-loop-less : tie.Need-loop-less Inv-loop μ-loop
-loop-less c = omega arith
-
 loop-again : tie.Need-loop-again Inv-loop μ-loop
 loop-again c =
     let at = c .before .before in
@@ -44,4 +35,4 @@ returns c = c .before .loop .inv .2 ∙ ap (λ (k : ℕ). all k (rowSound (bookO
 pub rows-sound-spec : {M : Type 1} → statement M
 rows-sound-spec =
     tie.close
-    (tie.spec Inv-loop μ-loop loop-holds good-row-requires add-i loop-less loop-again returns)
+    (tie.spec Inv-loop μ-loop loop-holds (λ c κs. omega arith) (λ c. omega arith) (λ c. omega arith) loop-again returns)

@@ -18,24 +18,6 @@ abbrev μ-loop : tie.MeasureT-loop
 loop-holds : tie.Need-loop-holds Inv-loop μ-loop
 loop-holds c = filled-none _ false 256
 
-sort-at-requires : tie.Need-sort-at-requires Inv-loop μ-loop
-sort-at-requires c κs = omega arith
-
-add-list : tie.Need-add-list Inv-loop μ-loop
-add-list c = omega arith
-
-shared-slice-read-list : tie.Need-shared-slice-read-list Inv-loop μ-loop
-shared-slice-read-list c = omega arith
-
-array-write-list : tie.Need-array-write-list Inv-loop μ-loop
-array-write-list c = omega arith
-
-add-i : tie.Need-add-i Inv-loop μ-loop
-add-i c = omega arith
-
-loop-less : tie.Need-loop-less Inv-loop μ-loop
-loop-less c = omega arith
-
 loop-again : tie.Need-loop-again Inv-loop μ-loop
 loop-again c =
     let piece = c .before .before .before .before .before .args .piece .now in
@@ -47,15 +29,5 @@ returns c = filled-all _ false 256 _ _ (c .before .loop .inv) (c .loop-test .lef
 pub yeses-spec : {M : Type 1} → statement M
 yeses-spec =
     tie.close
-    (tie.spec
-    Inv-loop
-    μ-loop
-    loop-holds
-    sort-at-requires
-    add-list
-    shared-slice-read-list
-    array-write-list
-    add-i
-    loop-less
-    loop-again
-    returns)
+    (tie.spec Inv-loop μ-loop loop-holds (λ c κs. omega arith) (λ c. omega arith) (λ c. omega arith) (λ c. omega arith)
+    (λ c. omega arith) (λ c. omega arith) loop-again returns)

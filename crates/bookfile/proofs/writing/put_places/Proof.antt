@@ -23,63 +23,6 @@ loop-holds : tie.Need-loop-holds Inv-loop μ-loop
 unfolding joined
 loop-holds c = (omega arith, c .before .pre, refl)
 
-sort-at-requires : tie.Need-sort-at-requires Inv-loop μ-loop
-sort-at-requires c κs = omega arith
-
-sub-put2 : tie.Need-sub-put2 Inv-loop μ-loop
-sub-put2 c = omega arith
-
-mul-put2 : tie.Need-mul-put2 Inv-loop μ-loop
-mul-put2 c = omega arith
-
-element-copy-out-put2 : tie.Need-element-copy-out-put2 Inv-loop μ-loop
-element-copy-out-put2 c = omega arith
-
-put2-requires : tie.Need-put2-requires Inv-loop μ-loop
-put2-requires c κs = omega arith
-
-element-copy-out-put-marks : tie.Need-element-copy-out-put-marks Inv-loop μ-loop
-element-copy-out-put-marks c = omega arith
-
-element-copy-out-put-marks-2 : tie.Need-element-copy-out-put-marks-2 Inv-loop μ-loop
-element-copy-out-put-marks-2 c = omega arith
-
-mul-put-marks : tie.Need-mul-put-marks Inv-loop μ-loop
-mul-put-marks c = omega arith
-
-element-copy-out-put-marks-3 : tie.Need-element-copy-out-put-marks-3 Inv-loop μ-loop
-element-copy-out-put-marks-3 c = omega arith
-
-put-marks-requires : tie.Need-put-marks-requires Inv-loop μ-loop
-put-marks-requires c κs = omega arith
-
-add-put-amounts : tie.Need-add-put-amounts Inv-loop μ-loop
-add-put-amounts c = omega arith
-
-put-amounts-requires : tie.Need-put-amounts-requires Inv-loop μ-loop
-put-amounts-requires c κs = omega arith
-
-add-put-kept : tie.Need-add-put-kept Inv-loop μ-loop
-add-put-kept c = omega arith
-
-element-copy-out-put-kept : tie.Need-element-copy-out-put-kept Inv-loop μ-loop
-element-copy-out-put-kept c = omega arith
-
-mul-put-kept : tie.Need-mul-put-kept Inv-loop μ-loop
-mul-put-kept c = omega arith
-
-element-copy-out-put-kept-2 : tie.Need-element-copy-out-put-kept-2 Inv-loop μ-loop
-element-copy-out-put-kept-2 c = omega arith
-
-put-kept-requires : tie.Need-put-kept-requires Inv-loop μ-loop
-put-kept-requires c κs = omega arith
-
-add-i : tie.Need-add-i Inv-loop μ-loop
-add-i c = omega arith
-
-loop-less : tie.Need-loop-less Inv-loop μ-loop
-loop-less c = omega arith
-
 loop-again : tie.Need-loop-again Inv-loop μ-loop
 loop-again c =
     let ck = c .before .before in
@@ -109,29 +52,8 @@ returns c =
 pub put-places-spec : {M : Type 1} → statement M
 put-places-spec =
     tie.close
-    (tie.spec
-    Inv-loop
-    μ-loop
-    loop-holds
-    sort-at-requires
-    sub-put2
-    mul-put2
-    element-copy-out-put2
-    put2-requires
-    element-copy-out-put-marks
-    element-copy-out-put-marks-2
-    mul-put-marks
-    element-copy-out-put-marks-3
-    put-marks-requires
-    add-put-amounts
-    put-amounts-requires
-    add-put-kept
-    element-copy-out-put-kept
-    mul-put-kept
-    element-copy-out-put-kept-2
-    put-kept-requires
-    add-i
-    loop-less
-    loop-again
-    same-length
-    returns)
+    (tie.spec Inv-loop μ-loop loop-holds (λ c κs. omega arith) (λ c. omega arith) (λ c. omega arith) (λ c. omega arith)
+    (λ c κs. omega arith) (λ c. omega arith) (λ c. omega arith) (λ c. omega arith) (λ c. omega arith)
+    (λ c κs. omega arith) (λ c. omega arith) (λ c κs. omega arith) (λ c. omega arith) (λ c. omega arith)
+    (λ c. omega arith) (λ c. omega arith) (λ c κs. omega arith) (λ c. omega arith) (λ c. omega arith) loop-again
+    same-length returns)

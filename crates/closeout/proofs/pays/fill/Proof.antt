@@ -67,23 +67,8 @@ low c =
     let t = c .before in
     omega (arith, ap (λ q. q .tm) (row c), checked t .sound .most, inside t, named-low (Bk t) (checked t .sound) (t .before .loop .i) (inside t))
 
-zeros-requires : tie.Need-zeros-requires Inv-loop μ-loop
-zeros-requires c κs = search needs
-
-zeros-requires-2 : tie.Need-zeros-requires-2 Inv-loop μ-loop
-zeros-requires-2 c κs = search needs
-
-row-of-requires : tie.Need-row-of-requires Inv-loop μ-loop
-row-of-requires c κs = omega arith
-
 shared-slice-read-after-own : tie.Need-shared-slice-read-after-own Inv-loop μ-loop
 shared-slice-read-after-own c = let pre = c .before .before .before .before .before .before .pre in omega (arith, pre .each, pre .sound .shaped .some)
-
-element-copy-out-less : tie.Need-element-copy-out-less Inv-loop μ-loop
-element-copy-out-less c = omega arith
-
-less-requires : tie.Need-less-requires Inv-loop μ-loop
-less-requires c κs = search needs
 
 -- the CM's row
 top : (c : tie.After-row-of Inv-loop μ-loop) → c .row-of .result ≡ rowAt (bookOf (c .before .before .before .before .before)) 0
@@ -118,26 +103,14 @@ mul-less c = omega (arith, here-low (c .before))
 element-copy-out-less-2 : tie.Need-element-copy-out-less-2 Inv-loop μ-loop
 element-copy-out-less-2 c = omega (arith, here-low (c .before))
 
-less-requires-2 : tie.Need-less-requires-2 Inv-loop μ-loop
-less-requires-2 c κs = search needs
-
-cast-t : tie.Need-cast-t Inv-loop μ-loop
-cast-t c = omega arith
-
 mul-rounds : tie.Need-mul-rounds Inv-loop μ-loop
 mul-rounds c = omega (arith, here-low (c .before .before .before .before))
 
 shared-slice-read-rounds : tie.Need-shared-slice-read-rounds Inv-loop μ-loop
 shared-slice-read-rounds c = omega (arith, checked (c .before .before .before .before .before) .each)
 
-mul-rounds-2 : tie.Need-mul-rounds-2 Inv-loop μ-loop
-mul-rounds-2 c = omega arith
-
 array-read-rounds : tie.Need-array-read-rounds Inv-loop μ-loop
 array-read-rounds c = omega (arith, low (c .before .before .before .before))
-
-mul-rounds-3 : tie.Need-mul-rounds-3 Inv-loop μ-loop
-mul-rounds-3 c = omega arith
 
 array-read-rounds-2 : tie.Need-array-read-rounds-2 Inv-loop μ-loop
 array-read-rounds-2 c = omega (arith, low (c .before .before .before .before))
@@ -162,17 +135,11 @@ mul-put c = omega (arith, here-low (c .before .before .before .before .before .b
 put-requires : tie.Need-put-requires Inv-loop μ-loop
 put-requires c κs = omega (arith, checked (c .before .before .before .before .before .before .before) .wide, here (c .before .before .before .before .before .before .before) .wide)
 
-mul-left : tie.Need-mul-left Inv-loop μ-loop
-mul-left c = omega arith
-
 array-read-left : tie.Need-array-read-left Inv-loop μ-loop
 array-read-left c = omega (arith, low (c .before .before .before .before .before .before .before .before .before .before .before))
 
 sub-left : tie.Need-sub-left Inv-loop μ-loop
 sub-left c = tm-has _ _ _ _ _ _ _ (c .before .before .before .before .before .before .before .rounds .ensures)
-
-mul-left-2 : tie.Need-mul-left-2 Inv-loop μ-loop
-mul-left-2 c = omega arith
 
 array-write-left : tie.Need-array-write-left Inv-loop μ-loop
 array-write-left c = omega (arith, low (c .before .before .before .before .before .before .before .before .before .before .before .before))
@@ -183,17 +150,11 @@ mul-left-3 c = omega (arith, here-low (c .before .before .before .before .before
 array-write-left-2 : tie.Need-array-write-left-2 Inv-loop μ-loop
 array-write-left-2 c = omega (arith, here-low (c .before .before .before .before .before .before .before .before .before .before .before .before .before))
 
-mul-free : tie.Need-mul-free Inv-loop μ-loop
-mul-free c = omega arith
-
 array-read-free : tie.Need-array-read-free Inv-loop μ-loop
 array-read-free c = omega (arith, low (c .before .before .before .before .before .before .before .before .before .before .before .before))
 
 sub-free : tie.Need-sub-free Inv-loop μ-loop
 sub-free c = tm-has₂ _ _ _ _ _ _ _ (c .before .before .before .before .before .before .before .before .rounds .ensures)
-
-mul-free-2 : tie.Need-mul-free-2 Inv-loop μ-loop
-mul-free-2 c = omega arith
 
 array-write-free : tie.Need-array-write-free Inv-loop μ-loop
 array-write-free c = omega (arith, low (c .before .before .before .before .before .before .before .before .before .before .before .before .before))
@@ -266,50 +227,10 @@ returns c = pass-finish (c .before .loop .inv .0) (omega arith) (c .before .befo
 pub fill-spec : {M : Type 1} → statement M
 fill-spec =
     tie.close
-    (tie.spec
-    Inv-loop
-    μ-loop
-    zeros-requires
-    zeros-requires-2
-    row-of-requires
-    shared-slice-read-after-own
-    element-copy-out-less
-    less-requires
-    after-own-requires
-    loop-holds
-    row-of-requires-2
-    mul-less
-    element-copy-out-less-2
-    less-requires-2
-    cast-t
-    mul-rounds
-    shared-slice-read-rounds
-    mul-rounds-2
-    array-read-rounds
-    mul-rounds-3
-    array-read-rounds-2
-    rounds-requires
-    mul-put
-    put-requires
-    mul-left
-    array-read-left
-    sub-left
-    mul-left-2
-    array-write-left
-    mul-left-3
-    array-write-left-2
-    mul-free
-    array-read-free
-    sub-free
-    mul-free-2
-    array-write-free
-    mul-free-3
-    array-write-free-2
-    sub-cm
-    sub-cm-free
-    add-uncovered
-    add-i
-    loop-less
-    loop-again
-    same-length
-    returns)
+    (tie.spec Inv-loop μ-loop (λ c κs. search needs) (λ c κs. search needs) (λ c κs. omega arith)
+    shared-slice-read-after-own (λ c. omega arith) (λ c κs. search needs) after-own-requires loop-holds
+    row-of-requires-2 mul-less element-copy-out-less-2 (λ c κs. search needs) (λ c. omega arith) mul-rounds
+    shared-slice-read-rounds (λ c. omega arith) array-read-rounds (λ c. omega arith) array-read-rounds-2 rounds-requires
+    mul-put put-requires (λ c. omega arith) array-read-left sub-left (λ c. omega arith) array-write-left mul-left-3
+    array-write-left-2 (λ c. omega arith) array-read-free sub-free (λ c. omega arith) array-write-free mul-free-3
+    array-write-free-2 sub-cm sub-cm-free add-uncovered add-i loop-less loop-again same-length returns)

@@ -23,9 +23,6 @@ within c =
     let most = count-within (length (c .before .before .before .before .args .bytes .now)) in
     (omega (arith, l .inv .0, most), omega (arith, l .inv .0, most))
 
-count-of-requires : tie.Need-count-of-requires Inv-loop μ-loop
-count-of-requires c κs = search needs
-
 loop-holds : tie.Need-loop-holds Inv-loop μ-loop
 loop-holds c = (c .count-of .ensures, omega arith, length-replicate {A = ℕ} 256 0, λ j l. absurd (omega arith))
 
@@ -43,9 +40,6 @@ array-write-list c = omega (arith, within (c .before))
 
 add-i : tie.Need-add-i Inv-loop μ-loop
 add-i c = omega (arith, within (c .before))
-
-loop-less : tie.Need-loop-less Inv-loop μ-loop
-loop-less c = omega arith
 
 loop-again : tie.Need-loop-again Inv-loop μ-loop
 loop-again c =
@@ -65,16 +59,5 @@ returns c =
 pub list-spec : {M : Type 1} → statement M
 list-spec =
     tie.close
-    (tie.spec
-    Inv-loop
-    μ-loop
-    count-of-requires
-    loop-holds
-    mul-number8
-    number8-requires
-    mul-list
-    array-write-list
-    add-i
-    loop-less
-    loop-again
-    returns)
+    (tie.spec Inv-loop μ-loop (λ c κs. search needs) loop-holds mul-number8 number8-requires mul-list array-write-list
+    add-i (λ c. omega arith) loop-again returns)

@@ -42,12 +42,6 @@ element-copy-out-some-2 c = omega (arith, (c .before .before .before .before .be
 element-copy-out-some-3 : tie.Need-element-copy-out-some-3 Inv-loop μ-loop
 element-copy-out-some-3 c = omega (arith, (c .before .before .before .before .before .before .pre))
 
-add-i : tie.Need-add-i Inv-loop μ-loop
-add-i c = omega arith
-
-loop-less : tie.Need-loop-less Inv-loop μ-loop
-loop-less c = omega arith
-
 loop-again : tie.Need-loop-again Inv-loop μ-loop
 loop-again c =
     let s = (c .before .before .before .before .before .before .before .args) in
@@ -65,17 +59,5 @@ returns-2 c =
 pub has-live-client-spec : {M : Type 1} → statement M
 has-live-client-spec =
     tie.close
-    (tie.spec
-    Inv-loop
-    μ-loop
-    element-copy-out-its
-    returns
-    loop-holds
-    element-copy-out-some
-    mul-some
-    element-copy-out-some-2
-    element-copy-out-some-3
-    add-i
-    loop-less
-    loop-again
-    returns-2)
+    (tie.spec Inv-loop μ-loop element-copy-out-its returns loop-holds element-copy-out-some mul-some
+    element-copy-out-some-2 element-copy-out-some-3 (λ c. omega arith) (λ c. omega arith) loop-again returns-2)

@@ -24,12 +24,6 @@ abbrev μ-loop : tie.MeasureT-loop
 loop-holds : tie.Need-loop-holds Inv-loop μ-loop
 loop-holds c = (search needs, omega arith, omega arith, c .pre .1, omega arith)
 
-mul-charge : tie.Need-mul-charge Inv-loop μ-loop
-mul-charge c = omega arith
-
-array-copy-out-charge : tie.Need-array-copy-out-charge Inv-loop μ-loop
-array-copy-out-charge c = omega arith
-
 charge-requires : tie.Need-charge-requires Inv-loop μ-loop
 charge-requires c κs =
     let at = c .before .before in
@@ -42,12 +36,6 @@ add-sum c =
     let a = at .before .args in
     let s = charge-step (a .t1) (a .number) (at .loop .i) _ (omega arith) (c .charge .result) (c .charge .ensures) (omega arith) (at .loop .inv .3) in
     record { fits = omega (arith, s .0) }
-
-add-i : tie.Need-add-i Inv-loop μ-loop
-add-i c = omega arith
-
-loop-less : tie.Need-loop-less Inv-loop μ-loop
-loop-less c = omega arith
 
 loop-again : tie.Need-loop-again Inv-loop μ-loop
 loop-again c =
@@ -65,15 +53,5 @@ returns c =
 pub charged-spec : {M : Type 1} → statement M
 charged-spec =
     tie.close
-    (tie.spec
-    Inv-loop
-    μ-loop
-    loop-holds
-    mul-charge
-    array-copy-out-charge
-    charge-requires
-    add-sum
-    add-i
-    loop-less
-    loop-again
-    returns)
+    (tie.spec Inv-loop μ-loop loop-holds (λ c. omega arith) (λ c. omega arith) charge-requires add-sum
+    (λ c. omega arith) (λ c. omega arith) loop-again returns)

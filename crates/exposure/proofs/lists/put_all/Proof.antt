@@ -27,36 +27,6 @@ client-requires c κs =
     let a = at .before .before .args in
     client-within (a .form) (at .loop .i) (length (now (a .figures))) (omega (arith, at .loop .inv .0))
 
-cast-room : tie.Need-cast-room Inv-loop μ-loop
-cast-room c = search needs
-
-mul-room : tie.Need-mul-room Inv-loop μ-loop
-mul-room c = omega arith
-
-mul-room-2 : tie.Need-mul-room-2 Inv-loop μ-loop
-mul-room-2 c = omega arith
-
-slice-write-room : tie.Need-slice-write-room Inv-loop μ-loop
-slice-write-room c = omega arith
-
-mul-room-3 : tie.Need-mul-room-3 Inv-loop μ-loop
-mul-room-3 c = omega arith
-
-add-room : tie.Need-add-room Inv-loop μ-loop
-add-room c = omega arith
-
-mul-room-4 : tie.Need-mul-room-4 Inv-loop μ-loop
-mul-room-4 c = omega arith
-
-slice-write-room-2 : tie.Need-slice-write-room-2 Inv-loop μ-loop
-slice-write-room-2 c = simp length-set (omega arith)
-
-add-i : tie.Need-add-i Inv-loop μ-loop
-add-i c = omega arith
-
-loop-less : tie.Need-loop-less Inv-loop μ-loop
-loop-less c = omega arith
-
 loop-again : tie.Need-loop-again Inv-loop μ-loop
 loop-again c =
     let d = c .before in
@@ -70,9 +40,6 @@ loop-again c =
           (ap (λ e. e .refusal) (d .client .ensures)) (ap (λ e. e .amount) (d .client .ensures)),
     )
 
-same-length : tie.Need-same-length Inv-loop μ-loop
-same-length c = omega arith
-
 returns : tie.Need-returns Inv-loop μ-loop
 returns c =
     let at = c .before in
@@ -82,21 +49,6 @@ returns c =
 pub put-all-spec : {M : Type 1} → statement M
 put-all-spec =
     tie.close
-    (tie.spec
-    Inv-loop
-    μ-loop
-    loop-holds
-    client-requires
-    cast-room
-    mul-room
-    mul-room-2
-    slice-write-room
-    mul-room-3
-    add-room
-    mul-room-4
-    slice-write-room-2
-    add-i
-    loop-less
-    loop-again
-    same-length
-    returns)
+    (tie.spec Inv-loop μ-loop loop-holds client-requires (λ c. search needs) (λ c. omega arith) (λ c. omega arith)
+    (λ c. omega arith) (λ c. omega arith) (λ c. omega arith) (λ c. omega arith) (λ c. simp length-set (omega arith))
+    (λ c. omega arith) (λ c. omega arith) loop-again (λ c. omega arith) returns)

@@ -12,26 +12,8 @@ Inv-loop space₀ from to n i₀ space i = (i ≤ n) × Moved space₀ from i sp
 abbrev μ-loop : tie.MeasureT-loop
 μ-loop space₀ from to n i₀ space i = n - i
 
-sub-n : tie.Need-sub-n Inv-loop μ-loop
-sub-n c = omega arith
-
 loop-holds : tie.Need-loop-holds Inv-loop μ-loop
 loop-holds c = (omega arith, none-moved _ _)
-
-add-space : tie.Need-add-space Inv-loop μ-loop
-add-space c = omega arith
-
-slice-read-space : tie.Need-slice-read-space Inv-loop μ-loop
-slice-read-space c = omega arith
-
-slice-write-space : tie.Need-slice-write-space Inv-loop μ-loop
-slice-write-space c = omega arith
-
-add-i : tie.Need-add-i Inv-loop μ-loop
-add-i c = omega arith
-
-loop-less : tie.Need-loop-less Inv-loop μ-loop
-loop-less c = omega arith
 
 loop-again : tie.Need-loop-again Inv-loop μ-loop
 loop-again c = (omega arith, one-moved _ _ _ _ (omega arith) (c .before .before .loop .inv .1))
@@ -47,16 +29,5 @@ returns c =
 pub to-front-spec : {M : Type 1} → statement M
 to-front-spec =
     tie.close
-    (tie.spec
-    Inv-loop
-    μ-loop
-    sub-n
-    loop-holds
-    add-space
-    slice-read-space
-    slice-write-space
-    add-i
-    loop-less
-    loop-again
-    same-length
-    returns)
+    (tie.spec Inv-loop μ-loop (λ c. omega arith) loop-holds (λ c. omega arith) (λ c. omega arith) (λ c. omega arith)
+    (λ c. omega arith) (λ c. omega arith) loop-again same-length returns)

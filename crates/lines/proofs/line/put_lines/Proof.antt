@@ -16,59 +16,8 @@ abbrev μ-loop : tie.MeasureT-loop
 loop-holds : tie.Need-loop-holds Inv-loop μ-loop
 loop-holds c = (lines-start _ _, omega arith)
 
-mul-k : tie.Need-mul-k Inv-loop μ-loop
-mul-k c = omega arith
-
-mul-put-line : tie.Need-mul-put-line Inv-loop μ-loop
-mul-put-line c = omega arith
-
-shared-slice-read-put-line : tie.Need-shared-slice-read-put-line Inv-loop μ-loop
-shared-slice-read-put-line c = omega arith
-
-add-put-line : tie.Need-add-put-line Inv-loop μ-loop
-add-put-line c = omega arith
-
-mul-put-line-2 : tie.Need-mul-put-line-2 Inv-loop μ-loop
-mul-put-line-2 c = omega arith
-
-shared-slice-read-put-line-2 : tie.Need-shared-slice-read-put-line-2 Inv-loop μ-loop
-shared-slice-read-put-line-2 c = omega arith
-
-add-put-line-2 : tie.Need-add-put-line-2 Inv-loop μ-loop
-add-put-line-2 c = omega arith
-
-mul-put-line-3 : tie.Need-mul-put-line-3 Inv-loop μ-loop
-mul-put-line-3 c = omega arith
-
-shared-slice-read-put-line-3 : tie.Need-shared-slice-read-put-line-3 Inv-loop μ-loop
-shared-slice-read-put-line-3 c = omega arith
-
-add-put-line-3 : tie.Need-add-put-line-3 Inv-loop μ-loop
-add-put-line-3 c = omega arith
-
-mul-put-line-4 : tie.Need-mul-put-line-4 Inv-loop μ-loop
-mul-put-line-4 c = omega arith
-
-shared-slice-read-put-line-4 : tie.Need-shared-slice-read-put-line-4 Inv-loop μ-loop
-shared-slice-read-put-line-4 c = omega arith
-
-add-put-line-4 : tie.Need-add-put-line-4 Inv-loop μ-loop
-add-put-line-4 c = omega arith
-
-mul-put-line-5 : tie.Need-mul-put-line-5 Inv-loop μ-loop
-mul-put-line-5 c = omega arith
-
-shared-slice-read-put-line-5 : tie.Need-shared-slice-read-put-line-5 Inv-loop μ-loop
-shared-slice-read-put-line-5 c = omega arith
-
 put-line-requires : tie.Need-put-line-requires Inv-loop μ-loop
 put-line-requires c κs = omega (arith, puts-length (c .before .before .before .before .before .before .before .loop .inv .0 .puts))
-
-add-i : tie.Need-add-i Inv-loop μ-loop
-add-i c = omega arith
-
-loop-less : tie.Need-loop-less Inv-loop μ-loop
-loop-less c = omega arith
 
 loop-again : tie.Need-loop-again Inv-loop μ-loop
 loop-again c = (line-more (λ (k : ℕ). omega (arith, c .before .before .before .shared-slice-known6 .given k)) (c .before .before .before .before .before .before .before .before .before .before .loop .inv .0) (c .before .before .put-line .ensures), omega arith)
@@ -82,28 +31,7 @@ returns c = let e : c .before .loop .i ≡ c .before .before .before .before .ar
 pub put-lines-spec : {M : Type 1} → statement M
 put-lines-spec =
     tie.close
-    (tie.spec
-    Inv-loop
-    μ-loop
-    loop-holds
-    mul-k
-    mul-put-line
-    shared-slice-read-put-line
-    add-put-line
-    mul-put-line-2
-    shared-slice-read-put-line-2
-    add-put-line-2
-    mul-put-line-3
-    shared-slice-read-put-line-3
-    add-put-line-3
-    mul-put-line-4
-    shared-slice-read-put-line-4
-    add-put-line-4
-    mul-put-line-5
-    shared-slice-read-put-line-5
-    put-line-requires
-    add-i
-    loop-less
-    loop-again
-    same-length
-    returns)
+    (tie.spec Inv-loop μ-loop loop-holds (λ c. omega arith) (λ c. omega arith) (λ c. omega arith) (λ c. omega arith)
+    (λ c. omega arith) (λ c. omega arith) (λ c. omega arith) (λ c. omega arith) (λ c. omega arith) (λ c. omega arith)
+    (λ c. omega arith) (λ c. omega arith) (λ c. omega arith) (λ c. omega arith) (λ c. omega arith) put-line-requires
+    (λ c. omega arith) (λ c. omega arith) loop-again same-length returns)

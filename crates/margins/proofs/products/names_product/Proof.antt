@@ -26,9 +26,6 @@ shared-slice-read-is-capital-or-digit :
     tie.Need-shared-slice-read-is-capital-or-digit Inv-loop μ-loop
 shared-slice-read-is-capital-or-digit c = search needs
 
-is-capital-or-digit-requires : tie.Need-is-capital-or-digit-requires Inv-loop μ-loop
-is-capital-or-digit-requires c κs = search needs
-
 returns : tie.Need-returns Inv-loop μ-loop
 unfolding namesProduct
 returns c =
@@ -36,12 +33,6 @@ returns c =
     let word = now (at .before .before .args .word) in
     let none = another-byte word (at .loop .i) (omega arith) (sym (c .before .is-capital-or-digit .ensures) ∙ not-true _ (c .if1 .taken)) in
     sym (ap (λ t. t && ltb 0 (length word)) (at .loop .inv .1 ∙ none))
-
-add-i : tie.Need-add-i Inv-loop μ-loop
-add-i c = search needs
-
-loop-less : tie.Need-loop-less Inv-loop μ-loop
-loop-less c = search needs
 
 loop-again : tie.Need-loop-again Inv-loop μ-loop
 loop-again c =
@@ -59,14 +50,5 @@ returns-2 c =
 pub names-product-spec : {M : Type 1} → statement M
 names-product-spec =
     tie.close
-    (tie.spec
-    Inv-loop
-    μ-loop
-    loop-holds
-    shared-slice-read-is-capital-or-digit
-    is-capital-or-digit-requires
-    returns
-    add-i
-    loop-less
-    loop-again
-    returns-2)
+    (tie.spec Inv-loop μ-loop loop-holds shared-slice-read-is-capital-or-digit (λ c κs. search needs) returns
+    (λ c. search needs) (λ c. search needs) loop-again returns-2)

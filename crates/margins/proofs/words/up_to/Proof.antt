@@ -16,23 +16,11 @@ Inv-loop text mark i₀ i = (i ≤ length text) × (inFront mark text ≡ i + in
 abbrev μ-loop : tie.MeasureT-loop
 μ-loop text mark i₀ i = length text - i
 
-loop-holds : tie.Need-loop-holds Inv-loop μ-loop
-loop-holds c = omega arith
-
-shared-slice-read-if1 : tie.Need-shared-slice-read-if1 Inv-loop μ-loop
-shared-slice-read-if1 c = search needs
-
 returns : tie.Need-returns Inv-loop μ-loop
 returns c =
     let at = c .before .before .before in
     let a = at .before .args in
     (omega (arith, at .loop .inv .1, mark-here (a .mark) (now (a .text)) (at .loop .i) (omega arith) (c .if1 .taken)), omega arith)
-
-add-i : tie.Need-add-i Inv-loop μ-loop
-add-i c = search needs
-
-loop-less : tie.Need-loop-less Inv-loop μ-loop
-loop-less c = search needs
 
 loop-again : tie.Need-loop-again Inv-loop μ-loop
 loop-again c =
@@ -49,13 +37,5 @@ returns-2 c =
 pub up-to-spec : {M : Type 1} → statement M
 up-to-spec =
     tie.close
-    (tie.spec
-    Inv-loop
-    μ-loop
-    loop-holds
-    shared-slice-read-if1
-    returns
-    add-i
-    loop-less
-    loop-again
-    returns-2)
+    (tie.spec Inv-loop μ-loop (λ c. omega arith) (λ c. search needs) returns (λ c. search needs) (λ c. search needs)
+    loop-again returns-2)

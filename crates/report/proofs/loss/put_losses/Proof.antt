@@ -20,62 +20,8 @@ loop-holds : tie.Need-loop-holds Inv-loop μ-loop
 unfolding lossLines
 loop-holds c = (puts-none _ _ (omega arith) (omega arith), omega arith, omega arith)
 
-number-at-requires : tie.Need-number-at-requires Inv-loop μ-loop
-number-at-requires c κs = omega arith
-
-mul-k : tie.Need-mul-k Inv-loop μ-loop
-mul-k c = omega arith
-
-cast-put-six : tie.Need-cast-put-six Inv-loop μ-loop
-cast-put-six c = search needs
-
-mul-put-six : tie.Need-mul-put-six Inv-loop μ-loop
-mul-put-six c = omega arith
-
-shared-slice-read-put-six : tie.Need-shared-slice-read-put-six Inv-loop μ-loop
-shared-slice-read-put-six c = omega arith
-
-mul-put-six-2 : tie.Need-mul-put-six-2 Inv-loop μ-loop
-mul-put-six-2 c = omega arith
-
-shared-slice-read-put-six-2 : tie.Need-shared-slice-read-put-six-2 Inv-loop μ-loop
-shared-slice-read-put-six-2 c = omega arith
-
-add-put-six : tie.Need-add-put-six Inv-loop μ-loop
-add-put-six c = omega arith
-
-mul-put-six-3 : tie.Need-mul-put-six-3 Inv-loop μ-loop
-mul-put-six-3 c = omega arith
-
-shared-slice-read-put-six-3 : tie.Need-shared-slice-read-put-six-3 Inv-loop μ-loop
-shared-slice-read-put-six-3 c = omega arith
-
-add-put-six-2 : tie.Need-add-put-six-2 Inv-loop μ-loop
-add-put-six-2 c = omega arith
-
-mul-put-six-4 : tie.Need-mul-put-six-4 Inv-loop μ-loop
-mul-put-six-4 c = omega arith
-
-shared-slice-read-put-six-4 : tie.Need-shared-slice-read-put-six-4 Inv-loop μ-loop
-shared-slice-read-put-six-4 c = omega arith
-
-add-put-six-3 : tie.Need-add-put-six-3 Inv-loop μ-loop
-add-put-six-3 c = omega arith
-
-mul-put-six-5 : tie.Need-mul-put-six-5 Inv-loop μ-loop
-mul-put-six-5 c = omega arith
-
-shared-slice-read-put-six-5 : tie.Need-shared-slice-read-put-six-5 Inv-loop μ-loop
-shared-slice-read-put-six-5 c = omega arith
-
 put-six-requires : tie.Need-put-six-requires Inv-loop μ-loop
 put-six-requires c κs = omega (arith, puts-length (c .before .before .before .before .before .before .before .before .loop .inv .0))
-
-add-i : tie.Need-add-i Inv-loop μ-loop
-add-i c = omega arith
-
-loop-less : tie.Need-loop-less Inv-loop μ-loop
-loop-less c = omega arith
 
 loop-again : tie.Need-loop-again Inv-loop μ-loop
 unfolding lossLines lossLine
@@ -94,29 +40,7 @@ returns c = let e : c .before .loop .i ≡ c .before .before .before .before .be
 pub put-losses-spec : {M : Type 1} → statement M
 put-losses-spec =
     tie.close
-    (tie.spec
-    Inv-loop
-    μ-loop
-    loop-holds
-    number-at-requires
-    mul-k
-    cast-put-six
-    mul-put-six
-    shared-slice-read-put-six
-    mul-put-six-2
-    shared-slice-read-put-six-2
-    add-put-six
-    mul-put-six-3
-    shared-slice-read-put-six-3
-    add-put-six-2
-    mul-put-six-4
-    shared-slice-read-put-six-4
-    add-put-six-3
-    mul-put-six-5
-    shared-slice-read-put-six-5
-    put-six-requires
-    add-i
-    loop-less
-    loop-again
-    same-length
-    returns)
+    (tie.spec Inv-loop μ-loop loop-holds (λ c κs. omega arith) (λ c. omega arith) (λ c. search needs) (λ c. omega arith)
+    (λ c. omega arith) (λ c. omega arith) (λ c. omega arith) (λ c. omega arith) (λ c. omega arith) (λ c. omega arith)
+    (λ c. omega arith) (λ c. omega arith) (λ c. omega arith) (λ c. omega arith) (λ c. omega arith) (λ c. omega arith)
+    put-six-requires (λ c. omega arith) (λ c. omega arith) loop-again same-length returns)

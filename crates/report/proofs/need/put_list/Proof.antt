@@ -31,29 +31,8 @@ loop-holds : tie.Need-loop-holds Inv-loop μ-loop
 unfolding needLines
 loop-holds c = (puts-none _ _ (omega arith) (omega arith), omega arith, omega arith)
 
-number-at-requires : tie.Need-number-at-requires Inv-loop μ-loop
-number-at-requires c κs = omega arith
-
-mul-need : tie.Need-mul-need Inv-loop μ-loop
-mul-need c = omega arith
-
-shared-slice-read-need : tie.Need-shared-slice-read-need Inv-loop μ-loop
-shared-slice-read-need c = omega arith
-
-cast-t12 : tie.Need-cast-t12 Inv-loop μ-loop
-cast-t12 c = search needs
-
-slice-aggregate-put-spaced : tie.Need-slice-aggregate-put-spaced Inv-loop μ-loop
-slice-aggregate-put-spaced c = search needs
-
 put-spaced-requires : tie.Need-put-spaced-requires Inv-loop μ-loop
 put-spaced-requires c κs = omega (arith, puts-length (round (named c) .loop .inv .0))
-
-add-i : tie.Need-add-i Inv-loop μ-loop
-add-i c = omega arith
-
-loop-less : tie.Need-loop-less Inv-loop μ-loop
-loop-less c = omega arith
 
 loop-again : tie.Need-loop-again Inv-loop μ-loop
 unfolding needLines
@@ -75,18 +54,5 @@ returns c =
 pub put-list-spec : {M : Type 1} → statement M
 put-list-spec =
     tie.close
-    (tie.spec
-    Inv-loop
-    μ-loop
-    loop-holds
-    number-at-requires
-    mul-need
-    shared-slice-read-need
-    cast-t12
-    slice-aggregate-put-spaced
-    put-spaced-requires
-    add-i
-    loop-less
-    loop-again
-    same-length
-    returns)
+    (tie.spec Inv-loop μ-loop loop-holds (λ c κs. omega arith) (λ c. omega arith) (λ c. omega arith) (λ c. search needs)
+    (λ c. search needs) put-spaced-requires (λ c. omega arith) (λ c. omega arith) loop-again same-length returns)

@@ -33,18 +33,6 @@ loop-holds : tie.Need-loop-holds Inv-loop μ-loop
 unfolding standingLines
 loop-holds c = (puts-none _ _ (omega arith) (omega arith), omega arith, omega arith)
 
-number-at-requires : tie.Need-number-at-requires Inv-loop μ-loop
-number-at-requires c κs = omega arith
-
-standing-requires : tie.Need-standing-requires Inv-loop μ-loop
-standing-requires c κs = search needs
-
-row-of-requires : tie.Need-row-of-requires Inv-loop μ-loop
-row-of-requires c κs = omega arith
-
-tm-number-requires : tie.Need-tm-number-requires Inv-loop μ-loop
-tm-number-requires c κs = search needs
-
 put-standing-requires : tie.Need-put-standing-requires Inv-loop μ-loop
 put-standing-requires c κs =
     let n = c .before .before .before .before .before .before .before .before .before .before in
@@ -54,9 +42,6 @@ add-i : tie.Need-add-i Inv-loop μ-loop
 add-i c =
     let n = c .before .before .before .before .before .before .before .before .before .before .before .before .before in
     omega (arith, n .before .before .before .loop-test .taken, n .before .before .before .before .before .before .pre)
-
-loop-less : tie.Need-loop-less Inv-loop μ-loop
-loop-less c = omega arith
 
 loop-again : tie.Need-loop-again Inv-loop μ-loop
 unfolding standingLines
@@ -79,17 +64,5 @@ returns c = let e : c .before .loop .i ≡ c .before .before .before .args .n = 
 pub put-standings-spec : {M : Type 1} → statement M
 put-standings-spec =
     tie.close
-    (tie.spec
-    Inv-loop
-    μ-loop
-    loop-holds
-    number-at-requires
-    standing-requires
-    row-of-requires
-    tm-number-requires
-    put-standing-requires
-    add-i
-    loop-less
-    loop-again
-    same-length
-    returns)
+    (tie.spec Inv-loop μ-loop loop-holds (λ c κs. omega arith) (λ c κs. search needs) (λ c κs. omega arith)
+    (λ c κs. search needs) put-standing-requires add-i (λ c. omega arith) loop-again same-length returns)

@@ -49,9 +49,6 @@ loop-holds c =
     let b = heldBook (a .count) (now (a .sort)) (now (a .live)) (now (a .tms)) (now (a .w)) (now (a .numbers)) in
     (refl, omega arith, omega arith, ap (λ n. findingFrom b 0 (clientsFrom b (a .tm) n 0) (now (a .statement))) (sym (sub-zero (a .count))))
 
-is-live-client-requires : tie.Need-is-live-client-requires Inv-loop μ-loop
-is-live-client-requires c κs = search needs
-
 -- the test made is the definition's
 asked : (c : tie.After-is-live-client Inv-loop μ-loop) →
     let l = c .before .before in
@@ -61,12 +58,6 @@ asked c =
     let a = start l .args in
     c .is-live-client .ensures
     ∙ client-in (a .count) (now (a .sort)) (now (a .live)) (now (a .tms)) (now (a .w)) (now (a .numbers)) (start l .pre) (l .loop .i) (omega arith) (a .tm)
-
-mul-wanted : tie.Need-mul-wanted Inv-loop μ-loop
-mul-wanted c = search needs
-
-element-copy-out-wanted : tie.Need-element-copy-out-wanted Inv-loop μ-loop
-element-copy-out-wanted c = search needs
 
 client-fault-requires : tie.Need-client-fault-requires Inv-loop μ-loop
 client-fault-requires c κs =
@@ -105,9 +96,6 @@ next c =
     ∙ ap (λ is. findingFrom (book l) (l .loop .index) is (drop (l .loop .at) (bytes l)))
     (client-here (book l) (a .tm) (a .count) (l .loop .i) (omega arith) (sym (asked (c .before)) ∙ c .if1 .taken))
 
-found-requires : tie.Need-found-requires Inv-loop μ-loop
-found-requires c κs = search needs
-
 returns : tie.Need-returns Inv-loop μ-loop
 returns c =
     let k = c .before .before in
@@ -129,15 +117,6 @@ size-at-requires c κs = omega (arith, within (c .before) (c .if2 .left))
 add-at : tie.Need-add-at Inv-loop μ-loop
 add-at c =
     omega (arith, start (turn (c .before .before)) .good .1 .1 .1 .1 .1 .1 .1, within (c .before .before) (c .before .if2 .left), c .size-at .ensures)
-
-add-index : tie.Need-add-index Inv-loop μ-loop
-add-index c = search needs
-
-add-i : tie.Need-add-i Inv-loop μ-loop
-add-i c = search needs
-
-loop-less : tie.Need-loop-less Inv-loop μ-loop
-loop-less c = search needs
 
 loop-again : tie.Need-loop-again Inv-loop μ-loop
 loop-again c =
@@ -180,12 +159,6 @@ last c =
     sym (l .loop .inv .3
     ∙ ap (λ is. findingFrom (book l) (l .loop .index) is (drop (l .loop .at) (bytes l))) (client-end (book l) (a .tm) (a .count) (l .loop .i) (omega arith)))
 
-surplus-fault-requires : tie.Need-surplus-fault-requires Inv-loop μ-loop
-surplus-fault-requires c κs = search needs
-
-found-requires-2 : tie.Need-found-requires-2 Inv-loop μ-loop
-found-requires-2 c κs = search needs
-
 returns-2 : tie.Need-returns-2 Inv-loop μ-loop
 returns-2 c =
     let k = c .before in
@@ -193,9 +166,6 @@ returns-2 c =
     c .found2 .ensures
     ∙ turn-surplus (book l) (l .loop .index) (bytes l) (l .loop .at) (k .before .if3 .taken) _ (k .surplus-fault .ensures)
     ∙ last (k .before .before)
-
-found-requires-3 : tie.Need-found-requires-3 Inv-loop μ-loop
-found-requires-3 c κs = search needs
 
 returns-3 : tie.Need-returns-3 Inv-loop μ-loop
 returns-3 c =
@@ -205,24 +175,7 @@ returns-3 c =
 pub records-finding-spec : {M : Type 1} → statement M
 records-finding-spec =
     tie.close
-    (tie.spec
-    Inv-loop
-    μ-loop
-    loop-holds
-    is-live-client-requires
-    mul-wanted
-    element-copy-out-wanted
-    client-fault-requires
-    found-requires
-    returns
-    size-at-requires
-    add-at
-    add-index
-    add-i
-    loop-less
-    loop-again
-    surplus-fault-requires
-    found-requires-2
-    returns-2
-    found-requires-3
+    (tie.spec Inv-loop μ-loop loop-holds (λ c κs. search needs) (λ c. search needs) (λ c. search needs)
+    client-fault-requires (λ c κs. search needs) returns size-at-requires add-at (λ c. search needs) (λ c. search needs)
+    (λ c. search needs) loop-again (λ c κs. search needs) (λ c κs. search needs) returns-2 (λ c κs. search needs)
     returns-3)

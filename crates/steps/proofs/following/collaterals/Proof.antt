@@ -20,18 +20,6 @@ loop-holds c = (omega arith, refl, λ j l. absurd (omega arith))
 collateral-at-requires : tie.Need-collateral-at-requires Inv-loop μ-loop
 collateral-at-requires c κs = c .before .before .pre (c .before .loop .i) (omega arith)
 
-mul-kept : tie.Need-mul-kept Inv-loop μ-loop
-mul-kept c = omega arith
-
-array-write-kept : tie.Need-array-write-kept Inv-loop μ-loop
-array-write-kept c = omega arith
-
-add-i : tie.Need-add-i Inv-loop μ-loop
-add-i c = omega arith
-
-loop-less : tie.Need-loop-less Inv-loop μ-loop
-loop-less c = omega arith
-
 loop-again : tie.Need-loop-again Inv-loop μ-loop
 loop-again c =
     let l = c .before .before .loop in
@@ -44,4 +32,5 @@ returns c = let v = c .before .loop .inv in record { size = v .1; each = λ j l.
 pub collaterals-spec : {M : Type 1} → statement M
 collaterals-spec =
     tie.close
-    (tie.spec Inv-loop μ-loop loop-holds collateral-at-requires mul-kept array-write-kept add-i loop-less loop-again returns)
+    (tie.spec Inv-loop μ-loop loop-holds collateral-at-requires (λ c. omega arith) (λ c. omega arith) (λ c. omega arith)
+    (λ c. omega arith) loop-again returns)

@@ -19,9 +19,6 @@ Inv-loop name₀ made₀ name made = (made .tries < 100) × (name ≡ nameOf (ma
 abbrev μ-loop : tie.MeasureT-loop
 μ-loop name₀ made₀ name made = 100 - made .tries
 
-create-try-requires : tie.Need-create-try-requires Inv-loop μ-loop
-create-try-requires c κs = search needs
-
 -- the name at a turn
 named : (c : tie.At-loop Inv-loop μ-loop) → (let t = c .before .before .before in
     c .loop .name ≡ nameOf (c .loop .made .tries) (t .before .before .before .args .name .now))
@@ -41,19 +38,10 @@ loop-holds c =
     let e = t .ensures .1 in
     (omega (arith, t .ensures .0), first-name _ (t .ensures .0) (omega arith) e, omega (arith, same-size _ 0 (omega arith) e))
 
-is-taken-requires : tie.Need-is-taken-requires Inv-loop μ-loop
-is-taken-requires c κs = search needs
-
-add-create-try : tie.Need-add-create-try Inv-loop μ-loop
-add-create-try c = search needs
-
 create-try-requires-2 : tie.Need-create-try-requires-2 Inv-loop μ-loop
 create-try-requires-2 c κs =
     let v = c .before .before .before .before .before .before .before .before .loop in
     (omega (arith, same-size _ _ (omega arith) (v .inv .1)), omega arith)
-
-loop-less : tie.Need-loop-less Inv-loop μ-loop
-loop-less c = search needs
 
 loop-again : tie.Need-loop-again Inv-loop μ-loop
 loop-again c =
@@ -82,17 +70,5 @@ returns-2 c =
 pub create-beside-spec : {M : Type 1} → statement M
 create-beside-spec =
     tie.close
-    (tie.spec
-    Inv-loop
-    μ-loop
-    create-try-requires
-    loop-holds
-    is-taken-requires
-    add-create-try
-    create-try-requires-2
-    loop-less
-    loop-again
-    same-length
-    returns
-    same-length-2
-    returns-2)
+    (tie.spec Inv-loop μ-loop (λ c κs. search needs) loop-holds (λ c κs. search needs) (λ c. search needs)
+    create-try-requires-2 (λ c. search needs) loop-again same-length returns same-length-2 returns-2)

@@ -15,21 +15,9 @@ Inv-loop w k n run total₀ i₀ total i = (run ≡ 256 * k) × (i ≤ n) × (to
 abbrev μ-loop : tie.MeasureT-loop
 μ-loop w k n run total₀ i₀ total i = n - i
 
-mul-run : tie.Need-mul-run Inv-loop μ-loop
-mul-run c = omega arith
-
 loop-holds : tie.Need-loop-holds Inv-loop μ-loop
 unfolding amountSum sum
 loop-holds c = (refl, omega arith, refl)
-
-add-sum : tie.Need-add-sum Inv-loop μ-loop
-add-sum c = omega arith
-
-mul-sum : tie.Need-mul-sum Inv-loop μ-loop
-mul-sum c = omega arith
-
-element-copy-out-sum : tie.Need-element-copy-out-sum Inv-loop μ-loop
-element-copy-out-sum c = omega arith
 
 add-sum-2 : tie.Need-add-sum-2 Inv-loop μ-loop
 unfolding amountSum
@@ -40,12 +28,6 @@ add-sum-2 c =
     let i = c .before .before .loop .i in
     let each = start .pre .2 .each in
     omega (arith, sum-most i 40_000_000_000_000 (wordAt w k) (λ j l. each j (omega arith)), each i (omega arith))
-
-add-i : tie.Need-add-i Inv-loop μ-loop
-add-i c = omega arith
-
-loop-less : tie.Need-loop-less Inv-loop μ-loop
-loop-less c = omega arith
 
 loop-again : tie.Need-loop-again Inv-loop μ-loop
 unfolding amountSum
@@ -62,16 +44,5 @@ returns c =
 pub amount-sum-spec : {M : Type 1} → statement M
 amount-sum-spec =
     tie.close
-    (tie.spec
-    Inv-loop
-    μ-loop
-    mul-run
-    loop-holds
-    add-sum
-    mul-sum
-    element-copy-out-sum
-    add-sum-2
-    add-i
-    loop-less
-    loop-again
-    returns)
+    (tie.spec Inv-loop μ-loop (λ c. omega arith) loop-holds (λ c. omega arith) (λ c. omega arith) (λ c. omega arith)
+    add-sum-2 (λ c. omega arith) (λ c. omega arith) loop-again returns)

@@ -67,9 +67,6 @@ array-write-after c = inside (c .before .before .before .before)
 add-i : tie.Need-add-i Inv-loop μ-loop
 add-i c = omega (arith, inside (c .before .before .before .before))
 
-loop-less : tie.Need-loop-less Inv-loop μ-loop
-loop-less c = omega arith
-
 loop-again : tie.Need-loop-again Inv-loop μ-loop
 loop-again c =
     let account = c .before .before .before in
@@ -94,17 +91,5 @@ returns c =
 pub look-all-spec : {M : Type 1} → statement M
 look-all-spec =
     tie.close
-    (tie.spec
-    Inv-loop
-    μ-loop
-    loop-holds
-    account-at-requires
-    mul-look
-    element-copy-out-look
-    element-copy-out-look-2
-    look-requires
-    array-write-after
-    add-i
-    loop-less
-    loop-again
-    returns)
+    (tie.spec Inv-loop μ-loop loop-holds account-at-requires mul-look element-copy-out-look element-copy-out-look-2
+    look-requires array-write-after add-i (λ c. omega arith) loop-again returns)

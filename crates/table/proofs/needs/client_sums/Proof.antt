@@ -40,12 +40,6 @@ account-as-requires c κs =
     let most = start .pre .0 .most in
     (omega arith, start .pre .0 .ranges (c .before .loop .i) (omega arith))
 
-slot-requires : tie.Need-slot-requires Inv-loop μ-loop
-slot-requires c κs = search needs
-
-client-due-requires : tie.Need-client-due-requires Inv-loop μ-loop
-client-due-requires c κs = search needs
-
 mul-under : tie.Need-mul-under Inv-loop μ-loop
 mul-under c = omega (arith, c .before .slot .ensures .inside)
 
@@ -79,9 +73,6 @@ element-write-under c = omega (arith, c .before .before .slot .ensures .inside)
 
 add-i : tie.Need-add-i Inv-loop μ-loop
 add-i c = omega (arith, c .before .before .before .before .before .before .pre .0 .most)
-
-loop-less : tie.Need-loop-less Inv-loop μ-loop
-loop-less c = omega arith
 
 loop-again : tie.Need-loop-again Inv-loop μ-loop
 loop-again c =
@@ -118,19 +109,5 @@ returns c =
 pub client-sums-spec : {M : Type 1} → statement M
 client-sums-spec =
     tie.close
-    (tie.spec
-    Inv-loop
-    μ-loop
-    loop-holds
-    account-as-requires
-    slot-requires
-    client-due-requires
-    mul-under
-    element-copy-out-under
-    add-under
-    mul-under-2
-    element-write-under
-    add-i
-    loop-less
-    loop-again
-    returns)
+    (tie.spec Inv-loop μ-loop loop-holds account-as-requires (λ c κs. search needs) (λ c κs. search needs) mul-under
+    element-copy-out-under add-under mul-under-2 element-write-under add-i (λ c. omega arith) loop-again returns)

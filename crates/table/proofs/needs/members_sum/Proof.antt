@@ -80,12 +80,6 @@ add-sum c =
       clients-top v 100_000_000_000_000 (bounded start) i,
     )
 
-add-i : tie.Need-add-i Inv-loop μ-loop
-add-i c = omega arith
-
-loop-less : tie.Need-loop-less Inv-loop μ-loop
-loop-less c = omega arith
-
 loop-again : tie.Need-loop-again Inv-loop μ-loop
 loop-again c =
     (refl, omega arith, omega (arith, adds c, members-step (seen (c .before .before .before .before .before)) (c .before .before .before .before .loop .i)))
@@ -96,16 +90,5 @@ returns c = c .before .loop .inv .2 ∙ ap (membersBelow (seen (c .before .befor
 pub members-sum-spec : {M : Type 1} → statement M
 members-sum-spec =
     tie.close
-    (tie.spec
-    Inv-loop
-    μ-loop
-    loop-holds
-    account-as-requires
-    mul-member-due
-    element-copy-out-member-due
-    member-due-requires
-    add-sum
-    add-i
-    loop-less
-    loop-again
-    returns)
+    (tie.spec Inv-loop μ-loop loop-holds account-as-requires mul-member-due element-copy-out-member-due
+    member-due-requires add-sum (λ c. omega arith) (λ c. omega arith) loop-again returns)

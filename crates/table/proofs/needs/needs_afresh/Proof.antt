@@ -35,12 +35,6 @@ loop-holds c =
     let h = c .deemed-under-by .ensures in
     (omega arith, h, h .size, λ j l. absurd (omega arith), λ j l. refl)
 
-mul-under : tie.Need-mul-under Inv-loop μ-loop
-mul-under c = omega arith
-
-element-copy-out-under : tie.Need-element-copy-out-under Inv-loop μ-loop
-element-copy-out-under c = omega arith
-
 kept-at-requires : tie.Need-kept-at-requires Inv-loop μ-loop
 kept-at-requires c κs =
     let start = c .before .before .before .before .before in
@@ -54,18 +48,6 @@ kept-at-requires c κs =
             _ (l .inv .1) (l .i),
       ),
     )
-
-mul-needs : tie.Need-mul-needs Inv-loop μ-loop
-mul-needs c = omega arith
-
-element-write-needs : tie.Need-element-write-needs Inv-loop μ-loop
-element-write-needs c = omega arith
-
-add-i : tie.Need-add-i Inv-loop μ-loop
-add-i c = omega arith
-
-loop-less : tie.Need-loop-less Inv-loop μ-loop
-loop-less c = omega arith
 
 loop-again : tie.Need-loop-again Inv-loop μ-loop
 loop-again c =
@@ -92,17 +74,5 @@ returns c =
 pub needs-afresh-spec : {M : Type 1} → statement M
 needs-afresh-spec =
     tie.close
-    (tie.spec
-    Inv-loop
-    μ-loop
-    deemed-under-by-requires
-    loop-holds
-    mul-under
-    element-copy-out-under
-    kept-at-requires
-    mul-needs
-    element-write-needs
-    add-i
-    loop-less
-    loop-again
-    returns)
+    (tie.spec Inv-loop μ-loop deemed-under-by-requires loop-holds (λ c. omega arith) (λ c. omega arith) kept-at-requires
+    (λ c. omega arith) (λ c. omega arith) (λ c. omega arith) (λ c. omega arith) loop-again returns)

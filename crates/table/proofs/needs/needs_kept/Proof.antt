@@ -30,24 +30,6 @@ needs-afresh-requires c κs = (c .before .pre .0, c .before .pre .1, c .before .
 loop-holds : tie.Need-loop-holds Inv-loop μ-loop
 loop-holds c = (omega arith, sym (all-none _))
 
-mul-ok : tie.Need-mul-ok Inv-loop μ-loop
-mul-ok c = omega arith
-
-element-copy-out-ok : tie.Need-element-copy-out-ok Inv-loop μ-loop
-element-copy-out-ok c = omega arith
-
-mul-ok-2 : tie.Need-mul-ok-2 Inv-loop μ-loop
-mul-ok-2 c = omega arith
-
-array-read-ok : tie.Need-array-read-ok Inv-loop μ-loop
-array-read-ok c = omega arith
-
-add-i : tie.Need-add-i Inv-loop μ-loop
-add-i c = omega arith
-
-loop-less : tie.Need-loop-less Inv-loop μ-loop
-loop-less c = omega arith
-
 loop-again : tie.Need-loop-again Inv-loop μ-loop
 loop-again c =
     let afresh = c .before .before .before in
@@ -69,16 +51,5 @@ returns c =
 pub needs-kept-spec : {M : Type 1} → statement M
 needs-kept-spec =
     tie.close
-    (tie.spec
-    Inv-loop
-    μ-loop
-    needs-afresh-requires
-    loop-holds
-    mul-ok
-    element-copy-out-ok
-    mul-ok-2
-    array-read-ok
-    add-i
-    loop-less
-    loop-again
-    returns)
+    (tie.spec Inv-loop μ-loop needs-afresh-requires loop-holds (λ c. omega arith) (λ c. omega arith) (λ c. omega arith)
+    (λ c. omega arith) (λ c. omega arith) (λ c. omega arith) loop-again returns)

@@ -16,26 +16,8 @@ Inv-loop sort live tm w table₀ i₀ table i = (i ≤ 256) × (length table ≡
 abbrev μ-loop : tie.MeasureT-loop
 μ-loop sort live tm w table₀ i₀ table i = 256 - i
 
-no-row-requires : tie.Need-no-row-requires Inv-loop μ-loop
-no-row-requires c κs = search needs
-
 loop-holds : tie.Need-loop-holds Inv-loop μ-loop
 loop-holds c = (omega arith, refl, λ a l. absurd (omega arith))
-
-row-of-requires : tie.Need-row-of-requires Inv-loop μ-loop
-row-of-requires c κs = search needs
-
-mul-table : tie.Need-mul-table Inv-loop μ-loop
-mul-table c = search needs
-
-array-set-from-table : tie.Need-array-set-from-table Inv-loop μ-loop
-array-set-from-table c = search needs
-
-add-i : tie.Need-add-i Inv-loop μ-loop
-add-i c = search needs
-
-loop-less : tie.Need-loop-less Inv-loop μ-loop
-loop-less c = search needs
 
 loop-again : tie.Need-loop-again Inv-loop μ-loop
 loop-again c =
@@ -56,15 +38,5 @@ returns c =
 pub rows-of-spec : {M : Type 1} → statement M
 rows-of-spec =
     tie.close
-    (tie.spec
-    Inv-loop
-    μ-loop
-    no-row-requires
-    loop-holds
-    row-of-requires
-    mul-table
-    array-set-from-table
-    add-i
-    loop-less
-    loop-again
-    returns)
+    (tie.spec Inv-loop μ-loop (λ c κs. search needs) loop-holds (λ c κs. search needs) (λ c. search needs)
+    (λ c. search needs) (λ c. search needs) (λ c. search needs) loop-again returns)
