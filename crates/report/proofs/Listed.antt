@@ -1,19 +1,30 @@
 -- In a sound book no row held is left out, each line's figures are those of its row, and only a client's line names a TM.
 use mathlib.Core.Bool.{Bool, true, false}
-use mathlib.Core.Path.{_≡_, refl, sym, ap, _∙_}
+use mathlib.Core.List.{List}
+use mathlib.Core.Path.{_≡_, refl, sym, ap, subst, _∙_}
 use Prim.Native.Nat.{ℕ, _<_}
+use lib.Dec.{eqb}
+use lib.ListN.{length, getD}
 use native.Mathlib.Omega.{arith}
 use borrow.Author.Tests.{lt-ltb}
 use Rattle.sums.specs.Choice.{pick}
 use Rattle.rows.specs.declared.Book.{Book}
-use Rattle.rows.specs.Rows.{rowAt, modeAt, numberAt, placeOf, view, isLive}
+use Rattle.book.specs.declared.Figures.{Figures}
+use Rattle.rows.specs.View.{need, blocked, deemed, free}
+use Rattle.rows.specs.Rows.{collateral, rowAt, modeAt, numberAt, placeOf, view, isLive}
+use Rattle.rows.specs.Facts.{InRange}
+use Rattle.table.specs.declared.Table.{Table}
+use Rattle.table.specs.Words.{rowIn, marksOf, turnedBack}
+use Rattle.table.proofs.Gathered.{row-in}
 use Rattle.lookup.proofs.Places.{place-found}
 use Rattle.book.specs.Sound.{soundB}
 use Rattle.book.specs.Asked.{figuresOf, noFigures, standingOf}
 use Rattle.book.specs.Facts.{Sound}
 use Rattle.book.proofs.SoundTest.{sound→}
-use Rattle.book.proofs.StandingRefusals.{dead-refused, live-answered, standing-by}
+use Rattle.book.proofs.RowTests.{sound-ranged}
+use Rattle.book.proofs.StandingRefusals.{unsound-refused, dead-refused, live-answered, standing-by, shown}
 use Rattle.report.specs.Reports.{accounts, standingLines, standingsText}
+use Rattle.report.specs.Inner.{figuresBy, figuresFrom, Tested}
 
 pub every-account : (b : Book) → Sound b → standingsText b ≡ standingLines b (b .count)
 unfolding standingsText
@@ -44,3 +55,24 @@ module _ (b : Book) (ok : soundB b ≡ true) (i : ℕ) (held : i < b .count) whe
   -- "its TM or 0"
   pub no-client-no-tm : (rowAt b i .sort ≡ 2 → ⊥) → numberAt b (rowAt b i .tm) ≡ 0
   no-client-no-tm h = let s = sound→ b ok in ap (numberAt b) (s .no-tm i held h) ∙ s .numbered .top
+
+-- the figures of a row held, by its need and its mode
+from-need : (b : Book) → Sound b → (i n : ℕ) → n ≡ need (view b) i → figuresFrom (collateral (rowAt b i)) n (modeAt b i) (eqb i 0) ≡ figuresOf (view b) (modeAt b i) i
+from-need b s i n e =
+    let v = view b in
+    rw e (ap (λ (x : ℕ). record { refusal = 0; collateral = v .collateral i; need = need v i; blocked = blocked v i; deemed = deemed v i; free = free v i; mode = modeAt b i; shortfall = x }) (shown v (s .shaped) i))
+
+-- so a book that was tested once gives each row's standing
+pub tested-standing : (b : Book) (sound : Bool) (needs : List ℕ) → Tested b sound needs → (i : ℕ) → i < length needs
+    → figuresBy sound (rowAt b i) (getD needs i 0) (modeAt b i) (eqb i 0) ≡ standingOf b (numberAt b i)
+unfolding pick
+tested-standing b false needs h i l = standing-by b (numberAt b i) 1 (unsound-refused b (numberAt b i) (h .is)) refl
+tested-standing b true needs h i l =
+    ap (λ (f : Figures). pick (rowAt b i .live) f (noFigures 7)) (from-need b (sound→ b (h .is)) i _ (h .each refl i l))
+    ∙ sym (figures-of-row b (h .is) i (omega (arith, h .held refl)))
+
+-- and each row's amounts in range
+pub tested-range : (t : Table) (sound : Bool) (needs : List ℕ) → Tested (turnedBack t) sound needs → (i : ℕ) → i < length needs → sound ≡ true → InRange (rowIn (marksOf t) (t .amounts) i)
+tested-range t sound needs h i l e =
+    let s = sound→ (turnedBack t) (h .is ∙ e) in
+    subst InRange (row-in (marksOf t) (t .amounts) i (omega (arith, s .most, h .held e))) (sound-ranged _ s .ranges i (omega (arith, h .held e)))

@@ -2,12 +2,14 @@
 ghost use mathlib.Core.Path.{_≡_};
 ghost use Prim.Native.Nat.{_≤_, _<_, min};
 ghost use lib.Dec.{ltb};
-ghost use lib.ListN.{length, getD};
+ghost use lib.ListN.{length, take, getD};
 ghost use Rattle.lines.specs.Lines.{closingLineOf};
 ghost use Rattle.sums.specs.Room.{atStart};
 ghost use Rattle.table.specs.Words.{turnedBack};
 ghost use Rattle.report.specs.Reports.{accounts as Reports·accounts, standingsText, needsText, closeOutText};
+ghost use Rattle.report.specs.Inner.{Tested};
 pub use records::Closing;
+use rows::needs::zeros;
 pub use streams::Moved;
 use streams::standard::write_output;
 pub use table::Table;
@@ -35,6 +37,24 @@ fn number_at(numbers: &[u16; 256], i: usize) -> u16
     ensures { λ n. ⌜ n ≡ getD (now (numbers .entry)) i 0 ⌝ }
 {
     numbers[i]
+}
+
+// A book tested once, by the call for all needs: whether it is sound, and the needs of its rows.
+struct AllNeeds {
+    sound: bool,
+    needs: [u64; 256],
+}
+
+fn all_needs(t: Table, n: usize) -> AllNeeds
+    requires { ⌜ n ≡ Reports·accounts (t .count) ⌝ }
+    ensures { λ x. ⌜ Tested (turnedBack t) (x .sound) (take n (x .needs)) × (length (x .needs) ≡ 256) ⌝ }
+{
+    let mut needs = zeros();
+    let refusal = book::needs(t, &mut needs[..n]);
+    AllNeeds {
+        sound: refusal == 0,
+        needs,
+    }
 }
 
 // The lines of all accounts' standings: how long they are, and the lines in the room.

@@ -5,8 +5,8 @@ ghost use lib.ListN.{length, getD};
 ghost use Rattle.table.specs.Words.{turnedBack};
 ghost use Rattle.text.specs.Inner.{Puts};
 ghost use Rattle.report.specs.Reports.{accounts as Reports·accounts, needLines, needsText};
+use crate::all_needs;
 use crate::number_at;
-use rows::needs::zeros;
 use table::Table;
 use text::put_spaced;
 
@@ -32,11 +32,11 @@ pub(crate) fn put_needs(room: &mut [u8], t: Table, n: usize) -> usize
     requires { ⌜ (n ≡ Reports·accounts (t .count)) × (42 * n ≤ length (now room)) ⌝ }
     ensures { λ after. ⌜ Puts (now (room .entry)) 0 (needsText (turnedBack t)) (now (room .exit)) after ⌝ }
 {
-    let mut needs = zeros();
-    let refusal = book::needs(t, &mut needs[..n]);
-    if refusal != 0 {
+    let tested = all_needs(t, n);
+    if !tested.sound {
         return 0;
     }
+    let needs = tested.needs;
     let numbers = t.numbers;
     put_list(room, &numbers, &needs[..n])
 }

@@ -1,15 +1,23 @@
 // The lines of `standings`, put into a room.
+ghost use mathlib.Core.Bool.{true};
 ghost use mathlib.Core.Path.{_≡_};
 ghost use Prim.Native.Nat.{_+_, _*_, _≤_};
 ghost use lib.ListN.{length, getD};
+ghost use Rattle.rows.specs.Facts.{InRange};
+ghost use Rattle.book.specs.Asked.{noFigures};
 ghost use Rattle.table.specs.Words.{turnedBack};
 ghost use Rattle.text.specs.Numbers.{andSpaces};
 ghost use Rattle.text.specs.Words.{andSpace};
 ghost use Rattle.text.specs.Inner.{Puts};
-ghost use Rattle.report.specs.Reports.{stateWord, modeWord, numbersOf, standingLine, standingLines};
+ghost use Rattle.report.specs.Reports.{accounts as Reports·accounts, stateWord, modeWord, numbersOf, standingLine, standingLines};
+ghost use Rattle.report.specs.Inner.{figuresBy, Tested};
+use crate::all_needs;
 use crate::number_at;
 use book::Figures;
 use rows::Row;
+use rows::needs::blocked_of;
+use rows::needs::collateral_of;
+use rows::needs::only_if;
 use table::Table;
 use table::places::row_of;
 use text::put_each;
@@ -72,20 +80,70 @@ fn put_standing(room: &mut [u8], at: usize, number: u16, r: Row, tm: u16, f: Fig
     put_number(room, p5, f.shortfall, b'\n')
 }
 
-// Puts the lines of the first n rows, and gives how long they are.
-pub(crate) fn put_standings(room: &mut [u8], t: Table, n: usize) -> usize
-    requires { ⌜ (n ≤ 256) × (187 * n ≤ length (now room)) ⌝ }
-    ensures { λ after. ⌜ Puts (now (room .entry)) 0 (standingLines (turnedBack t) n) (now (room .exit)) after ⌝ }
+// The figures of a row's account, where its need and its mode are given, or that it has none: 1 where the book isn't sound, 7 where the row is retired.
+fn figures_of(sound: bool, r: Row, need: u64, mode: bool, top: bool) -> Figures
+    requires { ⌜ (sound ≡ true → InRange r) ⌝ }
+    ensures { λ f. ⌜ f ≡ figuresBy sound r need mode top ⌝ }
+{
+    if !sound {
+        return no_figures(1);
+    }
+    if !r.live {
+        return no_figures(7);
+    }
+    let c = collateral_of(r);
+    let k = blocked_of(need, c);
+    Figures {
+        refusal: 0,
+        collateral: c,
+        need,
+        blocked: k,
+        deemed: need - k,
+        free: c - k,
+        mode,
+        shortfall: only_if(top, need - k),
+    }
+}
+
+fn no_figures(refusal: u8) -> Figures
+    ensures { λ f. ⌜ f ≡ noFigures refusal ⌝ }
+{
+    Figures {
+        refusal,
+        collateral: 0,
+        need: 0,
+        blocked: 0,
+        deemed: 0,
+        free: 0,
+        mode: false,
+        shortfall: 0,
+    }
+}
+
+// Puts the lines of the rows that a list has the needs of, and gives how long they are. The book was tested before.
+fn put_list(room: &mut [u8], t: Table, sound: bool, needs: &[u64]) -> usize
+    requires { ⌜ Tested (turnedBack t) sound (now needs) × (length (now needs) ≤ 256) × (187 * length (now needs) ≤ length (now room)) ⌝ }
+    ensures { λ after. ⌜ Puts (now (room .entry)) 0 (standingLines (turnedBack t) (length (now (needs .entry)))) (now (room .exit)) after ⌝ }
 {
     let mut at: usize = 0;
     let mut i: usize = 0;
-    while i < n {
+    while i < needs.len() {
         let number = number_at(&t.numbers, i);
-        let figures = book::standing(t, number);
         let r = row_of(&t.sort, &t.live, &t.tm, &t.amounts, i);
+        let figures = figures_of(sound, r, needs[i], t.modes[i], i == 0);
         let tm = tm_number(t.numbers, r.tm);
         at = put_standing(room, at, number, r, tm, figures);
         i += 1;
     }
     at
+}
+
+// Puts the lines of all rows, n of them, and gives how long they are.
+pub(crate) fn put_standings(room: &mut [u8], t: Table, n: usize) -> usize
+    requires { ⌜ (n ≡ Reports·accounts (t .count)) × (187 * n ≤ length (now room)) ⌝ }
+    ensures { λ after. ⌜ Puts (now (room .entry)) 0 (standingLines (turnedBack t) n) (now (room .exit)) after ⌝ }
+{
+    let tested = all_needs(t, n);
+    let needs = tested.needs;
+    put_list(room, t, tested.sound, &needs[..n])
 }

@@ -13,7 +13,7 @@ use Rattle.rows.specs.Rows.{view}
 use Rattle.rows.specs.DeemedUnder.{accountAt, needBy}
 use Rattle.rows.proofs.BySort.{need-CM}
 use Rattle.rows.proofs.KeptNeeds.{need-by}
-use Rattle.book.specs.Asked.{shortfall}
+use Rattle.book.proofs.StandingRefusals.{shown}
 use Rattle.table.specs.Facts.{seenBook}
 use Rattle.book.proofs.blocking.figures.Statement.{statement}
 use Rattle.book.proofs.blocking.figures.Tie as tie
@@ -31,14 +31,6 @@ need-is c =
     let v = view (seenBook (a .count) (a .sort .now) (a .tm .now) (a .w .now)) in
     c .need-by .ensures ∙ ap (λ x. needBy x (a .kept)) (c .before .account-at .ensures) ∙ ap (needBy (accountAt v (a .i))) (start .pre .3)
     ∙ sym (need-by v (start .pre .1) (a .i) (start .pre .2))
-
--- what is shown as the shortfall: of account 0 what it is deemed, which is its need less its collateral
-shown : (v : View) → Shaped v → (i : ℕ) → only (eqb i 0) (deemed v i) ≡ only (eqb i 0) (shortfall v)
-shown v s i = by (ℕ-discrete i 0)
-  where
-    by : Dec (i ≡ 0) → only (eqb i 0) (deemed v i) ≡ only (eqb i 0) (shortfall v)
-    by (yes e) = rw e (omega (arith, need-CM v 0 (s .top)))
-    by (no n) = rw (ne-eqb i 0 n)
 
 returns : tie.Need-returns
 returns c =
