@@ -126,8 +126,8 @@ fn step_at(t: Table, r: Record) -> Carried
 fn stays(t: Table, outcome: Outcome) -> Carried
     ensures { λ d. ⌜ d ≡ record { answer = nobody outcome; table = turned (turnedBack t) } ⌝ }
 {
-    let answer = about_nobody(outcome);
     let table = table::same(t);
+    let answer = about_nobody(outcome);
     Carried { answer, table }
 }
 
