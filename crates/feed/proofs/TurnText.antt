@@ -17,7 +17,7 @@ use Rattle.records.specs.Inner.{putNumbersFrom}
 use Rattle.records.proofs.SoundRun.{run-counts}
 use Rattle.records.proofs.NumbersPut.{numbers-from-start}
 use Rattle.lines.specs.Lines.{linesOf}
-use Rattle.lines.specs.Texts.{linesTo, fitting}
+use Rattle.text.specs.Numbers.{linesTo}
 use Rattle.lines.proofs.Records.{answers-most, lines-of-numbers}
 
 -- by the number that was handed over
@@ -39,10 +39,6 @@ module _ (b : Book) (s : List ℕ) (n : ℕ) (read : ℕ) (few : n ≤ 640) (er 
       ∙ ap (λ l. linesTo l (length (answersOf s n b 0)))
       (et ∙ pick-yes t (putNumbersFrom s m b 0 0 numbers₀) numbers₀ h ∙ ap (λ k. putNumbersFrom s k b 0 0 numbers₀) e ∙ numbers-from-start s n b numbers₀ (omega arith))
       ∙ lines-of-numbers (answersOf s n b 0) _
-
--- there is room for all of them
-pub all-fit : (count : ℕ) (numbers text : List ℕ) → count ≤ 640 → length numbers ≡ 3200 → length text ≡ 20480 → linesTo numbers (fitting count numbers text) ≡ linesTo numbers count
-all-fit count numbers text h k e = let f : fitting count numbers text ≡ count = omega arith in ap (linesTo numbers) f
 
 -- where nothing is asked for
 pub nothing-to-print : (t : Bool) (l : List ℕ) → t ≡ false → false ≡ ltb 0 (length (pick t l []))

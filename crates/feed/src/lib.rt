@@ -71,6 +71,8 @@ fn in_turns(program: &[u8], printing: bool, t: Table) -> Day
     let mut space = space::blank();
     let mut numbers = [0u16; NUMBERS];
     let mut text = [0u8; ROOM];
+    let mut words = [0u64; 1000];
+    text::texts::fill(&mut words);
     let entered = enter(t);
     let mut at = entered.at;
     let mut sort = t.sort;
@@ -111,7 +113,7 @@ fn in_turns(program: &[u8], printing: bool, t: Table) -> Day
         let word = went.closing;
         let stands = went.at;
         let lines = went.read as usize;
-        let put = print_lines(program, printing, &numbers, lines, &mut text);
+        let put = print_lines(program, printing, &words, &numbers, lines, &mut text);
         if got.failed | put.failed {
             return no_day();
         }

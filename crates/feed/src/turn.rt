@@ -9,7 +9,7 @@ ghost use Rattle.records.specs.Runs.{runOf};
 ghost use Rattle.records.specs.LineNumbers.{answersOf};
 ghost use Rattle.records.specs.Inner.{ranIn};
 ghost use Rattle.lines.specs.Lines.{linesOf};
-ghost use Rattle.lines.specs.Texts.{linesTo};
+ghost use Rattle.text.specs.Numbers.{linesTo};
 ghost use Rattle.feed.specs.Inner.{stopsAt};
 use records::Closing;
 use records::Went;

@@ -1,5 +1,4 @@
 pub mod Widths
-pub mod Turns
 pub mod Records
 pub mod Agreement
 pub mod Example

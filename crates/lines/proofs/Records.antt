@@ -23,7 +23,8 @@ use Rattle.records.specs.LineNumbers.{answering, answersOf, numbersOfLine, numb
 use Rattle.records.proofs.SoundRun.{run-counts}
 use Rattle.lines.specs.Lines.{lineOf, linesOf}
 use Rattle.sums.specs.Room.{atStart}
-use Rattle.lines.specs.Texts.{textOf, withText, linedOf, lineAt, linesTo}
+use Rattle.lines.specs.Texts.{textOf, withText, linedOf}
+use Rattle.text.specs.Numbers.{lineAt, linesTo}
 use Rattle.text.specs.Inner.{Puts}
 use Rattle.text.proofs.Puts.{puts-at-start}
 

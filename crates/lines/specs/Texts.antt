@@ -1,7 +1,7 @@
 -- What the call that writes lines gives: the run's results, and the text in the lent room.
-use mathlib.Core.List.{List, [], _∷_, _++_}
-use Prim.Native.Nat.{ℕ, zero, suc, _+_, _*_, _/_, min}
-use lib.ListN.{length, getD}
+use mathlib.Core.List.{List, []}
+use Prim.Native.Nat.{ℕ, _/_, min}
+use lib.ListN.{length}
 use Rattle.sums.specs.Choice.{pick}
 use Rattle.rows.specs.declared.Book.{Book}
 use Rattle.book.specs.Sound.{soundB}
@@ -9,7 +9,6 @@ use Rattle.run.specs.declared.Ended.{Ended}
 use Rattle.records.specs.Runs.{ranOf}
 use Rattle.run.specs.Over.{overRan}
 use Rattle.records.specs.LineNumbers.{answersOf}
-use Rattle.text.specs.Numbers.{spaced}
 use Rattle.lines.specs.Lines.{linesOf}
 use Rattle.lines.specs.declared.Lined.{Lined}
 
@@ -28,16 +27,6 @@ withText ran text = record { table = ran .table; place = ran .place; closing = r
 unfoldable pub linedOf : Book → List ℕ → ℕ → Lined
 linedOf b s most = withText (overRan (ranOf b s most)) (length (textOf b s most))
 
--- the line of the five numbers that stand from number 5 i on
-abbrev pub lineAt : List ℕ → ℕ → List ℕ
-lineAt numbers i =
-    spaced (getD numbers (5 * i) 0 ∷ getD numbers (5 * i + 1) 0 ∷ getD numbers (5 * i + 2) 0 ∷ getD numbers (5 * i + 3) 0 ∷ getD numbers (5 * i + 4) 0 ∷ [])
-
--- the lines of the first count records
-unfoldable pub linesTo : List ℕ → ℕ → List ℕ
-linesTo numbers zero = []
-linesTo numbers (suc count) = linesTo numbers count ++ lineAt numbers count
-
--- as many of them as there are numbers for, and as the room surely holds with 32 bytes for each
+-- as many lines as there are numbers for, and as the room surely holds with 32 bytes for each
 abbrev pub fitting : ℕ → List ℕ → List ℕ → ℕ
 fitting count numbers room = min count (min (length numbers / 5) (length room / 32))

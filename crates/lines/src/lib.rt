@@ -5,12 +5,14 @@ ghost use lib.ListN.{length};
 ghost use Rattle.lines.specs.Lines.{closingLineOf};
 ghost use Rattle.sums.specs.Room.{atStart};
 ghost use Rattle.table.specs.Words.{turnedBack};
-ghost use Rattle.lines.specs.Texts.{limitOf, textOf, linedOf, linesTo, fitting};
+ghost use Rattle.text.specs.Numbers.{linesTo};
+ghost use Rattle.lines.specs.Texts.{limitOf, textOf, linedOf, fitting};
 pub use records::Closing;
 pub use table::Table;
+use text::line::put_lines;
+use text::texts;
 
 mod closing;
-mod line;
 
 pub struct Lined {
     pub table: Table,
@@ -41,7 +43,9 @@ pub fn lines(t: Table, piece: &[u8], most: u64, room: &mut [u8]) -> Lined
 {
     let mut numbers = [0u16; 10240];
     let ran = run::day_with_numbers(t, piece, limit(most, room), &mut numbers);
-    let text = line::put_lines(room, &numbers, ran.read as usize);
+    let mut words = [0u64; 1000];
+    texts::fill(&mut words);
+    let text = put_lines(&words, room, &numbers, ran.read as usize);
     let table = ran.table;
     let closing = ran.closing;
     Lined {
@@ -63,7 +67,9 @@ pub fn lines_of_numbers(numbers: &[u16], count: usize, room: &mut [u8]) -> usize
         count as u64,
         least(numbers.len() as u64 / 5, room.len() as u64 / 32),
     );
-    line::put_lines(room, numbers, k as usize)
+    let mut words = [0u64; 1000];
+    texts::fill(&mut words);
+    put_lines(&words, room, numbers, k as usize)
 }
 
 // The line after the records' lines: how long it is, and the line in the room.

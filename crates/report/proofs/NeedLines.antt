@@ -6,7 +6,6 @@ use Prim.Native.Nat.{ℕ, zero, suc, _<_}
 use native.Mathlib.Omega.{arith}
 use lib.Dec.{eqb}
 use lib.ListN.{length, getD}
-use Rattle.sums.specs.Listed.{listTo}
 use Rattle.sums.proofs.Choices.{pick-yes, pick-no}
 use Rattle.sums.proofs.Lists.{length-listTo, at-listTo}
 use Rattle.rows.specs.declared.Book.{Book}

@@ -10,7 +10,7 @@ use lib.ListN.{length, length-append}
 use borrow.Author.Tests.{lt-ltb, le-ltb, ltb-true, ltb-false}
 use Rattle.sums.proofs.Choices.{pick-yes, pick-no}
 use Rattle.text.specs.Numbers.{digit, digits, decimal}
-use Rattle.text.specs.Inner.{pair}
+use Rattle.text.specs.Inner.{pair, three}
 
 digits-one : (most n : ℕ) → n < 10 → digits (suc most) n ≡ digit n ∷ []
 unfolding digits
@@ -56,6 +56,19 @@ decimal-hundred n h =
     let third : n % 10 ≡ n % 100 % 10 = omega arith in
     decimal-more n (omega arith) ∙ ap (λ (d : List ℕ). d ++ (digit (n % 10) ∷ [])) tenth
     ∙ append-assoc (decimal (n / 10 / 10)) (digit (n / 10 % 10) ∷ []) (digit (n % 10) ∷ []) ∙ rw (first, second, third)
+
+-- three digits
+pub decimal-three : (n : ℕ) → 100 ≤ n → n < 1000 → decimal n ≡ three n
+decimal-three n h m = decimal-hundred n h ∙ ap (λ (d : List ℕ). d ++ pair (n % 100)) (decimal-one (n / 100) (omega arith))
+
+-- from 1,000 on: the digits of the thousandth, then three more
+pub decimal-thousand : (n : ℕ) → 1000 ≤ n → decimal n ≡ decimal (n / 1000) ++ three (n % 1000)
+decimal-thousand n h =
+    let first : n / 100 / 10 ≡ n / 1000 = omega arith in
+    let second : n / 100 % 10 ≡ n % 1000 / 100 = omega arith in
+    let third : n % 100 ≡ n % 1000 % 100 = omega arith in
+    decimal-hundred n (omega arith) ∙ ap (λ (d : List ℕ). d ++ pair (n % 100)) (decimal-more (n / 100) (omega arith))
+    ∙ append-assoc (decimal (n / 100 / 10)) (digit (n / 100 % 10) ∷ []) (pair (n % 100)) ∙ rw (first, second, third)
 
 pub length-more : (n : ℕ) → 10 ≤ n → length (decimal n) ≡ length (decimal (n / 10)) + 1
 length-more n h = ap length (decimal-more n h) ∙ length-append (decimal (n / 10)) (digit (n % 10) ∷ [])

@@ -3,5 +3,8 @@ pub mod Values
 pub mod Widths
 pub mod Puts
 pub mod Pairs
+pub mod Spilling
+mod TextWords
+mod Turns
 pub mod Lists
 mod Saying

@@ -18,7 +18,7 @@ pub puts-one : (room : List ℕ) (at a : ℕ) → at < length room → Puts room
 puts-one room at a h = record { holds = refl; next = refl; within = omega arith }
 
 -- a text, and another one after it
-put-put : (room : List ℕ) (at : ℕ) (x y : List ℕ) → put (put room at x) (at + length x) y ≡ put room at (x ++ y)
+pub put-put : (room : List ℕ) (at : ℕ) (x y : List ℕ) → put (put room at x) (at + length x) y ≡ put room at (x ++ y)
 put-put room at [] y = ap (λ (i : ℕ). put room i y) (omega arith)
 put-put room at (a ∷ x) y =
     let e : at + length (a ∷ x) ≡ suc at + length x = omega arith in

@@ -1,7 +1,8 @@
 -- Numbers as bytes: their decimal digits, and what stands behind each and between them.
 use mathlib.Core.List.{List, [], _∷_, _++_}
-use Prim.Native.Nat.{ℕ, zero, suc, _+_, _/_, _%_}
+use Prim.Native.Nat.{ℕ, zero, suc, _+_, _*_, _/_, _%_}
 use lib.Dec.{ltb}
+use lib.ListN.{getD}
 use Rattle.sums.specs.Choice.{pick}
 
 -- the bytes of a digit (48 is `0`), of a space and of a line's end
@@ -38,3 +39,13 @@ spaced (n ∷ m ∷ rest) = followed n space ++ spaced (m ∷ rest)
 unfoldable pub andSpaces : List ℕ → List ℕ
 andSpaces [] = []
 andSpaces (n ∷ rest) = followed n space ++ andSpaces rest
+
+-- the line of the five numbers that stand from number 5 i on
+abbrev pub lineAt : List ℕ → ℕ → List ℕ
+lineAt numbers i =
+    spaced (getD numbers (5 * i) 0 ∷ getD numbers (5 * i + 1) 0 ∷ getD numbers (5 * i + 2) 0 ∷ getD numbers (5 * i + 3) 0 ∷ getD numbers (5 * i + 4) 0 ∷ [])
+
+-- the lines of the first count records
+unfoldable pub linesTo : List ℕ → ℕ → List ℕ
+linesTo numbers zero = []
+linesTo numbers (suc count) = linesTo numbers count ++ lineAt numbers count

@@ -6,7 +6,9 @@ ghost use Rattle.text.specs.Words.{andSpace, sortWord, refusedAt};
 ghost use Rattle.text.specs.Inner.{Puts};
 
 pub mod decimals;
+pub mod line;
 mod number;
+pub mod texts;
 
 // Puts a text at a place, and gives the place after it.
 pub fn put_text(room: &mut [u8], at: usize, text: &[u8]) -> usize

@@ -22,14 +22,14 @@ use Rattle.feed.proofs.in_turns.Statement.{statement}
 use Rattle.feed.proofs.in_turns.Tie as tie
 
 abbrev Inv-loop : tie.InvT-loop
-Inv-loop program printing space₀ numbers₀ text₀ at₀ sort₀ live₀ tm₀ amounts₀ kept₀ modes₀ needs₀ accounts₀ excess₀ was rest₀ read₀ done₀ printed₀ ended₀ space numbers text at sort live tm amounts kept modes needs accounts excess rest read done printed ended =
+Inv-loop program printing space₀ numbers₀ text₀ words at₀ sort₀ live₀ tm₀ amounts₀ kept₀ modes₀ needs₀ accounts₀ excess₀ was rest₀ read₀ done₀ printed₀ ended₀ space numbers text at sort live tm amounts kept modes needs accounts excess rest read done printed ended =
     Feeding printing (bookAt at₀ (marksFrom sort₀ live₀ tm₀) amounts₀ was modes₀ needs₀ accounts₀) space (bookAt at (marksFrom sort live tm) amounts was modes needs accounts) rest read done printed
     × Going at (marksFrom sort live tm) amounts kept was modes needs accounts excess
     × (length numbers ≡ 3200)
     × (length text ≡ 20480)
 
 abbrev μ-loop : tie.MeasureT-loop
-μ-loop program printing space₀ numbers₀ text₀ at₀ sort₀ live₀ tm₀ amounts₀ kept₀ modes₀ needs₀ accounts₀ excess₀ was rest₀ read₀ done₀ printed₀ ended₀ space numbers text at sort live tm amounts kept modes needs accounts excess rest read done printed ended =
+μ-loop program printing space₀ numbers₀ text₀ words at₀ sort₀ live₀ tm₀ amounts₀ kept₀ modes₀ needs₀ accounts₀ excess₀ was rest₀ read₀ done₀ printed₀ ended₀ space numbers text at sort live tm amounts kept modes needs accounts excess rest read done printed ended =
     1_000_000 - read
 
 -- THE PLACES, each named once.
@@ -37,7 +37,7 @@ abbrev entered : tie.After-was Inv-loop μ-loop → tie.After-enter Inv-loop μ-
 entered t = t .before .before .before .before .before .before .before .before .before .before .before
 
 abbrev called : tie.After-enter Inv-loop μ-loop → tie.Start Inv-loop μ-loop
-called e = e .before .before .before
+called e = e .before .before .before .before .before
 
 abbrev turn : tie.After-refill Inv-loop μ-loop → tie.At-loop Inv-loop μ-loop
 turn f = f .before .before
@@ -46,7 +46,7 @@ abbrev filled : tie.After-carry-on Inv-loop μ-loop → tie.After-refill Inv-loo
 filled c = c .before .before .before .before .before .before .before .before .before .before .before .before .before .before .before
 
 abbrev carried : tie.After-print-lines Inv-loop μ-loop → tie.After-carry-on Inv-loop μ-loop
-carried w = w .before .before .before .before
+carried w = w .before .before .before .before .before
 
 abbrev written : tie.After-stops Inv-loop μ-loop → tie.After-print-lines Inv-loop μ-loop
 written s = s .before .before .before .before .before .before .before .before
@@ -98,7 +98,7 @@ loop-holds : tie.Need-loop-holds Inv-loop μ-loop
 loop-holds c =
     let e = entered c in
     let h = e .enter .ensures .0 in (
-      nothing-read (called e .args .printing) (first e) _ (sound← _ (h .sound)) (sym (e .before .blank .ensures)),
+      nothing-read (called e .args .printing) (first e) _ (sound← _ (h .sound)) (sym (e .before .before .before .blank .ensures)),
       h,
       length-replicate {A = ℕ} 3200 0,
       length-replicate {A = ℕ} 20480 0,
@@ -128,13 +128,14 @@ carry-on-requires : tie.Need-carry-on-requires Inv-loop μ-loop
 carry-on-requires c κs = let i = turn (c .before .before .before .before .before .before .before .before .before .before .before .before .before .before) .loop .inv in (i .1, i .2)
 
 slice-aggregate-print-lines : tie.Need-slice-aggregate-print-lines Inv-loop μ-loop
-slice-aggregate-print-lines c = sym (turn (filled (c .before .before .before)) .loop .inv .3)
+slice-aggregate-print-lines c = sym (turn (filled (c .before .before .before .before)) .loop .inv .3)
 
 print-lines-requires : tie.Need-print-lines-requires Inv-loop μ-loop
 print-lines-requires c κs =
-    let t = c .before .before .before in
+    let t = c .before .before .before .before in
     let k = t .carry-on .ensures .1 .1 in
-    (k .1, k .0, turn (filled t) .loop .inv .3)
+    let l = turn (filled t) in
+    (entered (l .before) .before .fill .ensures, k .1, k .0, l .loop .inv .3)
 
 returns : tie.Need-returns Inv-loop μ-loop
 returns c =
@@ -187,7 +188,7 @@ returns-2 c =
 pub in-turns-spec : {M : Type 1} → statement M
 in-turns-spec =
     tie.close
-    (tie.spec Inv-loop μ-loop (λ c κs. search needs) (λ c κs. search needs) loop-holds slice-aggregate-refill refill-requires
+    (tie.spec Inv-loop μ-loop (λ c κs. search needs) (λ c κs. length-replicate {A = ℕ} 1000 0) (λ c κs. search needs) loop-holds slice-aggregate-refill refill-requires
     add-held array-share-prefix-space slice-aggregate-carry-on sub-carry-on carry-on-requires slice-aggregate-print-lines
     print-lines-requires (λ c κs. search needs) returns add-read add-done add-printed (λ c κs. search needs)
     slice-aggregate-to-front to-front-requires loop-less loop-again (λ c κs. search needs) returns-2)

@@ -1,13 +1,12 @@
 -- `report::all_needs` meets its contract: the needs fill the front of their room.
 use borrow.Author.Needs.{needs}
-use mathlib.Core.List.{List, _++_}
+use mathlib.Core.List.{_++_}
 use mathlib.Core.Path.{_≡_, sym, ap, _∙_}
 use Prim.Native.Nat.{ℕ, _≤_}
 use native.Mathlib.Omega.{arith}
 use lib.ListN.{length, take, drop, length-append, length-drop, length-replicate}
 use lib.Seq.{length-take-le, take-append-seam}
 use Rattle.report.specs.Reports.{accounts}
-use Rattle.report.specs.Inner.{Tested}
 use Rattle.report.proofs.NeedLines.{needs-tested}
 use Rattle.table.specs.Words.{turnedBack}
 use Rattle.report.proofs.all_needs.Statement.{statement}

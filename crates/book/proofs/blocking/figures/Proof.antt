@@ -2,16 +2,10 @@
 use mathlib.Core.Path.{_≡_, sym, ap, _∙_}
 use Prim.Native.Nat.{ℕ}
 use native.Mathlib.Omega.{arith}
-use native.Mathlib.Decide.{ℕ-discrete}
 use borrow.Author.Needs.{needs}
-use borrow.Author.Tests.{ne-eqb}
-use lib.Dec.{eqb}
-use Rattle.sums.specs.Sum.{only}
-use Rattle.rows.specs.View.{View, need, blocked, deemed, free}
-use Rattle.rows.specs.Facts.{Shaped}
+use Rattle.rows.specs.View.{need, blocked, deemed, free}
 use Rattle.rows.specs.Rows.{view}
 use Rattle.rows.specs.DeemedUnder.{accountAt, needBy}
-use Rattle.rows.proofs.BySort.{need-CM}
 use Rattle.rows.proofs.KeptNeeds.{need-by}
 use Rattle.book.proofs.StandingRefusals.{shown}
 use Rattle.table.specs.Facts.{seenBook}

@@ -1,14 +1,14 @@
--- The loop over the records' numbers: a line for each record, where the last one ended.
+-- The loop over lines of five numbers: each where the last one ended.
 use mathlib.Core.List.{List}
 use mathlib.Core.Path.{refl}
 use Prim.Native.Nat.{ℕ, _+_, _*_, _≤_, _<_}
 use native.Mathlib.Numerals.{add-one}
 use native.Mathlib.Omega.{arith}
 use lib.ListN.{getD}
-use Rattle.lines.specs.Texts.{lineAt, linesTo}
+use Rattle.text.specs.Numbers.{lineAt, linesTo}
 use Rattle.text.specs.Inner.{Puts}
 use Rattle.text.proofs.Puts.{and-then}
-use Rattle.lines.proofs.Widths.{line-most}
+use Rattle.text.proofs.Widths.{line-most}
 
 -- the lines of the first i records are put, at most 32 bytes each
 pub record Lines (room₀ numbers room : List ℕ) (at i : ℕ) : Type 0 where
