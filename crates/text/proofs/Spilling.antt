@@ -19,7 +19,8 @@ put-again : (room : List ℕ) (at : ℕ) (y z : List ℕ) → length y ≤ lengt
 put-again room at [] z h = refl
 put-again room at (a ∷ y) [] h = absurd (omega arith)
 put-again room at (a ∷ y) (b ∷ z) h =
-    ap (λ (r : List ℕ). put r (suc at) z) (set-before (set room at a) at (suc at) b y (omega arith) ∙ ap (λ (r : List ℕ). put r (suc at) y) (set-set room at a b))
+    ap (λ (r : List ℕ). put r (suc at) z)
+    (set-before (set room at a) at (suc at) b y (omega arith) ∙ ap (λ (r : List ℕ). put r (suc at) y) (set-set room at a b))
     ∙ put-again (set room at b) (suc at) y z (omega arith)
 
 -- the second part of a text put over
@@ -43,5 +44,8 @@ module _ {room room₁ : List ℕ} {at p : ℕ} {x : List ℕ} (f : Spills room 
 -- a text that spills nothing
 pub spills-none : {room room₁ x : List ℕ} {at p : ℕ} → Puts room at x room₁ p → Spills room at x room₁ p
 spills-none {room} {room₁} {x} {at} {p} f =
-    let nothing : x ++ [] ≡ x = append-nil x in
-    record { over = []; few = omega arith; puts = record { holds = f .holds ∙ ap (put room at) (sym nothing); next = omega (arith, f .next, ap length nothing); within = omega (arith, f .within) } }
+    let nothing : x ++ [] ≡ x = append-nil x in record {
+      over = [];
+      few = omega arith;
+      puts = record { holds = f .holds ∙ ap (put room at) (sym nothing); next = omega (arith, f .next, ap length nothing); within = omega (arith, f .within) };
+    }

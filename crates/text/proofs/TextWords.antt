@@ -1,4 +1,4 @@
--- A number's text as a word: its bytes, and what they are put into a room.
+-- A number's text as a word: its bytes, and what they put into a room.
 use mathlib.Core.List.{List, [], _∷_, _++_, append-assoc}
 use mathlib.Core.Path.{_≡_, refl, sym, ap, _∙_}
 use Prim.Native.Nat.{ℕ, suc, _+_, _-_, _*_, _/_, _%_, _≤_, _<_}
@@ -11,6 +11,7 @@ use Rattle.text.specs.Inner.{put, Puts, Spills, three, fourOf, IsText}
 use Rattle.text.proofs.Digits.{decimal-thousand}
 use Rattle.text.proofs.Puts.{puts-as, puts-length}
 use Rattle.text.proofs.Spilling.{put-over, spill-next, spills-none}
+use Rattle.text.proofs.Widths.{some-number}
 
 pub four-same : {a b c d a′ b′ c′ d′ : ℕ} → a ≡ a′ → b ≡ b′ → c ≡ c′ → d ≡ d′ → a ∷ b ∷ c ∷ d ∷ [] ≡ a′ ∷ b′ ∷ c′ ∷ d′ ∷ []
 four-same e f g h = cc
@@ -50,16 +51,20 @@ four-put room at a b c d h =
     record { holds = rw (e, f, g); next = refl; within = h }
 
 -- a word's four lowest bytes are the text and at most two bytes more
-pub text-spills : {room room′ : List ℕ} {at : ℕ} (n x : ℕ) → IsText n x → n < 1000 → 2 ≤ length (followed n space) → Puts room at (fourOf x) room′ (at + 4)
+pub text-spills : {room room′ : List ℕ} {at : ℕ} (n x : ℕ) → IsText n x → Puts room at (fourOf x) room′ (at + 4)
     → Spills room at (followed n space) room′ (at + x / 72057594037927936)
-text-spills {room} {room′} {at} n x t h two f =
+text-spills {room} {room′} {at} n x t f =
     let text = followed n space in
     let rest = drop (length text) (fourOf x) in
     let whole : fourOf x ≡ text ++ rest = sym (take-append-drop (length text) (fourOf x)) ∙ ap (λ (l : List ℕ). l ++ rest) (t .begins) in
     let size : 4 ≡ length text + length rest = ap length whole ∙ length-append text rest in record {
       over = rest;
-      few = omega arith;
-      puts = record { holds = f .holds ∙ ap (put room at) whole; next = omega (arith, t .size, length-append text rest); within = omega (arith, t .size, f .within) };
+      few = omega (arith, some-number n space);
+      puts = record {
+        holds = f .holds ∙ ap (put room at) whole;
+        next = omega (arith, t .size, length-append text rest);
+        within = omega (arith, t .size, f .within);
+      };
     }
 
 -- three digits and a space, put over the space behind the thousands

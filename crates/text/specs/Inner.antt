@@ -16,6 +16,12 @@ pub record Puts (room : List ℕ) (at : ℕ) (text room′ : List ℕ) (after : 
   pub next : after ≡ at + length text
   pub within : after ≤ length room
 
+-- the same, but up to two bytes behind the text are put over
+pub record Spills (room : List ℕ) (at : ℕ) (text room′ : List ℕ) (after : ℕ) : Type 0 where
+  pub over : List ℕ
+  pub few : length over ≤ 2
+  pub puts : Puts room at (text ++ over) room′ (after + length over)
+
 -- the two digits of a number below 100, a `0` in front where it is below 10
 abbrev pub pair : ℕ → List ℕ
 pair n = digit (n / 10) ∷ digit (n % 10) ∷ []
@@ -23,12 +29,6 @@ pair n = digit (n / 10) ∷ digit (n % 10) ∷ []
 -- the three digits of a number below 1,000, likewise
 abbrev pub three : ℕ → List ℕ
 three n = digit (n / 100) ∷ pair (n % 100)
-
--- the same, but up to two bytes behind the text are put over
-pub record Spills (room : List ℕ) (at : ℕ) (text room′ : List ℕ) (after : ℕ) : Type 0 where
-  pub over : List ℕ
-  pub few : length over ≤ 2
-  pub puts : Puts room at (text ++ over) room′ (after + length over)
 
 -- the four lowest bytes of a word, the lowest first
 abbrev pub fourOf : ℕ → List ℕ

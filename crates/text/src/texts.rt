@@ -14,7 +14,7 @@ fn word(a: u64, b: u64, c: u64, d: u64) -> u64
     a + 256 * b + 65536 * c + 16777216 * d
 }
 
-// A number's text as a word.
+// A number's text as a word, its two halves of four bytes each.
 fn text_of(n: u64) -> u64
     requires { ⌜ n < 1000 ⌝ }
     ensures { λ x. ⌜ IsText n x ⌝ }
@@ -54,7 +54,7 @@ fn put_word(room: &mut [u8], at: usize, x: u64)
     room[at + 3] = (x / 16777216 % 256) as u8;
 }
 
-// Puts a number below 1,000 and a space: four bytes, of which two may stand behind the place that is given.
+// Puts a number below 1,000 and a space: four bytes, of which two may stand behind the place that is given. The word's highest byte tells that place.
 fn put_below(t: &[u64; 1000], room: &mut [u8], at: usize, n: u16) -> usize
     requires { ⌜ Texts (now t) × (n < 1000) × (at + 4 ≤ length (now room)) ⌝ }
     ensures { λ after. ⌜ Spills (now (room .entry)) at (followed n space) (now (room .exit)) after ⌝ }

@@ -12,7 +12,9 @@ use Rattle.lines.proofs.lines_of_numbers.Tie as tie
 -- how many lines were asked for
 asked : (c : tie.After-put-lines) → (let l = c .before .before .before .before .before in let a = l .before .before .before .before .args in
     l .least2 .result ≡ fitting (a .count) (a .numbers .now) (a .room .now))
-asked c = let l = c .before .before .before .before .before in l .least2 .ensures ∙ ap (min (l .before .before .before .before .args .count)) (l .before .least .ensures)
+asked c =
+    let l = c .before .before .before .before .before in
+    l .least2 .ensures ∙ ap (min (l .before .before .before .before .args .count)) (l .before .least .ensures)
 
 put-lines-requires : tie.Need-put-lines-requires
 put-lines-requires c κs = (c .before .before .fill .ensures, omega arith, omega arith)

@@ -19,7 +19,10 @@ put-line-requires c κs =
     (l .before .before .before .pre .0, omega (arith, puts-length (l .loop .inv .0 .puts)))
 
 loop-again : tie.Need-loop-again Inv-loop μ-loop
-loop-again c = (line-more (λ (k : ℕ). omega (arith, c .before .before .before .shared-slice-known6 .given k)) (c .before .before .before .before .before .before .before .before .before .before .loop .inv .0) (c .before .before .put-line .ensures), omega arith)
+loop-again c =
+    let r = c .before .before .before in
+    let l = r .before .before .before .before .before .before .before in
+    (line-more (λ (k : ℕ). omega (arith, r .shared-slice-known6 .given k)) (l .loop .inv .0) (c .before .before .put-line .ensures), omega arith)
 
 same-length : tie.Need-same-length Inv-loop μ-loop
 same-length c = puts-length (c .before .loop .inv .0 .puts)
@@ -30,4 +33,7 @@ returns c = let e : c .before .loop .i ≡ c .before .before .before .before .ar
 pub put-lines-spec : {M : Type 1} → statement M
 put-lines-spec =
     tie.close
-    (tie.spec Inv-loop μ-loop (λ c. (lines-start _ _, omega arith)) (λ c. omega arith) (λ c. omega arith) (λ c. omega arith) (λ c. omega arith) (λ c. omega arith) (λ c. omega arith) (λ c. omega arith) (λ c. omega arith) (λ c. omega arith) (λ c. omega arith) (λ c. omega arith) (λ c. omega arith) (λ c. omega arith) (λ c. omega arith) (λ c. omega arith) put-line-requires (λ c. omega arith) (λ c. omega arith) loop-again same-length returns)
+    (tie.spec Inv-loop μ-loop (λ c. (lines-start _ _, omega arith)) (λ c. omega arith) (λ c. omega arith) (λ c. omega arith)
+    (λ c. omega arith) (λ c. omega arith) (λ c. omega arith) (λ c. omega arith) (λ c. omega arith) (λ c. omega arith) (λ c. omega arith)
+    (λ c. omega arith) (λ c. omega arith) (λ c. omega arith) (λ c. omega arith) (λ c. omega arith) put-line-requires (λ c. omega arith)
+    (λ c. omega arith) loop-again same-length returns)

@@ -3,7 +3,7 @@ use borrow.Author.Needs.{needs}
 use native.Mathlib.Omega.{arith}
 use Rattle.text.specs.Numbers.{space}
 use Rattle.text.proofs.TextWords.{text-spills}
-use Rattle.text.proofs.Widths.{some-number, small-number}
+use Rattle.text.proofs.Widths.{small-number}
 use Rattle.text.proofs.texts.put_below.Statement.{statement}
 use Rattle.text.proofs.texts.put_below.Tie as tie
 
@@ -17,7 +17,7 @@ returns : tie.Need-returns
 returns c =
     let s = c .before .before .before .before .before .before in
     let n = s .args .n in
-    text-spills n _ (s .pre .0 .each n (s .pre .1)) (s .pre .1) (some-number n space) (c .before .before .put-word .ensures)
+    text-spills n _ (s .pre .0 .each n (s .pre .1)) (c .before .before .put-word .ensures)
 
 pub put-below-spec : {M : Type 1} → statement M
 put-below-spec =

@@ -34,7 +34,9 @@ returns-2 c =
     let s = b .before .before .before .before in
     let n = s .args .n in
     let e = b .put-below2 .ensures in
-    (thousand-more n _ (b .before .before .if1 .left) e (w .put-word .ensures) (s .pre .0 .each (n % 1000) (omega arith) .padded), omega (arith, spill-next e, small-number 1 (n / 1000) space (omega arith)))
+    let padded = s .pre .0 .each (n % 1000) (omega arith) .padded in
+    let short = small-number 1 (n / 1000) space (omega arith) in
+    (thousand-more n _ (b .before .before .if1 .left) e (w .put-word .ensures) padded, omega (arith, spill-next e, short))
 
 same-length-2 : tie.Need-same-length-2
 same-length-2 c = puts-length (returns-2 c .0 .puts)
