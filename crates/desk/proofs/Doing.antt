@@ -27,13 +27,11 @@ use Rattle.table.specs.declared.Table.{Table}
 use Rattle.table.specs.Words.{turned}
 use Rattle.desk.specs.declared.Outcome.{Outcome}
 use Rattle.desk.specs.declared.Outcome.the-variants.{CarriedOut, Refused}
-use Rattle.desk.specs.declared.Done.{Done}
-use Rattle.desk.specs.declared.Next.{Next}
 use Rattle.desk.specs.declared.Carried.{Carried}
 use Rattle.desk.specs.Answers.{nobody, ofRecord, answerOf}
 use Rattle.desk.specs.Inner.{outcomeBy}
 use Rattle.desk.specs.Over.{overDone}
-use Rattle.desk.specs.Steps.{doneBy, stepOf, onFound, nextOf}
+use Rattle.desk.specs.Steps.{Next, Done, doneBy, stepOf, onFound, nextOf}
 
 pub step-by : (b : Book) (r : Record) (c : Change) → actOf b r ≡ c → doneBy b r c ≡ stepOf b r
 unfolding stepOf

@@ -10,12 +10,22 @@ use Rattle.dayfile.specs.declared.Found.{Found}
 use Rattle.dayfile.specs.declared.Found.the-variants.{End as NoBytes, Cut as TooFew, Whole}
 use Rattle.dayfile.specs.Reading.{foundAt, numberFound}
 use Rattle.desk.specs.declared.Outcome.the-variants.{Refused, End}
-use Rattle.desk.specs.declared.Done.{Done}
-use Rattle.desk.specs.declared.Next.{Next}
+use Rattle.desk.specs.declared.Answer.{Answer}
 use Rattle.rules.specs.declared.Change.{Change}
 use Rattle.rules.specs.Effects.{bookAfter}
 use Rattle.rules.specs.Numbered.{verdictOf, givenOf, actOf}
 use Rattle.desk.specs.Answers.{nobody, answerOf}
+
+-- a record's answer, and the book after it
+pub record Done : Type 0 where
+  pub answer : Answer
+  pub book : Book
+
+-- the same with the place after it
+pub record Next : Type 0 where
+  pub answer : Answer
+  pub book : Book
+  pub place : ℕ
 
 -- the answer and the book after a change that the record makes
 abbrev pub doneBy : Book → Record → Change → Done

@@ -9,7 +9,6 @@ ghost use Rattle.desk.specs.Inner.{outcomeBy};
 ghost use Rattle.table.specs.Words.{turned, turnedBack};
 use dayfile::Found;
 pub use dayfile::Record;
-use rows::Book;
 pub use rows::Kinds;
 use steps::entry::enter;
 use steps::entry::leave;
@@ -28,18 +27,6 @@ pub struct Answer {
     pub code: u8,
     pub account: u16,
     pub outcome: Outcome,
-}
-
-// What the definitions speak of: the old order's book after a record.
-pub struct Done {
-    pub answer: Answer,
-    pub book: Book,
-}
-
-pub struct Next {
-    pub answer: Answer,
-    pub book: Book,
-    pub place: usize,
 }
 
 // The answer to a record, and the table after it.

@@ -13,9 +13,8 @@ use Rattle.numbers.specs.Bytes.{Bytes}
 use Rattle.numbers.proofs.Numbers.{bytes-take, bytes-drop}
 use Rattle.rows.specs.declared.Book.{Book}
 use Rattle.book.specs.Sound.{soundB}
-use Rattle.records.specs.declared.Ran.{Ran}
 use Rattle.records.specs.declared.Closing.the-variants.{Unsound}
-use Rattle.records.specs.Runs.{endedWith, ranOf}
+use Rattle.records.specs.Runs.{Ran, endedWith, ranOf}
 use Rattle.records.proofs.NumbersPut.{ran-unsound}
 use Rattle.records.proofs.Stops.{Stopped}
 use Rattle.records.specs.LineNumbers.{answersOf}

@@ -24,8 +24,7 @@ use Rattle.desk.specs.Answers.{carriedIn}
 use Rattle.desk.specs.Steps.{stepOf}
 use Rattle.records.specs.declared.Closing.{Closing}
 use Rattle.records.specs.declared.Closing.the-variants.{End, Cut, Long, Unsound}
-use Rattle.records.specs.declared.Ran.{Ran}
-use Rattle.records.specs.Runs.{stopped, onward, runOf, ranOf, onFrom}
+use Rattle.records.specs.Runs.{Ran, stopped, onward, runOf, ranOf, onFrom}
 use Rattle.records.specs.LineNumbers.{answering, answersOf}
 use Rattle.records.proofs.Stops.{run-stops}
 use Rattle.records.proofs.NumbersPut.{ran-sound}

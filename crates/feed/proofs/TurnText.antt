@@ -10,8 +10,7 @@ use lib.ListN.{length}
 use Rattle.sums.specs.Choice.{pick}
 use Rattle.sums.proofs.Choices.{pick-yes}
 use Rattle.rows.specs.declared.Book.{Book}
-use Rattle.records.specs.declared.Ran.{Ran}
-use Rattle.records.specs.Runs.{runOf}
+use Rattle.records.specs.Runs.{Ran, runOf}
 use Rattle.records.specs.LineNumbers.{answersOf}
 use Rattle.records.specs.Inner.{putNumbersFrom}
 use Rattle.records.proofs.SoundRun.{run-counts}

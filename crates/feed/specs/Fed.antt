@@ -11,8 +11,7 @@ use Rattle.rows.specs.Rows.{freshBook}
 use Rattle.table.specs.Words.{turned}
 use Rattle.book.specs.Sound.{soundB}
 use Rattle.records.specs.declared.Closing.the-variants.{End}
-use Rattle.records.specs.declared.Ran.{Ran}
-use Rattle.records.specs.Runs.{ranOf}
+use Rattle.records.specs.Runs.{Ran, ranOf}
 use Rattle.lines.specs.Texts.{textOf}
 use Rattle.feed.specs.declared.Day.{Day}
 

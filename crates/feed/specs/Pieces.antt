@@ -7,8 +7,7 @@ use Rattle.sums.specs.Choice.{pick}
 use Rattle.rows.specs.declared.Book.{Book}
 use Rattle.book.specs.Sound.{soundB}
 use Rattle.table.specs.Words.{turned}
-use Rattle.records.specs.declared.Ran.{Ran}
-use Rattle.records.specs.Runs.{ranOf}
+use Rattle.records.specs.Runs.{Ran, ranOf}
 use Rattle.records.specs.LineNumbers.{answersOf}
 use Rattle.lines.specs.Lines.{linesOf}
 use Rattle.feed.specs.declared.Day.{Day}

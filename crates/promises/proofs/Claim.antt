@@ -31,9 +31,8 @@ use Rattle.dayfile.specs.Reading.{got, past, recordOf, foundFrom, foundAt, size
 use Rattle.rules.specs.Effects.{amended}
 use Rattle.rules.proofs.WhatIsBeside.{refusalBy, changeBy}
 use Rattle.desk.specs.declared.Outcome.the-variants.{Refused, End}
-use Rattle.desk.specs.declared.Next.{Next}
 use Rattle.desk.specs.Answers.{nobody, refusalIn}
-use Rattle.desk.specs.Steps.{stepOf, onFound, nextOf}
+use Rattle.desk.specs.Steps.{Next, stepOf, onFound, nextOf}
 use Rattle.desk.proofs.Doing.{sound-next}
 use Rattle.records.proofs.SoundRun.{step-sound}
 use Rattle.closeout.specs.Round.{fromTM, askedOfCM, fromCM, unpaid}

@@ -15,8 +15,7 @@ use Rattle.book.specs.Sound.{soundB}
 use Rattle.book.specs.Facts.{Sound}
 use Rattle.book.proofs.SoundTest.{sound→, sound←}
 use Rattle.records.specs.declared.Closing.the-variants.{End, Long, Unsound}
-use Rattle.records.specs.declared.Ran.{Ran}
-use Rattle.records.specs.Runs.{ranOf, onFrom}
+use Rattle.records.specs.Runs.{Ran, ranOf, onFrom}
 use Rattle.records.specs.LineNumbers.{answersOf}
 use Rattle.records.proofs.NumbersPut.{ran-unsound}
 use Rattle.records.proofs.SoundRun.{ran-keeps}

@@ -21,8 +21,7 @@ use Rattle.desk.specs.declared.Outcome.the-variants.{CarriedOut, Opened, Refuse
 use Rattle.desk.specs.Answers.{carriedIn, refusalIn}
 use Rattle.desk.specs.Steps.{stepOf}
 use Rattle.desk.proofs.Effect.{answer-number}
-use Rattle.records.specs.declared.Ran.{Ran}
-use Rattle.records.specs.Runs.{stopped, onward, runOf, ranOf}
+use Rattle.records.specs.Runs.{Ran, stopped, onward, runOf, ranOf}
 use Rattle.records.proofs.Stops.{run-stops}
 use Rattle.records.proofs.NumbersPut.{ran-sound}
 use Rattle.promises.specs.Sequences.{afterAll}

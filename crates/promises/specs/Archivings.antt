@@ -11,8 +11,8 @@ use Rattle.dayfile.specs.declared.Record.{Record}
 use Rattle.desk.specs.declared.Answer.{Answer}
 use Rattle.desk.specs.Answers.{refusalIn}
 use Rattle.desk.specs.Steps.{stepOf}
-use Rattle.records.specs.declared.Ran.{Ran}
 use Rattle.thinned.specs.Given.{Event, carry, archive}
+use Rattle.records.specs.Runs.{Ran}
 
 -- c is b but for archived rows: "Every standing .. is the one before it", by number; and each live account's row is the one that it was, its TM's place that
 -- of the row which has its TM's number

@@ -19,8 +19,7 @@ use Rattle.dayfile.proofs.Places.{end-at}
 use Rattle.desk.specs.Answers.{carriedIn}
 use Rattle.desk.specs.Steps.{stepOf}
 use Rattle.records.specs.declared.Closing.the-variants.{End, Long, Unsound}
-use Rattle.records.specs.declared.Ran.{Ran}
-use Rattle.records.specs.Runs.{endedWith, stopped, onward, runOf, ranOf, onFrom}
+use Rattle.records.specs.Runs.{Ran, endedWith, stopped, onward, runOf, ranOf, onFrom}
 use Rattle.records.proofs.SoundRun.{run-sound}
 use Rattle.records.proofs.Stops.{run-stops, ran-stops, ran-enough}
 use Rattle.records.proofs.NumbersPut.{ran-sound, ran-unsound}

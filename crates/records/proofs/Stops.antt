@@ -20,8 +20,7 @@ use Rattle.desk.specs.Answers.{carriedIn}
 use Rattle.desk.specs.Steps.{stepOf}
 use Rattle.records.specs.declared.Closing.{Closing}
 use Rattle.records.specs.declared.Closing.the-variants.{End, Cut, Long, Unsound}
-use Rattle.records.specs.declared.Ran.{Ran}
-use Rattle.records.specs.Runs.{endedWith, stopped, onward, runOf, ranOf}
+use Rattle.records.specs.Runs.{Ran, endedWith, stopped, onward, runOf, ranOf}
 use Rattle.records.proofs.NumbersPut.{ran-sound, ran-unsound}
 
 -- two closing words that differ

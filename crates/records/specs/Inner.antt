@@ -10,9 +10,9 @@ use Rattle.dayfile.specs.declared.Found.{Found}
 use Rattle.dayfile.specs.declared.Found.the-variants.{End as NoBytes, Cut as TooFew, Whole}
 use Rattle.dayfile.specs.Reading.{foundAt}
 use Rattle.desk.specs.Steps.{stepOf}
-use Rattle.records.specs.declared.Ran.{Ran}
 use Rattle.records.specs.declared.Went.{Went}
 use Rattle.records.specs.LineNumbers.{numbersOfLine}
+use Rattle.records.specs.Runs.{Ran}
 
 -- the room with the numbers of the record that is number k put in
 abbrev pub putLineNumbers : List ℕ → ℕ → List ℕ → List ℕ

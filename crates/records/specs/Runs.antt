@@ -11,10 +11,16 @@ use Rattle.desk.specs.Answers.{carriedIn}
 use Rattle.desk.specs.Steps.{stepOf}
 use Rattle.records.specs.declared.Closing.{Closing}
 use Rattle.records.specs.declared.Closing.the-variants.{End, Cut, Long, Unsound}
-use Rattle.records.specs.declared.Ran.{Ran}
 
 -- "the book after them, the place reached (after the last record read), the closing word .. and two counts: records read,
 -- and those of them with refusal 0"
+pub record Ran : Type 0 where
+  pub book : Book
+  pub place : ℕ
+  pub closing : Closing
+  pub read : ℕ
+  pub done : ℕ
+
 abbrev pub endedWith : Closing → Book → ℕ → ℕ → ℕ → Ran
 endedWith word b place read done = record { book = b; place = place; closing = word; read = read; done = done }
 

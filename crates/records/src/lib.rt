@@ -11,7 +11,6 @@ ghost use Rattle.records.specs.Runs.{runOf};
 ghost use Rattle.records.specs.Inner.{putLineNumbers, putNumbersFrom, ranIn};
 use dayfile::Found;
 use dayfile::Record;
-use rows::Book;
 use steps::At;
 use steps::Gone;
 use steps::on;
@@ -23,15 +22,6 @@ pub enum Closing {
     Cut,
     Long,
     Unsound,
-}
-
-// What the definitions speak of: the old order's book after the records.
-pub struct Ran {
-    pub book: Book,
-    pub place: usize,
-    pub closing: Closing,
-    pub read: u64,
-    pub done: u64,
 }
 
 // What the records came to beside the arrays: where the book stands, the place reached, why they stopped, and the two counts.

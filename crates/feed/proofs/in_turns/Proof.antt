@@ -12,7 +12,6 @@ use Rattle.table.specs.declared.Table.{Table}
 use Rattle.table.specs.Words.{marksOf, marksFrom, turnedBack}
 use Rattle.book.proofs.SoundTest.{sound←}
 use Rattle.steps.specs.Steps.{bookAt, Going}
-use Rattle.records.specs.declared.Ran.{Ran}
 use Rattle.records.specs.Inner.{ranIn}
 use Rattle.records.proofs.NumbersPut.{ran-sound}
 use Rattle.streams.proofs.Taken.{all-taken}
@@ -20,6 +19,7 @@ use Rattle.feed.proofs.TurnText.{same-where}
 use Rattle.feed.proofs.Feeding.{Feeding, Piece, Told, came-over, nothing-read, no-day-came, read-upto, last-turn-came, turn-fed, turn-reads-some, place-within, read-within, done-within}
 use Rattle.feed.proofs.in_turns.Statement.{statement}
 use Rattle.feed.proofs.in_turns.Tie as tie
+use Rattle.records.specs.Runs.{Ran}
 
 abbrev Inv-loop : tie.InvT-loop
 Inv-loop program printing space₀ numbers₀ text₀ words at₀ sort₀ live₀ tm₀ amounts₀ kept₀ modes₀ needs₀ accounts₀ excess₀ was rest₀ read₀ done₀ printed₀ ended₀ space numbers text at sort live tm amounts kept modes needs accounts excess rest read done printed ended =

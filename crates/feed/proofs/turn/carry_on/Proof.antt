@@ -2,10 +2,10 @@
 use mathlib.Core.Path.{ap, _∙_}
 use native.Mathlib.Omega.{arith}
 use borrow.Author.Needs.{needs}
-use Rattle.records.specs.declared.Ran.{Ran}
 use Rattle.feed.proofs.TurnText.{with-limit, few-read, lines-of-turn}
 use Rattle.feed.proofs.turn.carry_on.Statement.{statement}
 use Rattle.feed.proofs.turn.carry_on.Tie as tie
+use Rattle.records.specs.Runs.{Ran}
 
 -- THE PLACES, each named once.
 abbrev called : tie.After-at-once → tie.Start
