@@ -1,44 +1,41 @@
 -- What each code's function answers is the table's answer for that code.
 use mathlib.Core.List.{List}
 use mathlib.Core.Logic.{inl, inr}
-use mathlib.Core.Path.{_≡_, ap, _∙_}
-use mathlib.Core.Bool.{Bool, true}
+use mathlib.Core.Path.{_≡_, refl, sym, ap, _∙_}
+use mathlib.Core.Bool.{Bool, true, false}
 use Prim.Native.Nat.{ℕ, _≤_}
 use native.Mathlib.Omega.{arith}
+use lib.Dec.{leb}
 use lib.ListN.{getD}
-use borrow.Author.Tests.{eq-eqb}
+use borrow.Author.Tests.{eq-eqb, leb-true}
 use Rattle.sums.specs.Table.{first}
-use Rattle.sums.proofs.Choices.{pick-yes, pick-no}
+use Rattle.sums.proofs.Choices.{and-split, pick-yes, pick-no}
 use Rattle.rows.specs.declared.Row.{Row}
 use Rattle.rows.specs.Rows.{ceiling}
 use Rattle.rows.specs.View.{blockedOf}
 use Rattle.dayfile.specs.declared.Record.{Record}
-use Rattle.dayfile.specs.Records.{knownCode}
 use Rattle.rules.proofs.Amending.{by-receive, by-hand-back, by-allocate, by-release, by-pledge, by-unpledge, by-margin, by-set-pledged, by-set-margin, by-retire}
-use Rattle.rules.proofs.Codes.{Code, openTM, openClient, openCP, receive, handBack, allocate, release, pledge, unpledge, margin, retire, setPledged, setMargin, known-code-cases}
 use Rattle.table.specs.Words.{Marks, rowIn}
 use Rattle.codes.specs.Own.{besideIn, needPassesIn, leavesBelow, releaseLines, unpledgeLines, marginLines, Answered, Receives, HandsBack, Allocates, Releases, Pledges, Unpledges, SetsMargin, SetsPledged, RevisesMargin, Retires}
+use Rattle.codes.specs.Asking.{namesKinds, namesOne, namesMargin, amountOf}
+use Rattle.codes.proofs.Asking.{one-cases}
 use Rattle.codes.proofs.Lines.{receive-own, left-own, release-own, pledge-own, unpledge-own, margin-own, none-own, retire-own}
 use Rattle.codes.proofs.Made.{as-amended}
 
 -- the last code is what is left
-pub last-code : (n : ℕ) → knownCode n ≡ true → 4 ≤ n → (n ≡ 4 → ⊥) → (n ≡ 5 → ⊥) → (n ≡ 6 → ⊥) → (n ≡ 7 → ⊥) → (n ≡ 8 → ⊥) → (n ≡ 9 → ⊥) → (n ≡ 10 → ⊥) → (n ≡ 12 → ⊥) → (n ≡ 13 → ⊥) → n ≡ 11
-last-code n k l n4 n5 n6 n7 n8 n9 n10 n12 n13 = by (known-code-cases n k)
-  where
-    by : Code n → n ≡ 11
-    by (openTM e) = absurd (omega (arith, l, e))
-    by (openClient e) = absurd (omega (arith, l, e))
-    by (openCP e) = absurd (omega (arith, l, e))
-    by (receive e) = absurd (n4 e)
-    by (handBack e) = absurd (n5 e)
-    by (allocate e) = absurd (n6 e)
-    by (release e) = absurd (n7 e)
-    by (pledge e) = absurd (n8 e)
-    by (unpledge e) = absurd (n9 e)
-    by (margin e) = absurd (n10 e)
-    by (retire e) = e
-    by (setPledged e) = absurd (n12 e)
-    by (setMargin e) = absurd (n13 e)
+pub last-kinds : (n : ℕ) → namesKinds n ≡ true → (n ≡ 4 → ⊥) → (n ≡ 5 → ⊥) → (n ≡ 6 → ⊥) → n ≡ 7
+last-kinds n h n4 n5 n6 = let s = and-split (leb 4 n) (leb n 7) h in omega (arith, leb-true 4 n (s .0), leb-true n 7 (s .1))
+
+pub last-one : (n : ℕ) → namesOne n ≡ true → (n ≡ 8 → ⊥) → (n ≡ 9 → ⊥) → (n ≡ 10 → ⊥) → (n ≡ 12 → ⊥) → n ≡ 13
+last-one n h = one-cases (λ x. (x ≡ 8 → ⊥) → (x ≡ 9 → ⊥) → (x ≡ 10 → ⊥) → (x ≡ 12 → ⊥) → x ≡ 13) n h
+    (λ a b c d. absurd (a refl)) (λ a b c d. absurd (b refl)) (λ a b c d. absurd (c refl)) (λ a b c d. absurd (d refl)) (λ a b c d. refl)
+
+-- the one amount
+pub pledged-is : (r : Record) → namesMargin (r .code) ≡ false → r .pledged ≡ amountOf r
+pledged-is r e = sym (pick-no _ _ _ e)
+
+pub margin-is : (r : Record) → namesMargin (r .code) ≡ true → r .margin ≡ amountOf r
+margin-is r e = sym (pick-yes _ _ _ e)
 
 module _ (count : ℕ) (m : Marks) (w under : List ℕ) (on : Bool) (r : Record) where
   abbrev row : Row

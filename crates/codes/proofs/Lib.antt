@@ -1,3 +1,5 @@
 pub mod Lines
 pub mod Made
 pub mod ByCode
+pub mod Asking
+pub mod Heading

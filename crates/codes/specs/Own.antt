@@ -1,5 +1,5 @@
 -- What each code's function does with the words: the lines of the table of refusals that it can meet, and the words that it puts. Only for internal functions.
-use mathlib.Core.Bool.{Bool, true, false, not, _&&_, _||_}
+use mathlib.Core.Bool.{Bool, false, not, _&&_, _||_}
 use mathlib.Core.List.{List, [], _∷_}
 use mathlib.Core.Path.{_≡_}
 use Prim.Native.Nat.{ℕ, _+_, _-_, _≤_, _<_}
@@ -17,11 +17,10 @@ use Rattle.rows.specs.Facts.{InRange}
 use Rattle.rows.specs.View.{blockedOf}
 use Rattle.rows.specs.DeemedUnder.{atMargin, deemedUnderTM, deemedUnderCM, deemedUnderBy}
 use Rattle.dayfile.specs.declared.Record.{Record}
-use Rattle.dayfile.specs.Records.{knownCode}
 use Rattle.rules.specs.declared.Beside.{Beside}
 use Rattle.rules.specs.Refusals.{noneLeft, rowLeft, before8, from8}
 use Rattle.rules.specs.Effects.{amended}
-use Rattle.rules.specs.Inner.{AmountsIn, topMargin, besideBy}
+use Rattle.rules.specs.Inner.{topMargin, besideBy}
 use Rattle.table.specs.Words.{Marks, rowIn, wordAt}
 use Rattle.table.specs.Facts.{Sized}
 use Rattle.table.specs.Inner.{Anew}
@@ -178,11 +177,3 @@ Retires m w count i x n = Answers m w i (withLive (rowIn m w i) false) (retireLi
 abbrev pub Answered : ℕ → Marks → List ℕ → List ℕ → Bool → Record → ℕ → Marks → List ℕ → Type 0
 Answered count m w under on r =
     Answers m w (r .account) (amended (rowIn m w (r .account)) r) (from8 (rowIn m w (r .account)) count 0 (besideIn count m w under on r) r)
-
--- such a record
-pub record Amending (count : ℕ) (m : Marks) (w under : List ℕ) (r : Record) : Type 0 where
-  pub held : Held m w under (r .account)
-  pub amounts : AmountsIn r
-  pub low : 4 ≤ r .code
-  pub known : knownCode (r .code) ≡ true
-  pub most : count ≤ 256

@@ -344,7 +344,7 @@ fn has_live_client(
 }
 
 // 11
-pub(crate) fn retire(
+pub fn retire(
     sort: &[u8; 256],
     live: &mut [bool; 256],
     tm: &[u16; 256],

@@ -1,11 +1,11 @@
-mod Apart
+pub mod Apart
 pub mod Marks
 pub mod Amounts
-mod Looking
+pub mod Looking
 mod Rooms
 mod Bodies
 pub mod Good
-mod Judging
+pub mod Judging
 pub mod Lengths
 pub mod Places
 pub mod Growing

@@ -11,6 +11,9 @@ use Rattle.dayfile.specs.declared.Found.the-variants.{Whole}
 use Rattle.dayfile.specs.Reading.{foundAt}
 use Rattle.rules.specs.Effects.{changeOf}
 use Rattle.rules.specs.Numbered.{placed, actOf}
+use Rattle.codes.specs.declared.asked.Head.{Head}
+use Rattle.codes.specs.Asking.{recordAt, Heads}
+use Rattle.codes.proofs.Heading.{code-read}
 use Rattle.records.specs.Inner.{putLineNumbers}
 use Rattle.records.proofs.Turning.{Loop, carried-most, turn-one-more}
 use Rattle.table.specs.Words.{Marks}
@@ -35,3 +38,9 @@ turn-on s most numbered room₀ b₀ place₀ read₀ done₀ room at m w was mo
 pub step-given-few : {at : At} {m : Marks} {w : List ℕ} {was modes : List Bool} {needs numbers : List ℕ} {r : Record} {x : Gone} {n : Marks} {u kept : List ℕ} {after : List Bool} {needs′ numbers′ excess : List ℕ}
     → Stepped at m w was modes needs numbers r x n u kept after needs′ numbers′ excess → x .carried ≤ 1
 step-given-few {at} {m} {w} {was} {modes} {needs} {numbers} {r} h = omega (arith, h .carried, carried-most (changeOf (bookAt at m w was modes needs numbers) r))
+
+-- the line's numbers are the record's
+pub line-read : {s : List ℕ} {place : ℕ} {h : Head} → Heads s place h → (numbered : Bool) (room : List ℕ) (read refusal given : ℕ)
+    → pick numbered (putLineNumbers room read (h .serial ∷ h .code ∷ h .account ∷ refusal ∷ given ∷ [])) room
+    ≡ pick numbered (putLineNumbers room read (recordAt s place h .serial ∷ recordAt s place h .code ∷ recordAt s place h .account ∷ refusal ∷ given ∷ [])) room
+line-read {s} {place} {h} g numbered room read refusal given = rw (code-read s place h, ← (g .serial), ← (g .account))

@@ -9,12 +9,13 @@ ghost use Rattle.table.specs.Words.{marksFrom};
 ghost use Rattle.steps.specs.Steps.{bookAt, Going};
 ghost use Rattle.records.specs.Runs.{runOf};
 ghost use Rattle.records.specs.Inner.{putLineNumbers, putNumbersFrom, ranIn};
-use dayfile::Found;
-use dayfile::Record;
+use codes::asked::Head;
+use codes::asked::Headed;
+use codes::asked::head_at;
 use steps::At;
 use steps::Gone;
 use steps::on;
-use steps::step;
+use steps::step_read;
 
 // Why the records stopped: at the end, at a cut, at the stated number, or since the book isn't sound.
 pub enum Closing {
@@ -34,14 +35,14 @@ pub struct Went {
 }
 
 // Puts the numbers of the record that is number k.
-fn put_line_numbers(room: &mut [u16], k: u64, r: Record, gone: Gone)
+fn put_line_numbers(room: &mut [u16], k: u64, h: Head, gone: Gone)
     requires { ⌜ 5 * (k + 1) ≤ length (now room) ⌝ }
-    ensures { λ _. ⌜ now (room .exit) ≡ putLineNumbers (now (room .entry)) k (r .serial ∷ r .code ∷ r .account ∷ gone .refusal ∷ gone .given ∷ []) ⌝ }
+    ensures { λ _. ⌜ now (room .exit) ≡ putLineNumbers (now (room .entry)) k (h .serial ∷ h .code ∷ h .account ∷ gone .refusal ∷ gone .given ∷ []) ⌝ }
 {
     let at = 5 * k as usize;
-    room[at] = r.serial;
-    room[at + 1] = r.code as u16;
-    room[at + 2] = r.account;
+    room[at] = h.serial;
+    room[at + 1] = h.code as u16;
+    room[at + 2] = h.account;
     room[at + 3] = gone.refusal as u16;
     room[at + 4] = gone.given;
 }
@@ -73,22 +74,22 @@ pub fn go(
     let mut read: u64 = 0;
     let mut done: u64 = 0;
     let closing = loop {
-        let found = dayfile::found_at(piece, place);
+        let found = head_at(piece, place);
         match found {
-            Found::End => {
+            Headed::End => {
                 break Closing::End;
             }
-            Found::Cut => {
+            Headed::Cut => {
                 if most <= read {
                     break Closing::Long;
                 }
                 break Closing::Cut;
             }
-            Found::Whole(r, next) => {
+            Headed::Whole(h, next) => {
                 if most <= read {
                     break Closing::Long;
                 }
-                let gone = step(
+                let gone = step_read(
                     sort,
                     live,
                     tm,
@@ -100,10 +101,12 @@ pub fn go(
                     excess,
                     was,
                     at,
-                    r,
+                    piece,
+                    place,
+                    h,
                 );
                 if numbered {
-                    put_line_numbers(room, read, r, gone);
+                    put_line_numbers(room, read, h, gone);
                 }
                 at = on(at, gone);
                 place = next;

@@ -12,7 +12,7 @@ use borrow.Author.Tests.{ltb-true, le-ltb, leb-true, le-leb, lt-leb, not-false, 
 use Rattle.sums.specs.Choice.{pick, unlessRefused}
 use Rattle.sums.specs.Sum.{any}
 use Rattle.sums.specs.Table.{_when_, first}
-use Rattle.sums.proofs.Choices.{refused-by, and-split, and-join, test-clash, pick-yes, pick-no}
+use Rattle.sums.proofs.Choices.{refused-by, and-split, and-join, pick-yes, pick-no}
 use Rattle.sums.proofs.Tables.{first-some, first-none, first-fails, first-clear}
 use Rattle.rows.specs.declared.Row.{Row}
 use Rattle.rows.specs.declared.Book.{Book}
@@ -32,7 +32,7 @@ use Rattle.rules.specs.declared.Change.{Change}
 use Rattle.rules.specs.declared.Change.the-variants.{Refuse, Put, Open}
 use Rattle.rules.specs.Refusals.{rowLeft, isOpening, namedRow, besideOf, before8, from8, refusalOf}
 use Rattle.rules.specs.Effects.{amended, effectOf, changeOf, changedBy, nextSerial}
-use Rattle.rules.specs.Inner.{besideBy}
+use Rattle.rules.specs.Inner.{AmountsIn, besideBy}
 use Rattle.rules.proofs.Faults.{amounts-in}
 use Rattle.rules.proofs.WhatIsBeside.{IsBeside, refusalBy, beside-is, refusal-beside}
 use Rattle.rules.proofs.SoundChange.{change-rows}
@@ -41,7 +41,7 @@ use Rattle.table.specs.Words.{Marks, wordAt, rowIn, bookFrom}
 use Rattle.table.proofs.Gathered.{row-in}
 use Rattle.table.specs.Inner.{Anew}
 use Rattle.steps.specs.Steps.{Ready, Decided, stayed, wentOn, goneWith}
-use Rattle.codes.specs.Own.{earlyNumber, aliveIn, clientIn, hasLiveClientIn, deemedUnderIn, besideIn, Held, Answered, Opens, numbersWith, Amending}
+use Rattle.codes.specs.Own.{earlyNumber, aliveIn, clientIn, hasLiveClientIn, deemedUnderIn, besideIn, Held, Answered, Opens, numbersWith}
 use Rattle.codes.proofs.Lines.{open-own, next-aside}
 
 -- ---- which codes open
@@ -52,13 +52,6 @@ which-opening n e = by (ℕ-discrete n 1) (ℕ-discrete n 2)
     by (yes q) s = inl q
     by (no q) (yes s) = inr (inl s)
     by (no q) (no s) = inr (inr (omega (arith, leb-true 1 n (and-split (leb 1 n) (leb n 3) e .0), leb-true n 3 (and-split (leb 1 n) (leb n 3) e .1))))
-
-not-opening : (n : ℕ) → knownCode n ≡ true → (leb 1 n && leb n 3) ≡ false → 4 ≤ n
-not-opening n e f = by (decLt 3 n)
-  where
-    by : Dec (3 < n) → 4 ≤ n
-    by (yes l) = omega arith
-    by (no l) = test-clash (and-join (and-split (leb 1 n) (leb n 13) e .0) (le-leb n 3 (omega arith))) f
 
 serial-picked : (count serial : ℕ) (m : Marks) (w : List ℕ) (modes : List Bool) (needs : List ℕ) (next : ℕ) (numbers : List ℕ) (t : Bool)
     → bookFrom count (pick t serial (nextSerial serial)) m w modes needs next numbers ≡ pick t (bookFrom count serial m w modes needs next numbers) (bookFrom count (nextSerial serial) m w modes needs next numbers)
@@ -194,14 +187,11 @@ module _ (count serial : ℕ) (m : Marks) (w : List ℕ) (modes : List Bool) (ne
       pub code-opens : r .code ≤ 3 → isOpening r ≡ true
       code-opens l = and-join (and-split (leb 1 (r .code)) (leb (r .code) 13) (good-record .known) .0) (le-leb (r .code) 3 l)
 
-      pub ready-amends : (isOpening r ≡ false) → Amending count m w under r
-      ready-amends e = record {
-        held = ready-holds;
-        amounts = amounts-in r good-record;
-        low = not-opening (r .code) (good-record .known) e;
-        known = good-record .known;
-        most = h .sound .most;
-      }
+      pub ready-known : knownCode (r .code) ≡ true
+      ready-known = good-record .known
+
+      pub ready-amounts : AmountsIn r
+      ready-amounts = amounts-in r good-record
 
   -- ---- the record's change
   change-is : (k : ℕ) → refusalOf b r ≡ k → changeOf b r ≡ unlessRefused k (effectOf (namedRow b r) (r .account) r) Refuse

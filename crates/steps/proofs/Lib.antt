@@ -1,4 +1,5 @@
 pub mod Carried
+pub mod Asked
 pub mod Entering
 pub mod Placing
 pub mod LookedAt

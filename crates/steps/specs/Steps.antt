@@ -16,11 +16,13 @@ use Rattle.dayfile.specs.declared.Record.{Record}
 use Rattle.rules.specs.declared.Change.{Change}
 use Rattle.rules.specs.declared.Change.the-variants.{Refuse, Put, Open}
 use Rattle.rules.specs.Effects.{changeOf, changedBy, bookAfter, nextSerial}
+use Rattle.codes.specs.Asking.{askedOf}
 use Rattle.table.specs.declared.Table.{Table}
 use Rattle.table.specs.Words.{Marks, bookFrom}
 use Rattle.table.specs.Facts.{Sized}
 use Rattle.steps.specs.declared.At.{At}
 use Rattle.steps.specs.declared.Gone.{Gone}
+use Rattle.steps.specs.declared.Request.{Request}
 use Rattle.steps.specs.Looks.{Keeps}
 
 -- the words, the modes, the kept needs and the numbers are a sound book's
@@ -106,3 +108,14 @@ pub record Stepped (at : At) (m : Marks) (w : List ℕ) (was modes : List Bool) 
   pub carried : x .carried ≡ carriedShown (changeOf (bookAt at m w was modes needs numbers) r)
   pub book : bookAt (atAfter at x) n u was after needs′ numbers′ ≡ bookAfter (bookAt at m w was modes needs numbers) (r .account) (changeOf (bookAt at m w was modes needs numbers) r)
   pub ready : Going (atAfter at x) n u kept was after needs′ numbers′ excess
+
+-- the record r asks this, its account told by the place of its row, which is live or not, where the serial is due
+pub record Asks (alive : Bool) (serial : ℕ) (q : Request) (r : Record) : Type 0 where
+  pub coded : r .code ≡ q .code
+  pub placed : r .account ≡ q .place
+  pub is : q .asked ≡ askedOf alive serial r
+
+-- some record does
+pub record Asking (alive : Bool) (serial : ℕ) (q : Request) : Type 0 where
+  pub of : Record
+  pub asks : Asks alive serial q of

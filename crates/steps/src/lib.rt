@@ -6,10 +6,18 @@ ghost use lib.ListN.{length};
 ghost use Rattle.rules.specs.Refusals.{isOpening};
 ghost use Rattle.rules.specs.Numbered.{placed};
 ghost use Rattle.table.specs.Words.{marksFrom};
-ghost use Rattle.steps.specs.Steps.{Ready, Decided, modesIn, bookAt, atAfter, Going, Stepped, goneWith};
-use codes::amend;
-use codes::early;
+ghost use Rattle.dayfile.specs.declared.Record.{Record};
+ghost use Rattle.codes.specs.Own.{aliveIn};
+ghost use Rattle.codes.specs.Asking.{Heads, recordAt};
+ghost use Rattle.steps.specs.Steps.{Asks, Asking, Ready, Decided, modesIn, bookAt, atAfter, Going, Stepped, goneWith};
+use codes::amend_kinds;
+use codes::amend_one;
+use codes::asked::Asked;
+use codes::asked::Head;
+use codes::asked::asked_at;
+use codes::asked::asked_of;
 use codes::own::open;
+use codes::own::retire;
 use dayfile::Record;
 use following::follow;
 use following::mode_of;
@@ -39,6 +47,13 @@ pub struct Gone {
     pub next: u32,
 }
 
+// What a record asks of the row at a place, by its code.
+pub struct Request {
+    pub code: u8,
+    pub place: u16,
+    pub asked: Asked,
+}
+
 // The refusal or 0, and the words changed. The mode that counts is the account's in the book before the record (K5).
 fn decide(
     sort: &mut [u8; 256],
@@ -50,30 +65,33 @@ fn decide(
     numbers: &mut [u16; 256],
     was: &[bool; 256],
     at: At,
-    r: Record,
+    q: Request,
 ) -> u8
-    requires { ⌜ Ready (at .count) (at .serial) (marksFrom (now sort) (now live) (now tm)) (now w) (modesIn (at .waiting) (now was) (now modes)) (now needs) (at .next) (now numbers) × (length (now was) ≡ 256) × (length (now modes) ≡ 256) ⌝ }
-    ensures { λ x. ⌜ Decided (at .count) (at .serial) (marksFrom (now (sort .entry)) (now (live .entry)) (now (tm .entry))) (now (w .entry)) (modesIn (at .waiting) (now (was .entry)) (now (modes .entry))) (now (needs .entry)) (at .next) (now (numbers .entry)) r (goneWith x (isOpening r) (at .count) (at .serial) (at .next)) (marksFrom (now (sort .exit)) (now (live .exit)) (now (tm .exit))) (now (w .exit)) (now (numbers .exit)) ⌝ }
+    requires { ⌜ Ready (at .count) (at .serial) (marksFrom (now sort) (now live) (now tm)) (now w) (modesIn (at .waiting) (now was) (now modes)) (now needs) (at .next) (now numbers) × (length (now was) ≡ 256) × (length (now modes) ≡ 256) × Asking (aliveIn (now live) (at .count) (q .place)) (at .serial) q ⌝ }
+    ensures { λ x. ⌜ ((r : Record) → Asks (aliveIn (now (live .entry)) (at .count) (q .place)) (at .serial) q r → Decided (at .count) (at .serial) (marksFrom (now (sort .entry)) (now (live .entry)) (now (tm .entry))) (now (w .entry)) (modesIn (at .waiting) (now (was .entry)) (now (modes .entry))) (now (needs .entry)) (at .next) (now (numbers .entry)) r (goneWith x (isOpening r) (at .count) (at .serial) (at .next)) (marksFrom (now (sort .exit)) (now (live .exit)) (now (tm .exit))) (now (w .exit)) (now (numbers .exit))) ⌝ }
 {
-    let n = early(live, at.count, at.serial, r);
-    if n != 0 {
-        return n;
+    let code = q.code;
+    let a = q.place;
+    let asked = q.asked;
+    match asked {
+        Asked::Refused(n) => n,
+        Asked::Bare => {
+            if code == 11 {
+                return retire(sort, live, tm, w, at.count, a);
+            }
+            open(sort, live, tm, w, numbers, at.count, at.next, code, a)
+        }
+        Asked::One(y) => {
+            let i = a as usize;
+            let on = mode_of(was, modes, at.waiting, i);
+            amend_one(sort, live, tm, w, needs, on, i, code, y)
+        }
+        Asked::Four(k) => {
+            let i = a as usize;
+            let on = mode_of(was, modes, at.waiting, i);
+            amend_kinds(sort, live, tm, w, needs, on, i, code, k)
+        }
     }
-    if r.code <= 3 {
-        return open(
-            sort,
-            live,
-            tm,
-            w,
-            numbers,
-            at.count,
-            at.next,
-            r.code,
-            r.account,
-        );
-    }
-    let on = mode_of(was, modes, at.waiting, r.account as usize);
-    amend(sort, live, tm, w, needs, on, at.count, r)
 }
 
 fn gone_with(n: u8, opening: bool, count: u16, serial: u16, next: u32) -> Gone
@@ -122,22 +140,17 @@ fn carry(
     numbers: &mut [u16; 256],
     was: &[bool; 256],
     at: At,
-    r: Record,
+    q: Request,
 ) -> Gone
-    requires { ⌜ Ready (at .count) (at .serial) (marksFrom (now sort) (now live) (now tm)) (now w) (modesIn (at .waiting) (now was) (now modes)) (now needs) (at .next) (now numbers) × (length (now was) ≡ 256) × (length (now modes) ≡ 256) ⌝ }
-    ensures { λ x. ⌜ Decided (at .count) (at .serial) (marksFrom (now (sort .entry)) (now (live .entry)) (now (tm .entry))) (now (w .entry)) (modesIn (at .waiting) (now (was .entry)) (now (modes .entry))) (now (needs .entry)) (at .next) (now (numbers .entry)) r x (marksFrom (now (sort .exit)) (now (live .exit)) (now (tm .exit))) (now (w .exit)) (now (numbers .exit)) ⌝ }
+    requires { ⌜ Ready (at .count) (at .serial) (marksFrom (now sort) (now live) (now tm)) (now w) (modesIn (at .waiting) (now was) (now modes)) (now needs) (at .next) (now numbers) × (length (now was) ≡ 256) × (length (now modes) ≡ 256) × Asking (aliveIn (now live) (at .count) (q .place)) (at .serial) q ⌝ }
+    ensures { λ x. ⌜ ((r : Record) → Asks (aliveIn (now (live .entry)) (at .count) (q .place)) (at .serial) q r → Decided (at .count) (at .serial) (marksFrom (now (sort .entry)) (now (live .entry)) (now (tm .entry))) (now (w .entry)) (modesIn (at .waiting) (now (was .entry)) (now (modes .entry))) (now (needs .entry)) (at .next) (now (numbers .entry)) r x (marksFrom (now (sort .exit)) (now (live .exit)) (now (tm .exit))) (now (w .exit)) (now (numbers .exit))) ⌝ }
 {
-    let n = decide(sort, live, tm, w, modes, needs, numbers, was, at, r);
-    gone_with(
-        n,
-        (1 <= r.code) & (r.code <= 3),
-        at.count,
-        at.serial,
-        at.next,
-    )
+    let n = decide(sort, live, tm, w, modes, needs, numbers, was, at, q);
+    let opening = (1 <= q.code) & (q.code <= 3);
+    gone_with(n, opening, at.count, at.serial, at.next)
 }
 
-// One record, its account told by the place of its row, at the arrays of a sound book. `modes` are those that a look leaves: where a record is carried out they are the book's. K3's needs and
+// One record, by what it asks, at the arrays of a sound book. `modes` are those that a look leaves: where a record is carried out they are the book's. K3's needs and
 // K2's look move at most three places; openings, 4, 5 and 11 move no figure that they go by.
 fn step_placed(
     sort: &mut [u8; 256],
@@ -151,15 +164,15 @@ fn step_placed(
     excess: &mut [u64; 256],
     was: &[bool; 256],
     at: At,
-    r: Record,
+    q: Request,
 ) -> Gone
-    requires { ⌜ Going at (marksFrom (now sort) (now live) (now tm)) (now w) (now kept) (now was) (now modes) (now needs) (now numbers) (now excess) ⌝ }
-    ensures { λ x. ⌜ Stepped at (marksFrom (now (sort .entry)) (now (live .entry)) (now (tm .entry))) (now (w .entry)) (now (was .entry)) (now (modes .entry)) (now (needs .entry)) (now (numbers .entry)) r x (marksFrom (now (sort .exit)) (now (live .exit)) (now (tm .exit))) (now (w .exit)) (now (kept .exit)) (now (modes .exit)) (now (needs .exit)) (now (numbers .exit)) (now (excess .exit)) ⌝ }
+    requires { ⌜ Going at (marksFrom (now sort) (now live) (now tm)) (now w) (now kept) (now was) (now modes) (now needs) (now numbers) (now excess) × Asking (aliveIn (now live) (at .count) (q .place)) (at .serial) q ⌝ }
+    ensures { λ x. ⌜ ((r : Record) → Asks (aliveIn (now (live .entry)) (at .count) (q .place)) (at .serial) q r → Stepped at (marksFrom (now (sort .entry)) (now (live .entry)) (now (tm .entry))) (now (w .entry)) (now (was .entry)) (now (modes .entry)) (now (needs .entry)) (now (numbers .entry)) r x (marksFrom (now (sort .exit)) (now (live .exit)) (now (tm .exit))) (now (w .exit)) (now (kept .exit)) (now (modes .exit)) (now (needs .exit)) (now (numbers .exit)) (now (excess .exit))) ⌝ }
 {
-    let still = (r.code <= 5) | (r.code == 11);
-    let i = slot(r.account);
+    let still = (q.code <= 5) | (q.code == 11);
+    let i = slot(q.place);
     let m0 = word_at(w, 9, i);
-    let gone = carry(sort, live, tm, w, modes, needs, numbers, was, at, r);
+    let gone = carry(sort, live, tm, w, modes, needs, numbers, was, at, q);
     if !still & (gone.refusal == 0) {
         follow(
             sort,
@@ -197,7 +210,8 @@ pub fn step(
     requires { ⌜ Going at (marksFrom (now sort) (now live) (now tm)) (now w) (now kept) (now was) (now modes) (now needs) (now numbers) (now excess) ⌝ }
     ensures { λ x. ⌜ Stepped at (marksFrom (now (sort .entry)) (now (live .entry)) (now (tm .entry))) (now (w .entry)) (now (was .entry)) (now (modes .entry)) (now (needs .entry)) (now (numbers .entry)) (placed (bookAt at (marksFrom (now (sort .entry)) (now (live .entry)) (now (tm .entry))) (now (w .entry)) (now (was .entry)) (now (modes .entry)) (now (needs .entry)) (now (numbers .entry))) r) x (marksFrom (now (sort .exit)) (now (live .exit)) (now (tm .exit))) (now (w .exit)) (now (kept .exit)) (now (modes .exit)) (now (needs .exit)) (now (numbers .exit)) (now (excess .exit)) ⌝ }
 {
-    let place = place_among(numbers, at.count, r.account);
+    let a = place_among(numbers, at.count, r.account);
+    let asked = asked_of(live, at.count, at.serial, naming(a, r));
     step_placed(
         sort,
         live,
@@ -210,7 +224,53 @@ pub fn step(
         excess,
         was,
         at,
-        naming(place, r),
+        Request {
+            code: r.code,
+            place: a,
+            asked,
+        },
+    )
+}
+
+// The same for a record in a piece, of which no more is read than its code names.
+pub fn step_read(
+    sort: &mut [u8; 256],
+    live: &mut [bool; 256],
+    tm: &mut [u16; 256],
+    w: &mut [u64; 2560],
+    kept: &mut [u64; 256],
+    modes: &mut [bool; 256],
+    needs: &mut [u64; 256],
+    numbers: &mut [u16; 256],
+    excess: &mut [u64; 256],
+    was: &[bool; 256],
+    at: At,
+    piece: &[u8],
+    place: usize,
+    h: Head,
+) -> Gone
+    requires { ⌜ Going at (marksFrom (now sort) (now live) (now tm)) (now w) (now kept) (now was) (now modes) (now needs) (now numbers) (now excess) × Heads (now piece) place h ⌝ }
+    ensures { λ x. ⌜ Stepped at (marksFrom (now (sort .entry)) (now (live .entry)) (now (tm .entry))) (now (w .entry)) (now (was .entry)) (now (modes .entry)) (now (needs .entry)) (now (numbers .entry)) (placed (bookAt at (marksFrom (now (sort .entry)) (now (live .entry)) (now (tm .entry))) (now (w .entry)) (now (was .entry)) (now (modes .entry)) (now (needs .entry)) (now (numbers .entry))) (recordAt (now (piece .entry)) place h)) x (marksFrom (now (sort .exit)) (now (live .exit)) (now (tm .exit))) (now (w .exit)) (now (kept .exit)) (now (modes .exit)) (now (needs .exit)) (now (numbers .exit)) (now (excess .exit)) ⌝ }
+{
+    let a = place_among(numbers, at.count, h.account);
+    let asked = asked_at(live, at.count, at.serial, a, piece, place, h);
+    step_placed(
+        sort,
+        live,
+        tm,
+        w,
+        kept,
+        modes,
+        needs,
+        numbers,
+        excess,
+        was,
+        at,
+        Request {
+            code: h.code,
+            place: a,
+            asked,
+        },
     )
 }
 

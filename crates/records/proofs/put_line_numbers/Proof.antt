@@ -10,7 +10,7 @@ use Rattle.records.proofs.put_line_numbers.Tie as tie
 returns : tie.Need-returns
 returns c =
     let a = c .before .before .args in
-    five-stores (a .room .now) (5 * a .k) (a .r .serial) (a .r .code) (a .r .account) (a .gone .refusal) (a .gone .given)
+    five-stores (a .room .now) (5 * a .k) (a .h .serial) (a .h .code) (a .h .account) (a .gone .refusal) (a .gone .given)
 
 pub put-line-numbers-spec : {M : Type 1} → statement M
 put-line-numbers-spec =

@@ -1,86 +1,92 @@
--- `steps::decide` meets its contract: the lines before 8, then an opening, or the code's own lines by the mode before the record (K5).
-use mathlib.Core.Bool.{Bool}
-use mathlib.Core.List.{List}
-use Rattle.table.specs.Words.{Marks, marksFrom}
-use Rattle.steps.specs.Steps.{modesIn}
-use Rattle.steps.proofs.Carried.{early-is, ready-holds, ready-amends, code-opens, opening-not, refused-at, amends-at, opens-at}
+-- `steps::decide` meets its contract: a refusal, an opening, 11, or the code's own lines by the mode before the record (K5).
+use native.Mathlib.Omega.{arith}
 use borrow.Author.Needs.{needs}
+use Rattle.steps.proofs.Asked.{refused-left, bare-held, opens-left, retires-left, one-held, one-left, kinds-held, kinds-left}
 use Rattle.steps.proofs.decide.Statement.{statement}
 use Rattle.steps.proofs.decide.Tie as tie
 
 -- THE PLACES, each named once.
-abbrev start : tie.After-early → tie.Start
-start c = c .before .before
+abbrev bare : tie.After-enum-told → tie.Start
+bare t = t .before .before
 
-abbrev passed : tie.Else1 → tie.After-early
-passed c = c .before
+abbrev one : tie.After-known-told2 → tie.Start
+one t = t .before .before .before
 
-abbrev asked : tie.After-mode-of → tie.Else2
-asked c = c .before .before
+abbrev kinds : tie.After-known-told3 → tie.Start
+kinds t = t .before .before .before
 
-abbrev marks : tie.Start → Marks
-marks s = marksFrom (s .args .sort .now) (s .args .live .now) (s .args .tm .now)
-
-abbrev modes : tie.Start → List Bool
-modes s = modesIn (s .args .at .waiting) (s .args .was .now) (s .args .modes .now)
+retire-requires : tie.Need-retire-requires
+retire-requires c κs =
+    let t = c .before .before .before .before .before in
+    let s = bare t in
+    let h = bare-held _ _ _ _ _ _ _ _ (s .pre .0) _ _ (s .pre .3 .asks) (t .enum-told .given .1) in
+    (h .size, h .inside, s .pre .0 .sound .most)
 
 returns : tie.Need-returns
-returns c =
-    let e = c .before in
-    let s = start e in
-    let a = s .args in
-    refused-at (a .at .count) (a .at .serial) (marks s) (a .w .now) (modes s) (a .needs .now) (a .at .next) (a .numbers .now) (s .pre .0) (a .r) _ _
-    (early-is (a .at .count) (a .at .serial) (marks s) (a .w .now) (modes s) (a .needs .now) (a .at .next) (a .numbers .now) (s .pre .0) (a .r) _ (e .early .ensures) (c .if1 .taken)) (c .if1 .taken)
+returns c = λ r q.
+    let i = c .before .before .before .before .before in
+    let t = i .before in
+    retires-left _ _ _ _ _ _ _ _ (bare t .pre .0) _ r q (t .enum-told .given .1) (i .if1 .taken) _ _ (c .retire .ensures)
 
 open-requires : tie.Need-open-requires
 open-requires c κs =
-    let p = c .before .before .before .before .before .before .before in
-    let e = passed p in
-    let s = start e in
-    let a = s .args in
-    let g = ready-holds (a .at .count) (a .at .serial) (marks s) (a .w .now) (modes s) (a .needs .now) (a .at .next) (a .numbers .now) (s .pre .0) (a .r) _ (e .early .ensures) (p .if1 .left) in
-    (g .size, g .inside)
+    let t = c .before .before .before .before .before .before in
+    let s = bare t in
+    let h = bare-held _ _ _ _ _ _ _ _ (s .pre .0) _ _ (s .pre .3 .asks) (t .enum-told .given .1) in
+    (h .size, h .inside)
 
-returns-2 : tie.Need-returns-2
-returns-2 c =
-    let o = c .before .before .before .before .before .before in
-    let p = o .before .before in
-    let e = passed p in
-    let s = start e in
-    let a = s .args in
-    opens-at (a .at .count) (a .at .serial) (marks s) (a .w .now) (modes s) (a .needs .now) (a .at .next) (a .numbers .now) (s .pre .0) (a .r) _ (e .early .ensures) (p .if1 .left)
-    (code-opens (a .at .count) (a .at .serial) (marks s) (a .w .now) (modes s) (a .needs .now) (a .at .next) (a .numbers .now) (s .pre .0) (a .r) _ (e .early .ensures) (p .if1 .left) (o .if2 .taken)) _ _ _ _ (c .«open» .ensures .0) (c .«open» .ensures .1)
+cast-i : tie.Need-cast-i
+cast-i c = let s = one c in omega (arith, one-held _ _ _ _ _ _ _ _ (s .pre .0) _ _ (s .pre .3 .asks) _ (c .before .asked2 .given .1) .0 .inside)
 
 mode-of-requires : tie.Need-mode-of-requires
 mode-of-requires c κs =
-    let p = c .before .before .before in
-    let e = passed p in
-    let s = start e in
-    let a = s .args in
-    (ready-holds (a .at .count) (a .at .serial) (marks s) (a .w .now) (modes s) (a .needs .now) (a .at .next) (a .numbers .now) (s .pre .0) (a .r) _ (e .early .ensures) (p .if1 .left) .inside, s .pre .1, s .pre .2)
+    let s = one c in
+    (one-held _ _ _ _ _ _ _ _ (s .pre .0) _ _ (s .pre .3 .asks) _ (c .before .asked2 .given .1) .0 .inside, s .pre .1, s .pre .2)
 
-amend-requires : tie.Need-amend-requires
-amend-requires c κs =
-    let o = asked (c .before .before .before .before) in
-    let p = o .before .before in
-    let e = passed p in
-    let s = start e in
-    let a = s .args in
-    ready-amends (a .at .count) (a .at .serial) (marks s) (a .w .now) (modes s) (a .needs .now) (a .at .next) (a .numbers .now) (s .pre .0) (a .r) _ (e .early .ensures) (p .if1 .left) (opening-not (a .r) (o .if2 .left))
+amend-one-requires : tie.Need-amend-one-requires
+amend-one-requires c κs =
+    let t = c .before .before .before .before .before in
+    let s = one t in
+    one-held _ _ _ _ _ _ _ _ (s .pre .0) _ _ (s .pre .3 .asks) _ (t .before .asked2 .given .1)
+
+cast-i-2 : tie.Need-cast-i-2
+cast-i-2 c = let s = kinds c in omega (arith, kinds-held _ _ _ _ _ _ _ _ (s .pre .0) _ _ (s .pre .3 .asks) _ (c .before .asked3 .given .1) .0 .inside)
+
+mode-of-requires-2 : tie.Need-mode-of-requires-2
+mode-of-requires-2 c κs =
+    let s = kinds c in
+    (kinds-held _ _ _ _ _ _ _ _ (s .pre .0) _ _ (s .pre .3 .asks) _ (c .before .asked3 .given .1) .0 .inside, s .pre .1, s .pre .2)
+
+amend-kinds-requires : tie.Need-amend-kinds-requires
+amend-kinds-requires c κs =
+    let t = c .before .before .before .before .before in
+    let s = kinds t in
+    kinds-held _ _ _ _ _ _ _ _ (s .pre .0) _ _ (s .pre .3 .asks) _ (t .before .asked3 .given .1)
+
+returns-2 : tie.Need-returns-2
+returns-2 c = λ r q. refused-left _ _ _ _ _ _ _ _ (c .before .before .before .pre .0) _ r q _ (c .before .asked .given .1)
 
 returns-3 : tie.Need-returns-3
-returns-3 c =
+returns-3 c = λ r q.
+    let i = c .before .before .before .before .before .before in
+    let t = i .before in
+    opens-left _ _ _ _ _ _ _ _ (bare t .pre .0) _ r q (t .enum-told .given .1) (i .if1 .left) _ _ _ _ (c .«open» .ensures .0) (c .«open» .ensures .1)
+
+returns-4 : tie.Need-returns-4
+returns-4 c = λ r q.
     let m = c .before .before .before .before .before in
-    let o = asked m in
-    let p = o .before .before in
-    let e = passed p in
-    let s = start e in
-    let a = s .args in
-    amends-at (a .at .count) (a .at .serial) (marks s) (a .w .now) (modes s) (a .needs .now) (a .at .next) (a .numbers .now) (s .pre .0) (a .r) _ (e .early .ensures) (p .if1 .left) (opening-not (a .r) (o .if2 .left)) _ _ _
-    (rw (m .mode-of .ensures) at (c .amend .ensures))
+    let t = m .before in
+    one-left _ _ _ _ _ _ _ _ (one t .pre .0) _ r q _ (t .before .asked2 .given .1) _ (m .mode-of .ensures) _ _ (c .amend-one .ensures)
+
+returns-5 : tie.Need-returns-5
+returns-5 c = λ r q.
+    let m = c .before .before .before .before .before in
+    let t = m .before in
+    kinds-left _ _ _ _ _ _ _ _ (kinds t .pre .0) _ r q _ (t .before .asked3 .given .1) _ (m .mode-of2 .ensures) _ _ (c .amend-kinds .ensures)
 
 pub decide-spec : {M : Type 1} → statement M
 decide-spec =
     tie.close
-    (tie.spec (λ c κs. search needs) returns open-requires returns-2 (λ c. search needs) mode-of-requires amend-requires
-    returns-3)
+    (tie.spec (λ c. search needs) (λ c. search needs) retire-requires returns open-requires (λ c. search needs) cast-i
+    mode-of-requires amend-one-requires (λ c. search needs) cast-i-2 mode-of-requires-2 amend-kinds-requires returns-2
+    returns-3 returns-4 returns-5)
