@@ -3,8 +3,8 @@ ghost use mathlib.Core.Bool.{true};
 ghost use mathlib.Core.Path.{_≡_};
 ghost use Prim.Native.Nat.{_+_, _≤_, min};
 ghost use lib.ListN.{length};
-ghost use Rattle.table.specs.Words.{marksFrom};
-ghost use Rattle.steps.specs.Steps.{bookAt, Going};
+ghost use Rattle.steps.specs.Lent.{lent, before, after};
+ghost use Rattle.steps.specs.Steps.{bookIn, Going};
 ghost use Rattle.records.specs.Runs.{runOf};
 ghost use Rattle.records.specs.LineNumbers.{answersOf};
 ghost use Rattle.records.specs.Inner.{ranIn};
@@ -57,10 +57,15 @@ pub(crate) fn carry_on(
     printing: bool,
     numbers: &mut [u16; 3200],
 ) -> Went
-    requires { ⌜ Going at (marksFrom (now sort) (now live) (now tm)) (now w) (now kept) (now was) (now modes) (now needs) (now accounts) (now excess) × (length (now numbers) ≡ 3200) ⌝ }
-    ensures { λ x. ⌜ ranIn x (marksFrom (now (sort .exit)) (now (live .exit)) (now (tm .exit))) (now (w .exit)) (now (was .entry)) (now (modes .exit)) (now (needs .exit)) (now (accounts .exit)) ≡ runOf (now (held .entry)) (min left 640) (bookAt at (marksFrom (now (sort .entry)) (now (live .entry)) (now (tm .entry))) (now (w .entry)) (now (was .entry)) (now (modes .entry)) (now (needs .entry)) (now (accounts .entry))) 0 0 0 ⌝ }
-    ensures { λ x. ⌜ Going (x .at) (marksFrom (now (sort .exit)) (now (live .exit)) (now (tm .exit))) (now (w .exit)) (now (kept .exit)) (now (was .entry)) (now (modes .exit)) (now (needs .exit)) (now (accounts .exit)) (now (excess .exit)) ⌝ }
-    ensures { λ x. ⌜ (x .read ≤ 640) × (length (now (numbers .exit)) ≡ 3200) × (printing ≡ true → linesTo (now (numbers .exit)) (x .read) ≡ linesOf (answersOf (now (held .entry)) (min left 640) (bookAt at (marksFrom (now (sort .entry)) (now (live .entry)) (now (tm .entry))) (now (w .entry)) (now (was .entry)) (now (modes .entry)) (now (needs .entry)) (now (accounts .entry))) 0)) ⌝ }
+    requires { ⌜ Going at (now was) (lent sort live tm w kept modes needs accounts excess)
+        × (length (now numbers) ≡ 3200) ⌝ }
+    ensures { λ x. ⌜ ranIn x (now (was .entry)) (after sort live tm w kept modes needs accounts excess)
+        ≡ runOf (now (held .entry)) (min left 640)
+        (bookIn at (now (was .entry)) (before sort live tm w kept modes needs accounts excess)) 0 0 0 ⌝ }
+    ensures { λ x. ⌜ Going (x .at) (now (was .entry)) (after sort live tm w kept modes needs accounts excess) ⌝ }
+    ensures { λ x. ⌜ (x .read ≤ 640) × (length (now (numbers .exit)) ≡ 3200)
+        × (printing ≡ true → linesTo (now (numbers .exit)) (x .read) ≡ linesOf (answersOf (now (held .entry)) (min left 640)
+        (bookIn at (now (was .entry)) (before sort live tm w kept modes needs accounts excess)) 0)) ⌝ }
 {
     go(
         sort,

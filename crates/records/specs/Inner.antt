@@ -4,8 +4,8 @@ use mathlib.Core.List.{List}
 use Prim.Native.Nat.{ℕ, zero, suc, _+_, _*_}
 use lib.Seq.{sets}
 use Rattle.rows.specs.declared.Book.{Book}
-use Rattle.table.specs.Words.{Marks}
-use Rattle.steps.specs.Steps.{bookAt}
+use Rattle.steps.specs.Lent.{Lent}
+use Rattle.steps.specs.Steps.{bookIn}
 use Rattle.dayfile.specs.declared.Found.{Found}
 use Rattle.dayfile.specs.declared.Found.the-variants.{End as NoBytes, Cut as TooFew, Whole}
 use Rattle.dayfile.specs.Reading.{foundAt}
@@ -29,6 +29,6 @@ unfoldable pub putNumbersFrom : List ℕ → ℕ → Book → ℕ → ℕ → Li
 putNumbersFrom s zero b place k room = room
 putNumbersFrom s (suc most) b place k room = numbering (putNumbersFrom s most) (foundAt s place) b k room
 
--- what the loop came to, with the words that it left
-abbrev pub ranIn : Went → Marks → List ℕ → List Bool → List Bool → List ℕ → List ℕ → Ran
-ranIn x m w was modes needs numbers = record { book = bookAt (x .at) m w was modes needs numbers; place = x .place; closing = x .closing; read = x .read; done = x .done }
+-- what the loop came to, with the arrays that it left
+abbrev pub ranIn : Went → List Bool → Lent → Ran
+ranIn x was k = record { book = bookIn (x .at) was k; place = x .place; closing = x .closing; read = x .read; done = x .done }

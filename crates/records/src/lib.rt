@@ -5,8 +5,8 @@ ghost use mathlib.Core.Path.{_≡_};
 ghost use Prim.Native.Nat.{_+_, _*_, _≤_};
 ghost use lib.ListN.{length};
 ghost use Rattle.sums.specs.Choice.{pick};
-ghost use Rattle.table.specs.Words.{marksFrom};
-ghost use Rattle.steps.specs.Steps.{bookAt, Going};
+ghost use Rattle.steps.specs.Lent.{lent, before, after};
+ghost use Rattle.steps.specs.Steps.{bookIn, Going};
 ghost use Rattle.records.specs.Runs.{runOf};
 ghost use Rattle.records.specs.Inner.{putLineNumbers, putNumbersFrom, ranIn};
 use codes::asked::Head;
@@ -65,9 +65,14 @@ pub fn go(
     room: &mut [u16],
     numbered: bool,
 ) -> Went
-    requires { ⌜ Going first (marksFrom (now sort) (now live) (now tm)) (now w) (now kept) (now was) (now modes) (now needs) (now numbers) (now excess) × (numbered ≡ true → 5 * most ≤ length (now room)) ⌝ }
-    ensures { λ x. ⌜ ranIn x (marksFrom (now (sort .exit)) (now (live .exit)) (now (tm .exit))) (now (w .exit)) (now (was .entry)) (now (modes .exit)) (now (needs .exit)) (now (numbers .exit)) ≡ runOf (now (piece .entry)) most (bookAt first (marksFrom (now (sort .entry)) (now (live .entry)) (now (tm .entry))) (now (w .entry)) (now (was .entry)) (now (modes .entry)) (now (needs .entry)) (now (numbers .entry))) 0 0 0 ⌝ }
-    ensures { λ x. ⌜ Going (x .at) (marksFrom (now (sort .exit)) (now (live .exit)) (now (tm .exit))) (now (w .exit)) (now (kept .exit)) (now (was .entry)) (now (modes .exit)) (now (needs .exit)) (now (numbers .exit)) (now (excess .exit)) × (now (room .exit) ≡ pick numbered (putNumbersFrom (now (piece .entry)) most (bookAt first (marksFrom (now (sort .entry)) (now (live .entry)) (now (tm .entry))) (now (w .entry)) (now (was .entry)) (now (modes .entry)) (now (needs .entry)) (now (numbers .entry))) 0 0 (now (room .entry))) (now (room .entry))) ⌝ }
+    requires { ⌜ Going first (now was) (lent sort live tm w kept modes needs numbers excess)
+        × (numbered ≡ true → 5 * most ≤ length (now room)) ⌝ }
+    ensures { λ x. ⌜ ranIn x (now (was .entry)) (after sort live tm w kept modes needs numbers excess)
+        ≡ runOf (now (piece .entry)) most
+        (bookIn first (now (was .entry)) (before sort live tm w kept modes needs numbers excess)) 0 0 0 ⌝ }
+    ensures { λ x. ⌜ Going (x .at) (now (was .entry)) (after sort live tm w kept modes needs numbers excess)
+        × (now (room .exit) ≡ pick numbered (putNumbersFrom (now (piece .entry)) most
+        (bookIn first (now (was .entry)) (before sort live tm w kept modes needs numbers excess)) 0 0 (now (room .entry))) (now (room .entry))) ⌝ }
 {
     let mut at = first;
     let mut place: usize = 0;

@@ -17,6 +17,7 @@ use Rattle.table.proofs.Seen.{seen-view, seen-ranged}
 use Rattle.book.specs.Facts.{Sound}
 use Rattle.book.proofs.RowTests.{sound-ranged}
 use Rattle.book.proofs.Settled.{sound-rows, none-beyond}
+use Rattle.steps.specs.Lent.{lentOf}
 use Rattle.steps.specs.Steps.{Going}
 use Rattle.steps.specs.Looks.{Keeps, AllRanging}
 use Rattle.steps.proofs.Placing.{sound-placed}
@@ -48,7 +49,7 @@ module _ (count serial : ℕ) (m : Marks) (w : List ℕ) (modes : List Bool) (ne
       }
 
   pub sound-enters : Sized m w → length modes ≡ 256 → length needs ≡ 256 → (kept : List ℕ) → Keeps w kept → (excess : List ℕ) (after : List Bool) → DeemedUnder (inTenths seen) excess → after ≡ looked seen modes
-      → Going (record { count = count; serial = serial; next = next; waiting = true }) m w kept modes after needs numbers excess
+      → Going (record { count = count; serial = serial; next = next; waiting = true }) modes (lentOf m w kept after needs numbers excess)
   unfolding pick
   sound-enters s l n kept keeps excess after e k = record {
     size = s;

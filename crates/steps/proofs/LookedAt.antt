@@ -43,6 +43,7 @@ use Rattle.rules.proofs.SoundChange.{change-sound}
 use Rattle.steps.specs.declared.At.{At}
 use Rattle.steps.specs.declared.Gone.{Gone}
 use Rattle.codes.specs.declared.settling.DeemedUnderAfter.{DeemedUnderAfter}
+use Rattle.steps.specs.Lent.{lentOf}
 use Rattle.steps.specs.Steps.{Ready, Decided, carriedShown, refusalShown, modesIn, bookAt, atAfter, Going, Stepped}
 use Rattle.codes.specs.Own.{accountIn, deemedUnderAt, deemedUnderIn, deemedUnderAfter}
 use Rattle.steps.specs.Looks.{Placed, Past, PastOf, Keeps, lookIn, excessAfter, excessSince, lookedSince, deemedUnderSince, neededSince}
@@ -96,7 +97,7 @@ opened-worth b y e s l j = by (ℕ-discrete j (b .count))
     by (yes q) = rw q (ap collateral (opened-new b y (omega (arith, s .table)) ∙ e) ∙ sym (ap collateral (s .blank (b .count) (omega arith))))
     by (no q) = ap collateral (getD-set-other (b .rows) (b .count) j y noRow q)
 
-module _ (at : At) (m : Marks) (w kept : List ℕ) (was modes : List Bool) (needs numbers excess : List ℕ) (g : Going at m w kept was modes needs numbers excess) (r : Record) where
+module _ (at : At) (m : Marks) (w kept : List ℕ) (was modes : List Bool) (needs numbers excess : List ℕ) (g : Going at was (lentOf m w kept modes needs numbers excess)) (r : Record) where
   abbrev before : List Bool
   before = modesIn (at .waiting) was modes
 
@@ -154,7 +155,7 @@ module _ (at : At) (m : Marks) (w kept : List ℕ) (was modes : List Bool) (need
       -- with the modes, the kept needs and the list of what is in excess after it
       module _ (kept′ : List ℕ) (keeps : Keeps u kept′) (modes′ : List Bool) (needs′ excess′ : List ℕ) (is-book : bookAt (atAfter at x) n u was modes′ needs′ numbers′ ≡ bookAfter b (r .account) c) (wide : length needs′ ≡ 256)
           (in-excess : DeemedUnder (inTenths (view after)) excess′) (looks : modes′ ≡ looked (view after) (modesIn (atAfter at x .waiting) was modes′)) where
-        steps-to : Stepped at m w was modes needs numbers r x n u kept′ modes′ needs′ numbers′ excess′
+        steps-to : Stepped at was (lentOf m w kept modes needs numbers excess) r x (lentOf n u kept′ modes′ needs′ numbers′ excess′)
         steps-to = record {
           refusal = d .refusal;
           given = d .given;
@@ -175,7 +176,7 @@ module _ (at : At) (m : Marks) (w kept : List ℕ) (was modes : List Bool) (need
       went : carriedShown c ≡ 1
           → bookAfter b (r .account) c ≡ withNeeds (withModes (changedBy b (r .account) c) (looked (view (changedBy b (r .account) c)) before)) (needsAfresh (view (changedBy b (r .account) c)))
           → (kept′ : List ℕ) → Keeps u kept′ → (modes′ : List Bool) (needs′ excess′ : List ℕ) → modes′ ≡ looked (view after) before → needs′ ≡ needsAfresh (view after) → DeemedUnder (inTenths (view after)) excess′
-          → Stepped at m w was modes needs numbers r x n u kept′ modes′ needs′ numbers′ excess′
+          → Stepped at was (lentOf m w kept modes needs numbers excess) r x (lentOf n u kept′ modes′ needs′ numbers′ excess′)
       unfolding pick
       went one after-is kept′ keeps modes′ needs′ excess′ look fresh in-excess =
           let done : x .carried ≡ 1 = d .carried ∙ ap carriedShown e ∙ one in
@@ -189,7 +190,7 @@ module _ (at : At) (m : Marks) (w kept : List ℕ) (was modes : List Bool) (need
           (look ∙ sym (look-twice (view after) before) ∙ ap (looked (view after)) (sym look ∙ sym its))
 
     -- refused: all stays
-    refused : (k : ℕ) → changeOf b r ≡ Refuse k → Stepped at m w was modes needs numbers r x n u kept modes needs numbers′ excess
+    refused : (k : ℕ) → changeOf b r ≡ Refuse k → Stepped at was (lentOf m w kept modes needs numbers excess) r x (lentOf n u kept modes needs numbers′ excess)
     unfolding pick
     refused k e =
         steps-to (Refuse k) e kept (keeps-seen (λ j. ap (λ v. v .collateral j) same-view)) modes needs excess
@@ -213,10 +214,10 @@ module _ (at : At) (m : Marks) (w kept : List ℕ) (was modes : List Bool) (need
         same-view = ap view (is-after (Refuse k) e) ∙ unmoved (leb k 3)
 
     -- a code that moves no figure
-    pub still-step : (leb (r .code) 5 || eqb (r .code) 11) ≡ true → Stepped at m w was modes needs numbers r x n u kept modes needs numbers′ excess
+    pub still-step : (leb (r .code) 5 || eqb (r .code) 11) ≡ true → Stepped at was (lentOf m w kept modes needs numbers excess) r x (lentOf n u kept modes needs numbers′ excess)
     still-step l = by (changeOf b r) refl
       where
-        by : (c : Change) → changeOf b r ≡ c → Stepped at m w was modes needs numbers r x n u kept modes needs numbers′ excess
+        by : (c : Change) → changeOf b r ≡ c → Stepped at was (lentOf m w kept modes needs numbers excess) r x (lentOf n u kept modes needs numbers′ excess)
         by (Refuse k) e = refused k e
         by (Put y) e =
             let p = put-passes b r y e .account in
@@ -231,10 +232,10 @@ module _ (at : At) (m : Marks) (w kept : List ℕ) (was modes : List Bool) (need
             (subst (λ q. DeemedUnder (inTenths q) excess) (sym opens) (open-deemed b r y (g .sound) e true excess (g .in-excess)))
 
     -- refused, whatever its code
-    pub refused-step : (x .refusal ≡ 0 → ⊥) → Stepped at m w was modes needs numbers r x n u kept modes needs numbers′ excess
+    pub refused-step : (x .refusal ≡ 0 → ⊥) → Stepped at was (lentOf m w kept modes needs numbers excess) r x (lentOf n u kept modes needs numbers′ excess)
     refused-step ne = by (changeOf b r) refl
       where
-        by : (c : Change) → changeOf b r ≡ c → Stepped at m w was modes needs numbers r x n u kept modes needs numbers′ excess
+        by : (c : Change) → changeOf b r ≡ c → Stepped at was (lentOf m w kept modes needs numbers excess) r x (lentOf n u kept modes needs numbers′ excess)
         by (Refuse k) e = refused k e
         by (Put y) e = absurd (ne (d .refusal ∙ ap refusalShown e))
         by (Open y) e = absurd (ne (d .refusal ∙ ap refusalShown e))
@@ -253,7 +254,8 @@ module _ (at : At) (m : Marks) (w kept : List ℕ) (was modes : List Bool) (need
     -- three places are brought up to date and looked at
     module _ (past : Past) (o : PastOf m w needs (r .account) past) (kept′ : List ℕ) (keeps : Keeps u kept′) where
       pub moved-step : (y : Row) → changeOf b r ≡ Put y
-          → Stepped at m w was modes needs numbers r x n u kept′ (lookedSince n u excess before modes past) (neededSince n u needs past) numbers′ (excessSince n u excess past)
+          → Stepped at was (lentOf m w kept modes needs numbers excess) r x
+          (lentOf n u kept′ (lookedSince n u excess before modes past) (neededSince n u needs past) numbers′ (excessSince n u excess past))
       moved-step y e = went (Put y) e refl refl kept′ keeps _ _ _ looks fresh in-excess
         where
           given : r .account < at .count

@@ -39,11 +39,12 @@ use Rattle.rules.proofs.Deciding.{put-passes, made-put}
 use Rattle.rules.proofs.Moves.{amended-same}
 use Rattle.steps.specs.declared.At.{At}
 use Rattle.steps.specs.declared.Gone.{Gone}
+use Rattle.steps.specs.Lent.{lentOf}
 use Rattle.steps.specs.Steps.{Decided, modesIn, bookAt, Going, Stepped}
 use Rattle.steps.specs.Looks.{PastOf, Keeps, Steady, Bare, Stands, cm, tm, client, cp, Following, Followed, collateralIn, marginBefore, pastIn}
 use Rattle.steps.proofs.LookedAt.{places-now, places-after, under, deemed-under, under-small, is-after, put-only, moved-step}
 
-module _ (at : At) (m : Marks) (w kept : List ℕ) (was modes : List Bool) (needs numbers excess : List ℕ) (g : Going at m w kept was modes needs numbers excess) (r : Record)
+module _ (at : At) (m : Marks) (w kept : List ℕ) (was modes : List Bool) (needs numbers excess : List ℕ) (g : Going at was (lentOf m w kept modes needs numbers excess)) (r : Record)
     (x : Gone) (n : Marks) (u numbers′ : List ℕ) (d : Decided (at .count) (at .serial) m w (modesIn (at .waiting) was modes) needs (at .next) numbers r x n u numbers′)
     (y : Row) (e : changeOf (bookAt at m w was modes needs numbers) r ≡ Put y) (i m0 : ℕ) (si : Slot (r .account) i) (em : m0 ≡ wordAt w 9 i) where
   abbrev before : List Bool
@@ -248,14 +249,14 @@ module _ (at : At) (m : Marks) (w kept : List ℕ) (was modes : List Bool) (need
         stands = stands;
       }
 
-module _ (at : At) (m : Marks) (w kept : List ℕ) (was modes : List Bool) (needs numbers excess : List ℕ) (g : Going at m w kept was modes needs numbers excess) (r : Record)
+module _ (at : At) (m : Marks) (w kept : List ℕ) (was modes : List Bool) (needs numbers excess : List ℕ) (g : Going at was (lentOf m w kept modes needs numbers excess)) (r : Record)
     (x : Gone) (n : Marks) (u numbers′ : List ℕ) (d : Decided (at .count) (at .serial) m w (modesIn (at .waiting) was modes) needs (at .next) numbers r x n u numbers′)
     (z : x .refusal ≡ 0) (moving : (leb (r .code) 5 || eqb (r .code) 11) ≡ false) (i m0 : ℕ) (si : Slot (r .account) i) (em : m0 ≡ wordAt w 9 i) where
   pub moved-follows : Following n u kept needs excess (modesIn (at .waiting) was modes) modes i m0
   moved-follows = put-only at m w kept was modes needs numbers excess g r x n u numbers′ d z moving (λ y e. follows at m w kept was modes needs numbers excess g r x n u numbers′ d y e i m0 si em)
 
   pub moved-steps : (kept′ needs′ excess′ : List ℕ) (modes′ : List Bool) → Followed n u kept needs excess (modesIn (at .waiting) was modes) modes i m0 kept′ needs′ excess′ modes′
-      → Stepped at m w was modes needs numbers r x n u kept′ modes′ needs′ numbers′ excess′
+      → Stepped at was (lentOf m w kept modes needs numbers excess) r x (lentOf n u kept′ modes′ needs′ numbers′ excess′)
   moved-steps kept′ needs′ excess′ modes′ f =
       rw (f .own, f .need, f .over, f .mode)
       (put-only at m w kept was modes needs numbers excess g r x n u numbers′ d z moving

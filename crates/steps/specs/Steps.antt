@@ -16,6 +16,8 @@ use Rattle.dayfile.specs.declared.Record.{Record}
 use Rattle.rules.specs.declared.Change.{Change}
 use Rattle.rules.specs.declared.Change.the-variants.{Refuse, Put, Open}
 use Rattle.rules.specs.Effects.{changeOf, changedBy, bookAfter, nextSerial}
+use Rattle.rules.specs.Numbered.{placed}
+use Rattle.codes.specs.Own.{aliveIn}
 use Rattle.codes.specs.Asking.{askedOf}
 use Rattle.table.specs.declared.Table.{Table}
 use Rattle.table.specs.Words.{Marks, bookFrom}
@@ -24,6 +26,7 @@ use Rattle.steps.specs.declared.At.{At}
 use Rattle.steps.specs.declared.Gone.{Gone}
 use Rattle.steps.specs.declared.Request.{Request}
 use Rattle.steps.specs.Looks.{Keeps}
+use Rattle.steps.specs.Lent.{Lent}
 
 -- the words, the modes, the kept needs and the numbers are a sound book's
 pub record Ready (count serial : ℕ) (m : Marks) (w : List ℕ) (modes : List Bool) (needs : List ℕ) (next : ℕ) (numbers : List ℕ) : Type 0 where
@@ -83,6 +86,9 @@ modesIn waiting was modes = pick waiting was modes
 abbrev pub bookAt : At → Marks → List ℕ → List Bool → List Bool → List ℕ → List ℕ → Book
 bookAt at m w was modes needs numbers = bookFrom (at .count) (at .serial) m w (modesIn (at .waiting) was modes) needs (at .next) numbers
 
+abbrev pub bookIn : At → List Bool → Lent → Book
+bookIn at was l = bookAt at (l .marks) (l .words) was (l .modes) (l .needs) (l .numbers)
+
 -- where a table's book stands that was handed over
 abbrev pub startOf : Table → At
 startOf t = record { count = t .count; serial = t .serial; next = t .next; waiting = true }
@@ -92,22 +98,22 @@ abbrev pub atAfter : At → Gone → At
 atAfter at x = record { count = x .count; serial = x .serial; next = x .next; waiting = at .waiting && eqb (x .carried) 0 }
 
 -- the arrays are a sound book's. Beside it stand each account's collateral, what is in excess under each account, in tenths, and the modes that a look leaves
-pub record Going (at : At) (m : Marks) (w kept : List ℕ) (was modes : List Bool) (needs numbers excess : List ℕ) : Type 0 where
-  pub size : Sized m w
+pub record Going (at : At) (was : List Bool) (l : Lent) : Type 0 where
+  pub size : Sized (l .marks) (l .words)
   pub many : length was ≡ 256
-  pub wide : length needs ≡ 256
-  pub keeps : Keeps w kept
-  pub sound : Sound (bookAt at m w was modes needs numbers)
-  pub in-excess : DeemedUnder (inTenths (view (bookAt at m w was modes needs numbers))) excess
-  pub looks : modes ≡ looked (view (bookAt at m w was modes needs numbers)) (modesIn (at .waiting) was modes)
+  pub wide : length (l .needs) ≡ 256
+  pub keeps : Keeps (l .words) (l .kept)
+  pub sound : Sound (bookIn at was l)
+  pub in-excess : DeemedUnder (inTenths (view (bookIn at was l))) (l .excess)
+  pub looks : l .modes ≡ looked (view (bookIn at was l)) (modesIn (at .waiting) was (l .modes))
 
--- a record at such arrays, its account told by the place of its row, came to x, and left the arrays after it
-pub record Stepped (at : At) (m : Marks) (w : List ℕ) (was modes : List Bool) (needs numbers : List ℕ) (r : Record) (x : Gone) (n : Marks) (u kept : List ℕ) (after : List Bool) (needs′ numbers′ excess : List ℕ) : Type 0 where
-  pub refusal : x .refusal ≡ refusalShown (changeOf (bookAt at m w was modes needs numbers) r)
-  pub given : x .given ≡ givenShown (at .next) (changeOf (bookAt at m w was modes needs numbers) r)
-  pub carried : x .carried ≡ carriedShown (changeOf (bookAt at m w was modes needs numbers) r)
-  pub book : bookAt (atAfter at x) n u was after needs′ numbers′ ≡ bookAfter (bookAt at m w was modes needs numbers) (r .account) (changeOf (bookAt at m w was modes needs numbers) r)
-  pub ready : Going (atAfter at x) n u kept was after needs′ numbers′ excess
+-- a record at such arrays, its account told by the place of its row, came to x, and left the arrays k
+pub record Stepped (at : At) (was : List Bool) (l : Lent) (r : Record) (x : Gone) (k : Lent) : Type 0 where
+  pub refusal : x .refusal ≡ refusalShown (changeOf (bookIn at was l) r)
+  pub given : x .given ≡ givenShown (at .next) (changeOf (bookIn at was l) r)
+  pub carried : x .carried ≡ carriedShown (changeOf (bookIn at was l) r)
+  pub book : bookIn (atAfter at x) was k ≡ bookAfter (bookIn at was l) (r .account) (changeOf (bookIn at was l) r)
+  pub ready : Going (atAfter at x) was k
 
 -- the record r asks this, its account told by the place of its row, which is live or not, where the serial is due
 pub record Asks (alive : Bool) (serial : ℕ) (q : Request) (r : Record) : Type 0 where
@@ -119,3 +125,15 @@ pub record Asks (alive : Bool) (serial : ℕ) (q : Request) (r : Record) : Type 
 pub record Asking (alive : Bool) (serial : ℕ) (q : Request) : Type 0 where
   pub of : Record
   pub asks : Asks alive serial q of
+
+-- the arrays are a sound book's, and some record asks this
+abbrev pub GoingFor : At → List Bool → Lent → Request → Type 0
+GoingFor at was l q = Going at was l × Asking (aliveIn (l .marks .live) (at .count) (q .place)) (at .serial) q
+
+-- each record that asks this came to x, and left the arrays k
+abbrev pub SteppedFor : At → List Bool → Lent → Request → Gone → Lent → Type 0
+SteppedFor at was l q x k = (r : Record) → Asks (aliveIn (l .marks .live) (at .count) (q .place)) (at .serial) q r → Stepped at was l r x k
+
+-- a record whose account is told by its number (K11)
+abbrev pub SteppedOn : At → List Bool → Lent → Record → Gone → Lent → Type 0
+SteppedOn at was l r = Stepped at was l (placed (bookIn at was l) r)

@@ -2,6 +2,7 @@
 ghost use mathlib.Core.Path.{_≡_};
 ghost use Rattle.book.specs.Facts.{Sound};
 ghost use Rattle.table.specs.Words.{marksFrom, marksOf, turned, turnedBack};
+ghost use Rattle.steps.specs.Lent.{lentOf};
 ghost use Rattle.steps.specs.Steps.{bookAt, Going, startOf};
 use crate::At;
 use crate::following::collaterals;
@@ -20,7 +21,7 @@ pub struct Entered {
 
 pub fn enter(t: Table) -> Entered
     requires { ⌜ Sound (turnedBack t) ⌝ }
-    ensures { λ e. ⌜ Going (e .at) (marksOf t) (t .amounts) (e .kept) (t .modes) (e .modes) (t .needs) (t .numbers) (e .excess) ⌝ }
+    ensures { λ e. ⌜ Going (e .at) (t .modes) (lentOf (marksOf t) (t .amounts) (e .kept) (e .modes) (t .needs) (t .numbers) (e .excess)) ⌝ }
     ensures { λ e. ⌜ e .at ≡ startOf t ⌝ }
 {
     let sort = t.sort;

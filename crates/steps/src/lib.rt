@@ -4,12 +4,12 @@ ghost use mathlib.Core.Path.{_≡_};
 ghost use Prim.Native.Nat.{_<_};
 ghost use lib.ListN.{length};
 ghost use Rattle.rules.specs.Refusals.{isOpening};
-ghost use Rattle.rules.specs.Numbered.{placed};
 ghost use Rattle.table.specs.Words.{marksFrom};
 ghost use Rattle.dayfile.specs.declared.Record.{Record};
 ghost use Rattle.codes.specs.Own.{aliveIn};
 ghost use Rattle.codes.specs.Asking.{Heads, recordAt};
-ghost use Rattle.steps.specs.Steps.{Asks, Asking, Ready, Decided, modesIn, bookAt, atAfter, Going, Stepped, goneWith};
+ghost use Rattle.steps.specs.Steps.{Asks, Asking, Ready, Decided, modesIn, atAfter, Going, GoingFor, SteppedFor, SteppedOn, goneWith};
+ghost use Rattle.steps.specs.Lent.{lent, before, after};
 use codes::amend_kinds;
 use codes::amend_one;
 use codes::asked::Asked;
@@ -67,8 +67,14 @@ fn decide(
     at: At,
     q: Request,
 ) -> u8
-    requires { ⌜ Ready (at .count) (at .serial) (marksFrom (now sort) (now live) (now tm)) (now w) (modesIn (at .waiting) (now was) (now modes)) (now needs) (at .next) (now numbers) × (length (now was) ≡ 256) × (length (now modes) ≡ 256) × Asking (aliveIn (now live) (at .count) (q .place)) (at .serial) q ⌝ }
-    ensures { λ x. ⌜ ((r : Record) → Asks (aliveIn (now (live .entry)) (at .count) (q .place)) (at .serial) q r → Decided (at .count) (at .serial) (marksFrom (now (sort .entry)) (now (live .entry)) (now (tm .entry))) (now (w .entry)) (modesIn (at .waiting) (now (was .entry)) (now (modes .entry))) (now (needs .entry)) (at .next) (now (numbers .entry)) r (goneWith x (isOpening r) (at .count) (at .serial) (at .next)) (marksFrom (now (sort .exit)) (now (live .exit)) (now (tm .exit))) (now (w .exit)) (now (numbers .exit))) ⌝ }
+    requires { ⌜ Ready (at .count) (at .serial) (marksFrom (now sort) (now live) (now tm)) (now w)
+        (modesIn (at .waiting) (now was) (now modes)) (now needs) (at .next) (now numbers)
+        × (length (now was) ≡ 256) × (length (now modes) ≡ 256) × Asking (aliveIn (now live) (at .count) (q .place)) (at .serial) q ⌝ }
+    ensures { λ x. ⌜ ((r : Record) → Asks (aliveIn (now (live .entry)) (at .count) (q .place)) (at .serial) q r → Decided (at .count) (at .serial)
+        (marksFrom (now (sort .entry)) (now (live .entry)) (now (tm .entry))) (now (w .entry))
+        (modesIn (at .waiting) (now (was .entry)) (now (modes .entry))) (now (needs .entry)) (at .next) (now (numbers .entry)) r
+        (goneWith x (isOpening r) (at .count) (at .serial) (at .next))
+        (marksFrom (now (sort .exit)) (now (live .exit)) (now (tm .exit))) (now (w .exit)) (now (numbers .exit))) ⌝ }
 {
     let code = q.code;
     let a = q.place;
@@ -142,8 +148,14 @@ fn carry(
     at: At,
     q: Request,
 ) -> Gone
-    requires { ⌜ Ready (at .count) (at .serial) (marksFrom (now sort) (now live) (now tm)) (now w) (modesIn (at .waiting) (now was) (now modes)) (now needs) (at .next) (now numbers) × (length (now was) ≡ 256) × (length (now modes) ≡ 256) × Asking (aliveIn (now live) (at .count) (q .place)) (at .serial) q ⌝ }
-    ensures { λ x. ⌜ ((r : Record) → Asks (aliveIn (now (live .entry)) (at .count) (q .place)) (at .serial) q r → Decided (at .count) (at .serial) (marksFrom (now (sort .entry)) (now (live .entry)) (now (tm .entry))) (now (w .entry)) (modesIn (at .waiting) (now (was .entry)) (now (modes .entry))) (now (needs .entry)) (at .next) (now (numbers .entry)) r x (marksFrom (now (sort .exit)) (now (live .exit)) (now (tm .exit))) (now (w .exit)) (now (numbers .exit))) ⌝ }
+    requires { ⌜ Ready (at .count) (at .serial) (marksFrom (now sort) (now live) (now tm)) (now w)
+        (modesIn (at .waiting) (now was) (now modes)) (now needs) (at .next) (now numbers)
+        × (length (now was) ≡ 256) × (length (now modes) ≡ 256) × Asking (aliveIn (now live) (at .count) (q .place)) (at .serial) q ⌝ }
+    ensures { λ x. ⌜ ((r : Record) → Asks (aliveIn (now (live .entry)) (at .count) (q .place)) (at .serial) q r → Decided (at .count) (at .serial)
+        (marksFrom (now (sort .entry)) (now (live .entry)) (now (tm .entry))) (now (w .entry))
+        (modesIn (at .waiting) (now (was .entry)) (now (modes .entry))) (now (needs .entry)) (at .next) (now (numbers .entry)) r
+        x
+        (marksFrom (now (sort .exit)) (now (live .exit)) (now (tm .exit))) (now (w .exit)) (now (numbers .exit))) ⌝ }
 {
     let n = decide(sort, live, tm, w, modes, needs, numbers, was, at, q);
     let opening = (1 <= q.code) & (q.code <= 3);
@@ -166,8 +178,9 @@ fn step_placed(
     at: At,
     q: Request,
 ) -> Gone
-    requires { ⌜ Going at (marksFrom (now sort) (now live) (now tm)) (now w) (now kept) (now was) (now modes) (now needs) (now numbers) (now excess) × Asking (aliveIn (now live) (at .count) (q .place)) (at .serial) q ⌝ }
-    ensures { λ x. ⌜ ((r : Record) → Asks (aliveIn (now (live .entry)) (at .count) (q .place)) (at .serial) q r → Stepped at (marksFrom (now (sort .entry)) (now (live .entry)) (now (tm .entry))) (now (w .entry)) (now (was .entry)) (now (modes .entry)) (now (needs .entry)) (now (numbers .entry)) r x (marksFrom (now (sort .exit)) (now (live .exit)) (now (tm .exit))) (now (w .exit)) (now (kept .exit)) (now (modes .exit)) (now (needs .exit)) (now (numbers .exit)) (now (excess .exit))) ⌝ }
+    requires { ⌜ GoingFor at (now was) (lent sort live tm w kept modes needs numbers excess) q ⌝ }
+    ensures { λ x. ⌜ SteppedFor at (now (was .entry)) (before sort live tm w kept modes needs numbers excess) q x
+        (after sort live tm w kept modes needs numbers excess) ⌝ }
 {
     let still = (q.code <= 5) | (q.code == 11);
     let i = slot(q.place);
@@ -207,8 +220,9 @@ pub fn step(
     at: At,
     r: Record,
 ) -> Gone
-    requires { ⌜ Going at (marksFrom (now sort) (now live) (now tm)) (now w) (now kept) (now was) (now modes) (now needs) (now numbers) (now excess) ⌝ }
-    ensures { λ x. ⌜ Stepped at (marksFrom (now (sort .entry)) (now (live .entry)) (now (tm .entry))) (now (w .entry)) (now (was .entry)) (now (modes .entry)) (now (needs .entry)) (now (numbers .entry)) (placed (bookAt at (marksFrom (now (sort .entry)) (now (live .entry)) (now (tm .entry))) (now (w .entry)) (now (was .entry)) (now (modes .entry)) (now (needs .entry)) (now (numbers .entry))) r) x (marksFrom (now (sort .exit)) (now (live .exit)) (now (tm .exit))) (now (w .exit)) (now (kept .exit)) (now (modes .exit)) (now (needs .exit)) (now (numbers .exit)) (now (excess .exit)) ⌝ }
+    requires { ⌜ Going at (now was) (lent sort live tm w kept modes needs numbers excess) ⌝ }
+    ensures { λ x. ⌜ SteppedOn at (now (was .entry)) (before sort live tm w kept modes needs numbers excess) r x
+        (after sort live tm w kept modes needs numbers excess) ⌝ }
 {
     let a = place_among(numbers, at.count, r.account);
     let asked = asked_of(live, at.count, at.serial, naming(a, r));
@@ -249,8 +263,10 @@ pub fn step_read(
     place: usize,
     h: Head,
 ) -> Gone
-    requires { ⌜ Going at (marksFrom (now sort) (now live) (now tm)) (now w) (now kept) (now was) (now modes) (now needs) (now numbers) (now excess) × Heads (now piece) place h ⌝ }
-    ensures { λ x. ⌜ Stepped at (marksFrom (now (sort .entry)) (now (live .entry)) (now (tm .entry))) (now (w .entry)) (now (was .entry)) (now (modes .entry)) (now (needs .entry)) (now (numbers .entry)) (placed (bookAt at (marksFrom (now (sort .entry)) (now (live .entry)) (now (tm .entry))) (now (w .entry)) (now (was .entry)) (now (modes .entry)) (now (needs .entry)) (now (numbers .entry))) (recordAt (now (piece .entry)) place h)) x (marksFrom (now (sort .exit)) (now (live .exit)) (now (tm .exit))) (now (w .exit)) (now (kept .exit)) (now (modes .exit)) (now (needs .exit)) (now (numbers .exit)) (now (excess .exit)) ⌝ }
+    requires { ⌜ Going at (now was) (lent sort live tm w kept modes needs numbers excess) × Heads (now piece) place h ⌝ }
+    ensures { λ x. ⌜ SteppedOn at (now (was .entry)) (before sort live tm w kept modes needs numbers excess)
+        (recordAt (now (piece .entry)) place h) x
+        (after sort live tm w kept modes needs numbers excess) ⌝ }
 {
     let a = place_among(numbers, at.count, h.account);
     let asked = asked_at(live, at.count, at.serial, a, piece, place, h);

@@ -11,6 +11,7 @@ use Rattle.rows.specs.declared.Book.{Book}
 use Rattle.table.specs.declared.Table.{Table}
 use Rattle.table.specs.Words.{marksOf, marksFrom, turnedBack}
 use Rattle.book.proofs.SoundTest.{sound←}
+use Rattle.steps.specs.Lent.{lentOf}
 use Rattle.steps.specs.Steps.{bookAt, Going}
 use Rattle.records.specs.Inner.{ranIn}
 use Rattle.records.proofs.NumbersPut.{ran-sound}
@@ -24,7 +25,7 @@ use Rattle.records.specs.Runs.{Ran}
 abbrev Inv-loop : tie.InvT-loop
 Inv-loop program printing space₀ numbers₀ text₀ words at₀ sort₀ live₀ tm₀ amounts₀ kept₀ modes₀ needs₀ accounts₀ excess₀ was rest₀ read₀ done₀ printed₀ ended₀ space numbers text at sort live tm amounts kept modes needs accounts excess rest read done printed ended =
     Feeding printing (bookAt at₀ (marksFrom sort₀ live₀ tm₀) amounts₀ was modes₀ needs₀ accounts₀) space (bookAt at (marksFrom sort live tm) amounts was modes needs accounts) rest read done printed
-    × Going at (marksFrom sort live tm) amounts kept was modes needs accounts excess
+    × Going at was (lentOf (marksFrom sort live tm) amounts kept modes needs accounts excess)
     × (length numbers ≡ 3200)
     × (length text ≡ 20480)
 
@@ -70,7 +71,9 @@ is-first e =
 
 -- what the turn came to
 abbrev ran : tie.After-carry-on Inv-loop μ-loop → Ran
-ran c = let x = c .carry-on .last in ranIn (c .carry-on .result) (marksFrom (x .0) (x .1 .0) (x .1 .1 .0)) (x .1 .1 .1 .0) (handed (turn (filled c)) .modes) (x .1 .1 .1 .1 .1 .0) (x .1 .1 .1 .1 .1 .1 .0) (x .1 .1 .1 .1 .1 .1 .1 .0)
+ran c =
+    let x = c .carry-on .last in
+    ranIn (c .carry-on .result) (handed (turn (filled c)) .modes) (lentOf (marksFrom (x .0) (x .1 .0) (x .1 .1 .0)) (x .1 .1 .1 .0) (x .1 .1 .1 .1 .0) (x .1 .1 .1 .1 .1 .0) (x .1 .1 .1 .1 .1 .1 .0) (x .1 .1 .1 .1 .1 .1 .1 .0) (x .1 .1 .1 .1 .1 .1 .1 .1 .0))
 
 piece : (c : tie.After-carry-on Inv-loop μ-loop) → (let f = filled c in let v = turn f .loop in
     Piece (called (entered (turn f .before)) .args .printing) (first (entered (turn f .before))) (v .space) (bookAt (v .at) (marksFrom (v .sort) (v .live) (v .tm)) (v .amounts) (handed (turn f) .modes) (v .modes) (v .needs) (v .accounts)) (v .rest) (v .read) (v .done) (v .printed) (f .refill .last .1 .0) (v .rest + f .refill .result .count) (ran c))

@@ -10,6 +10,7 @@ use Rattle.sums.proofs.Choices.{pick-first, pick-second}
 use Rattle.codes.specs.declared.asked.Headed.{Headed}
 use Rattle.codes.specs.Asking.{HeadedAt}
 use Rattle.table.specs.Words.{marksFrom}
+use Rattle.steps.specs.Lent.{lentOf}
 use Rattle.steps.specs.Steps.{bookAt, Going}
 use Rattle.records.specs.Runs.{runOf}
 use Rattle.records.specs.Inner.{putLineNumbers, putNumbersFrom}
@@ -21,7 +22,7 @@ use Rattle.records.proofs.go.Tie as tie
 abbrev Inv-loop : tie.InvT-loop
 Inv-loop sort₀ live₀ tm₀ w₀ kept₀ modes₀ needs₀ numbers₀ excess₀ was piece most room₀ numbered at₀ place₀ read₀ done₀ sort live tm w kept modes needs numbers excess room at place read done =
     Loop piece most numbered room₀ (bookAt at₀ (marksFrom sort₀ live₀ tm₀) w₀ was modes₀ needs₀ numbers₀) place₀ read₀ done₀ room (bookAt at (marksFrom sort live tm) w was modes needs numbers) place read done
-    × Going at (marksFrom sort live tm) w kept was modes needs numbers excess
+    × Going at was (lentOf (marksFrom sort live tm) w kept modes needs numbers excess)
 
 abbrev μ-loop : tie.MeasureT-loop
 μ-loop sort₀ live₀ tm₀ w₀ kept₀ modes₀ needs₀ numbers₀ excess₀ was piece most room₀ numbered at₀ place₀ read₀ done₀ sort live tm w kept modes needs numbers excess room at place read done =
@@ -103,8 +104,8 @@ loop-again c =
     let v = its-turn s .loop in
     let f = met (looked (whole (more s))) _ (whole (more s) .found .given .1) in
     rw e (
-      turn-on _ _ _ _ _ _ _ _ (v .room) (v .at) _ (v .w) _ (v .modes) (v .needs) (v .numbers) (v .place) (v .read) (v .done) (v .inv .0) _ _ (more s .if2 .left)
-          (f .0) _ _ _ _ _ _ _ _ (s .step-read .ensures) _ (numbers-are (c .before .before) ∙ line-read (f .1) (called (its-turn s) .args .numbered) (v .room) (v .read) (s .step-read .result .refusal) (s .step-read .result .given)),
+      turn-on _ _ _ _ _ _ _ _ (v .room) (v .at) _ (lentOf (marksFrom (v .sort) (v .live) (v .tm)) (v .w) (v .kept) (v .modes) (v .needs) (v .numbers) (v .excess)) (v .place) (v .read) (v .done) (v .inv .0) _ _ (more s .if2 .left)
+          (f .0) _ _ (s .step-read .ensures) _ (numbers-are (c .before .before) ∙ line-read (f .1) (called (its-turn s) .args .numbered) (v .room) (v .read) (s .step-read .result .refusal) (s .step-read .result .given)),
       s .step-read .ensures .ready,
     )
 
