@@ -1,7 +1,7 @@
 -- What a record asks, by what is read of it: the first fault that its code meets, or the amounts that its code names.
-use mathlib.Core.Bool.{Bool, true, false, not, _&&_, and-true}
+use mathlib.Core.Bool.{Bool, true, false, not, _&&_, _||_, and-true}
 use mathlib.Core.List.{List}
-use mathlib.Core.Logic.{_⊎_, inl, inr}
+use mathlib.Core.Logic.{_⊎_, inl, inr, ⊎-elim}
 use mathlib.Core.Path.{_≡_, refl, sym, ap, subst, _∙_}
 use Prim.Native.Nat.{ℕ, zero, suc, _≤_, _<_}
 use native.Mathlib.Omega.{arith}
@@ -27,7 +27,8 @@ use Rattle.rules.proofs.Codes.{Code, openTM, openClient, openCP, receive, handB
 use Rattle.codes.specs.declared.asked.Asked.{Asked}
 use Rattle.codes.specs.declared.asked.Asked.the-variants.{Refused, Bare, One, Four}
 use Rattle.codes.specs.Own.{earlyNumber}
-use Rattle.codes.specs.Asking.{namesKinds, namesOne, namesMargin, namesNone, goodNamed, goodKinds, goodOne, amountOf, asksOf, askedOf}
+use Rattle.codes.specs.Asking.{namesKinds, namesOne, namesMargin, namesNone, goodNamed, goodKinds, goodOne, oneAmount, asksOf, namesOnly, kindOf, meant, askedOf}
+use Rattle.codes.specs.OneKind.{onlyKind}
 use Rattle.codes.proofs.Lines.{only-seven}
 
 -- ---- the first fault
@@ -119,6 +120,28 @@ none-cases P c h p1 p2 p3 p11 = by (or-split (leb 1 c && leb c 3) (eqb c 11) h)
     by : ((leb 1 c && leb c 3) ≡ true) ⊎ (eqb c 11 ≡ true) → P c
     by (inl e) = let s = and-split (leb 1 c) (leb c 3) e in low (ℕ-discrete c 1) (ℕ-discrete c 2) (leb-true 1 c (s .0)) (leb-true c 3 (s .1))
     by (inr e) = subst P (sym (eqb-true c 11 e)) p11
+
+only-cases : (P : ℕ → Type 0) (n : ℕ) → namesOnly n ≡ true → P 1 → P 2 → P 4 → P 8 → P n
+only-cases P n h p1 p2 p4 p8 = by (or-split (eqb n 1 || eqb n 2 || eqb n 4) (eqb n 8) h)
+  where
+    low : (eqb n 1 || eqb n 2) ≡ true → P n
+    low e = ⊎-elim (λ q. subst P (sym (eqb-true n 1 q)) p1) (λ q. subst P (sym (eqb-true n 2 q)) p2) (or-split (eqb n 1) (eqb n 2) e)
+
+    by : ((eqb n 1 || eqb n 2 || eqb n 4) ≡ true) ⊎ (eqb n 8 ≡ true) → P n
+    by (inl e) = ⊎-elim low (λ q. subst P (sym (eqb-true n 4 q)) p4) (or-split (eqb n 1 || eqb n 2) (eqb n 4) e)
+    by (inr e) = subst P (sym (eqb-true n 8 e)) p8
+
+module _ (n : ℕ) (h : namesOnly n ≡ true) where
+  pub only-suits : (leb 1 n && leb n 15) ≡ true
+  only-suits = only-cases (λ x. (leb 1 x && leb x 15) ≡ true) n h refl refl refl refl
+
+  pub only-length : sizeOf n ≡ 14
+  unfolding ones
+  only-length = only-cases (λ x. sizeOf x ≡ 14) n h refl refl refl refl
+
+  pub only-good : (x : ℕ) → goodKinds n (onlyKind (kindOf n) x) ≡ goodNamed 1 x
+  unfolding pick
+  only-good x = only-cases (λ q. goodKinds q (onlyKind (kindOf q) x) ≡ goodNamed 1 x) n h (simp and-true) (simp and-true) (simp and-true) refl
 
 module _ (c : ℕ) where
   pub kinds-known : namesKinds c ≡ true → knownCode c ≡ true
@@ -239,6 +262,25 @@ module _ (c n : ℕ) (l : List ℕ) where
   unfolding recordOf got past pick
   one-asks h = one-cases (λ x. n ≡ markOf x → asksOf (recordOf x n l) ≡ One front) c h (λ e. rw e) (λ e. rw e) (λ e. rw e) (λ e. rw e) (λ e. rw e)
 
+  -- one kind alone
+  pub only-read : namesOnly n ≡ true → r .kinds ≡ onlyKind (kindOf n) front
+  unfolding recordOf got past pick
+  only-read h = only-cases (λ x. recordOf c x l .kinds ≡ onlyKind (kindOf x) (number 8 (drop 2 (drop 2 l)))) n h refl refl refl refl
+
+-- four amounts stand for one kind alone
+pub meant-own : (alive : Bool) (serial : ℕ) (r : Record) → meant (askedOf alive serial r) ≡ askedOf alive serial r
+unfolding askedOf pick
+meant-own alive serial r = by (earlyNumber alive serial r)
+  where
+    plain : (t u : Bool) (k : Kinds) (y : ℕ) → meant (pick t (Four k) (pick u (One y) Bare)) ≡ pick t (Four k) (pick u (One y) Bare)
+    plain true u k y = refl
+    plain false true k y = refl
+    plain false false k y = refl
+
+    by : (n : ℕ) → meant (unlessRefused n (asksOf r) Refused) ≡ unlessRefused n (asksOf r) Refused
+    by zero = plain (namesKinds (r .code)) (namesOne (r .code)) (r .kinds) (oneAmount r)
+    by (suc n) = refl
+
 -- ---- what was asked, taken apart
 
 module _ (alive : Bool) (serial : ℕ) (r : Record) where
@@ -277,7 +319,7 @@ module _ (alive : Bool) (serial : ℕ) (r : Record) where
       by false true k y q = zero-is-not-one (cc)
       by false false k y q = (refl, refl)
 
-  pub one-early : (y : ℕ) → askedOf alive serial r ≡ One y → (0 ≡ earlyNumber alive serial r) × (namesOne c ≡ true) × (amountOf r ≡ y)
+  pub one-early : (y : ℕ) → askedOf alive serial r ≡ One y → (0 ≡ earlyNumber alive serial r) × (namesOne c ≡ true) × (oneAmount r ≡ y)
   unfolding pick
   one-early y e = let p = passes (One y) (λ n q. zero-is-not-one (cc)) e in let b = by (namesKinds c) (namesOne c) _ _ (p .1) in (p .0, b .0, b .1)
     where

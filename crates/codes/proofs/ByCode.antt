@@ -17,7 +17,7 @@ use Rattle.dayfile.specs.declared.Record.{Record}
 use Rattle.rules.proofs.Amending.{by-receive, by-hand-back, by-allocate, by-release, by-pledge, by-unpledge, by-margin, by-set-pledged, by-set-margin, by-retire}
 use Rattle.table.specs.Words.{Marks, rowIn}
 use Rattle.codes.specs.Own.{besideIn, needPassesIn, leavesBelow, releaseLines, unpledgeLines, marginLines, Answered, Receives, HandsBack, Allocates, Releases, Pledges, Unpledges, SetsMargin, SetsPledged, RevisesMargin, Retires}
-use Rattle.codes.specs.Asking.{namesKinds, namesOne, namesMargin, amountOf}
+use Rattle.codes.specs.Asking.{namesKinds, namesOne, namesMargin, oneAmount}
 use Rattle.codes.proofs.Asking.{one-cases}
 use Rattle.codes.proofs.Lines.{receive-own, left-own, release-own, pledge-own, unpledge-own, margin-own, none-own, retire-own}
 use Rattle.codes.proofs.Made.{as-amended}
@@ -31,10 +31,10 @@ last-one n h = one-cases (λ x. (x ≡ 8 → ⊥) → (x ≡ 9 → ⊥) → (x �
     (λ a b c d. absurd (a refl)) (λ a b c d. absurd (b refl)) (λ a b c d. absurd (c refl)) (λ a b c d. absurd (d refl)) (λ a b c d. refl)
 
 -- the one amount
-pub pledged-is : (r : Record) → namesMargin (r .code) ≡ false → r .pledged ≡ amountOf r
+pub pledged-is : (r : Record) → namesMargin (r .code) ≡ false → r .pledged ≡ oneAmount r
 pledged-is r e = sym (pick-no _ _ _ e)
 
-pub margin-is : (r : Record) → namesMargin (r .code) ≡ true → r .margin ≡ amountOf r
+pub margin-is : (r : Record) → namesMargin (r .code) ≡ true → r .margin ≡ oneAmount r
 margin-is r e = sym (pick-yes _ _ _ e)
 
 module _ (count : ℕ) (m : Marks) (w under : List ℕ) (on : Bool) (r : Record) where

@@ -22,8 +22,9 @@ use Rattle.codes.specs.declared.asked.Head.{Head}
 use Rattle.codes.specs.declared.asked.Asked.{Asked}
 use Rattle.codes.specs.declared.asked.Asked.the-variants.{Refused, Bare, One, Four}
 use Rattle.codes.specs.Own.{earlyNumber}
-use Rattle.codes.specs.Asking.{namesKinds, namesOne, namesNone, goodKinds, goodOne, asksOf, askedOf, recordAt, Heads}
-use Rattle.codes.proofs.Asking.{fault-4, fault-5, fault-6, no-fault, faulty, dead-asked, live-asked, kinds-known, one-known, none-known, none-mark, kinds-good, kinds-asks, none-good, none-asks, one-good, one-asks}
+use Rattle.codes.specs.Asking.{namesKinds, namesOne, namesNone, goodNamed, goodKinds, goodOne, asksOf, namesOnly, kindOf, askedOf, recordAt, Heads}
+use Rattle.codes.specs.OneKind.{onlyKind}
+use Rattle.codes.proofs.Asking.{fault-4, fault-5, fault-6, no-fault, faulty, dead-asked, live-asked, kinds-known, one-known, none-known, none-mark, kinds-good, kinds-asks, none-good, none-asks, one-good, one-asks, only-suits, only-good, only-read}
 
 -- ---- what is read
 
@@ -158,6 +159,26 @@ module _ (s : List ℕ) (place : ℕ) (h : Head) (g : Heads s place h) (alive : 
 
       pub kinds-pass : goodKinds (h .named) k ≡ true → alive ≡ true → Comes (Four k)
       kinds-pass b = asks (kinds-known (h .code) n) kinds-suits (Four k) (kinds-asks (h .code) (h .named) l n ∙ ap Four (sym read)) (kinds-are-good ∙ b)
+
+    -- one kind alone
+    module _ (o : namesOnly (h .named) ≡ true) (x : ℕ) (read : x ≡ number 8 (drop (place + 6) s)) where
+      abbrev k : Kinds
+      k = onlyKind (kindOf (h .named)) x
+
+      only : k ≡ r .kinds
+      only = ap (onlyKind (kindOf (h .named))) (read ∙ front-read s place h) ∙ sym (only-read (h .code) (h .named) l o)
+
+      only-is-good : goodKinds (h .named) k ≡ goodNamed 1 x
+      only-is-good = only-good (h .named) o x
+
+      pub only-beyond : goodNamed 1 x ≡ false → Comes (Refused 6)
+      only-beyond b = kinds-beyond (only-suits (h .named) o) k only (only-is-good ∙ b)
+
+      pub only-dead : goodNamed 1 x ≡ true → alive ≡ false → Comes (Refused 7)
+      only-dead b = kinds-dead (only-suits (h .named) o) k only (only-is-good ∙ b)
+
+      pub only-passes : goodNamed 1 x ≡ true → alive ≡ true → Comes (Four k)
+      only-passes b = kinds-pass (only-suits (h .named) o) k only (only-is-good ∙ b)
 
 -- ---- the record's account told otherwise
 

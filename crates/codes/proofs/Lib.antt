@@ -1,5 +1,6 @@
 pub mod Lines
 pub mod Made
+pub mod OneKind
 pub mod ByCode
 pub mod Asking
 pub mod Heading

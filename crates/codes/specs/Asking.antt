@@ -16,9 +16,12 @@ use Rattle.codes.specs.declared.asked.Head.{Head}
 use Rattle.codes.specs.declared.asked.Headed.{Headed}
 use Rattle.codes.specs.declared.asked.Headed.the-variants.{End as NoHead, Cut as TooFew, Whole as Begins}
 use Rattle.codes.specs.declared.asked.Asked.{Asked}
-use Rattle.codes.specs.declared.asked.Asked.the-variants.{Refused, Bare, One, Four}
+use Rattle.codes.specs.declared.asked.Asked.the-variants.{Refused, Bare, One, Only, Four}
 use Rattle.table.specs.Words.{Marks}
+use Rattle.codes.specs.declared.one_kind.Kind.{Kind}
+use Rattle.codes.specs.declared.one_kind.Kind.the-variants.{Cash, Deposits, Guarantees, Securities}
 use Rattle.codes.specs.Own.{earlyNumber, Answered}
+use Rattle.codes.specs.OneKind.{onlyKind}
 
 -- which amounts a code names: one or more kinds, one amount, which is a margin or pledged, or none
 abbrev pub namesKinds : ℕ → Bool
@@ -49,12 +52,27 @@ abbrev pub goodOne : ℕ → ℕ → Bool
 goodOne code x = leb (leastOf code) x && leb x ceiling
 
 -- the one amount of a record that names one
-abbrev pub amountOf : Record → ℕ
-amountOf r = pick (namesMargin (r .code)) (r .margin) (r .pledged)
+abbrev pub oneAmount : Record → ℕ
+oneAmount r = pick (namesMargin (r .code)) (r .margin) (r .pledged)
 
 -- the amounts of a record that its code names
 abbrev pub asksOf : Record → Asked
-asksOf r = pick (namesKinds (r .code)) (Four (r .kinds)) (pick (namesOne (r .code)) (One (amountOf r)) Bare)
+asksOf r = pick (namesKinds (r .code)) (Four (r .kinds)) (pick (namesOne (r .code)) (One (oneAmount r)) Bare)
+
+-- a second mark byte that names one kind alone, and which it names
+abbrev pub namesOnly : ℕ → Bool
+namesOnly named = eqb named 1 || eqb named 2 || eqb named 4 || eqb named 8
+
+abbrev pub kindOf : ℕ → Kind
+kindOf named = pick (eqb named 1) Cash (pick (eqb named 2) Deposits (pick (eqb named 4) Guarantees Securities))
+
+-- one kind alone asked stands for four amounts
+abbrev pub meant : Asked → Asked
+meant (Refused n) = Refused n
+meant Bare = Bare
+meant (One x) = One x
+meant (Only kind x) = Four (onlyKind kind x)
+meant (Four k) = Four k
 
 -- those, unless a line before 8 refuses the record
 unfoldable pub askedOf : Bool → ℕ → Record → Asked
@@ -65,7 +83,7 @@ abbrev pub AnswersKinds : Marks → List ℕ → List ℕ → Bool → ℕ → �
 AnswersKinds m w under on i code k x u = (count : ℕ) (r : Record) → (r .code ≡ code) × (r .account ≡ i) × (r .kinds ≡ k) → Answered count m w under on r x m u
 
 abbrev pub AnswersOne : Marks → List ℕ → List ℕ → Bool → ℕ → ℕ → ℕ → ℕ → List ℕ → Type 0
-AnswersOne m w under on i code y x u = (count : ℕ) (r : Record) → (r .code ≡ code) × (r .account ≡ i) × (amountOf r ≡ y) → Answered count m w under on r x m u
+AnswersOne m w under on i code y x u = (count : ℕ) (r : Record) → (r .code ≡ code) × (r .account ≡ i) × (oneAmount r ≡ y) → Answered count m w under on r x m u
 
 -- the record at a place of a piece that begins with this head
 abbrev pub recordAt : List ℕ → ℕ → Head → Record

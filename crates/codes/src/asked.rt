@@ -6,9 +6,10 @@ ghost use lib.ListN.{length, drop};
 ghost use Rattle.numbers.specs.Bytes.{number};
 ghost use Rattle.dayfile.specs.Taking.{markOf};
 ghost use Rattle.codes.specs.Own.{aliveIn};
-ghost use Rattle.codes.specs.Asking.{namesKinds, namesOne, namesMargin, namesNone, goodNamed, goodKinds, goodOne, askedOf, recordAt, Heads, HeadedAt};
+ghost use Rattle.codes.specs.Asking.{namesKinds, namesOne, namesMargin, namesNone, goodNamed, goodKinds, goodOne, namesOnly, kindOf, meant, askedOf, recordAt, Heads, HeadedAt};
 use crate::alive;
 use crate::early;
+use crate::one_kind::Kind;
 use dayfile::Record;
 use dayfile::size;
 use numbers::number2;
@@ -32,11 +33,12 @@ pub enum Headed {
     Whole(Head, usize),
 }
 
-// What a record asks: nothing, since a line before 8 refuses it, or by its code no amount, one, or one of each kind.
+// What a record asks: nothing, since a line before 8 refuses it, or by its code no amount, one, or one of each kind; where one kind alone is named, that one.
 pub enum Asked {
     Refused(u8),
     Bare,
     One(u64),
+    Only(Kind, u64),
     Four(Kinds),
 }
 
@@ -127,7 +129,7 @@ fn kinds_at(piece: &[u8], place: usize, h: Head) -> Kinds
     }
 }
 
-// An amount that was read: 0 where its bit is.
+// An amount that was read, which is 0 where its bit is: from 1 to the ceiling, or 0.
 fn good_named(bit: u8, x: u64) -> bool
     ensures { λ r. ⌜ r ≡ goodNamed bit x ⌝ }
 {
@@ -143,13 +145,50 @@ fn good_kinds(named: u8, k: Kinds) -> bool
         & good_named(named / 8 % 2, k.securities)
 }
 
-// Kinds: 5, 6 or 7, or the four amounts.
+// The second mark byte, whose bits are kinds, names one alone.
+fn names_only(named: u8) -> bool
+    ensures { λ x. ⌜ x ≡ namesOnly named ⌝ }
+{
+    (named == 1) | (named == 2) | (named == 4) | (named == 8)
+}
+
+fn kind_of(named: u8) -> Kind
+    ensures { λ x. ⌜ x ≡ kindOf named ⌝ }
+{
+    match named {
+        1 => Kind::Cash,
+        2 => Kind::Deposits,
+        4 => Kind::Guarantees,
+        _ => Kind::Securities,
+    }
+}
+
+// One kind: 6 or 7, or its amount.
+fn asked_only(live: &[bool; 256], count: u16, i: u16, piece: &[u8], place: usize, h: Head) -> Asked
+    requires { ⌜ (count ≤ 256) × (namesKinds (h .code) ≡ true) × (namesOnly (h .named) ≡ true) × Heads (now piece) place h ⌝ }
+    ensures { λ x. ⌜ meant x ≡ askedOf (aliveIn (now (live .entry)) count i) (h .serial) (recordAt (now (piece .entry)) place h) ⌝ }
+{
+    let x = number8(piece, place + 6);
+    if !good_named(1, x) {
+        return Asked::Refused(6);
+    }
+    if alive(live, count, i) {
+        Asked::Only(kind_of(h.named), x)
+    } else {
+        Asked::Refused(7)
+    }
+}
+
+// Kinds: 5, 6 or 7, or the amounts.
 fn asked_kinds(live: &[bool; 256], count: u16, i: u16, piece: &[u8], place: usize, h: Head) -> Asked
     requires { ⌜ (count ≤ 256) × (namesKinds (h .code) ≡ true) × Heads (now piece) place h ⌝ }
-    ensures { λ x. ⌜ x ≡ askedOf (aliveIn (now (live .entry)) count i) (h .serial) (recordAt (now (piece .entry)) place h) ⌝ }
+    ensures { λ x. ⌜ meant x ≡ askedOf (aliveIn (now (live .entry)) count i) (h .serial) (recordAt (now (piece .entry)) place h) ⌝ }
 {
     if !((1 <= h.named) & (h.named <= 15)) {
         return Asked::Refused(5);
+    }
+    if names_only(h.named) {
+        return asked_only(live, count, i, piece, place, h);
     }
     let k = kinds_at(piece, place, h);
     if !good_kinds(h.named, k) {
@@ -223,7 +262,7 @@ pub fn asked_at(
     h: Head,
 ) -> Asked
     requires { ⌜ (count ≤ 256) × Heads (now piece) place h ⌝ }
-    ensures { λ x. ⌜ x ≡ askedOf (aliveIn (now (live .entry)) count i) serial (recordAt (now (piece .entry)) place h) ⌝ }
+    ensures { λ x. ⌜ meant x ≡ askedOf (aliveIn (now (live .entry)) count i) serial (recordAt (now (piece .entry)) place h) ⌝ }
 {
     if h.serial != serial {
         return Asked::Refused(3);

@@ -7,8 +7,14 @@ ghost use Rattle.rows.specs.Facts.{KindsWithin};
 ghost use Rattle.rows.specs.Ranges.{ceilings};
 ghost use Rattle.table.specs.Words.{marksFrom};
 ghost use Rattle.codes.specs.Own.{aliveIn, earlyNumber, deemedUnderIn, Held};
+ghost use Rattle.codes.specs.OneKind.{onlyKind};
 ghost use Rattle.codes.specs.Asking.{namesKinds, namesOne, AnswersKinds, AnswersOne};
 use dayfile::Record;
+use one_kind::Kind;
+use one_kind::allocate_kind;
+use one_kind::hand_back_kind;
+use one_kind::receive_kind;
+use one_kind::release_kind;
 use own::allocate;
 use own::hand_back;
 use own::pledge;
@@ -21,6 +27,7 @@ use own::unpledge;
 use rows::Kinds;
 
 pub mod asked;
+pub mod one_kind;
 pub mod own;
 pub mod settling;
 
@@ -70,6 +77,30 @@ pub fn amend_kinds(
         5 => hand_back(sort, live, tm, w, i, k),
         6 => allocate(sort, live, tm, w, i, k),
         _ => release(sort, live, tm, w, needs, on, i, k),
+    }
+}
+
+// The same where one kind alone is named.
+pub fn amend_only(
+    sort: &[u8; 256],
+    live: &[bool; 256],
+    tm: &[u16; 256],
+    w: &mut [u64; 2560],
+    needs: &[u64; 256],
+    on: bool,
+    i: usize,
+    code: u8,
+    kind: Kind,
+    x: u64,
+) -> u8
+    requires { ⌜ Held (marksFrom (now sort) (now live) (now tm)) (now w) (deemedUnderIn (now w) (now needs)) i × KindsWithin (onlyKind kind x) ceilings × (namesKinds code ≡ true) ⌝ }
+    ensures { λ n. ⌜ AnswersKinds (marksFrom (now (sort .entry)) (now (live .entry)) (now (tm .entry))) (now (w .entry)) (deemedUnderIn (now (w .entry)) (now (needs .entry))) on i code (onlyKind kind x) n (now (w .exit)) ⌝ }
+{
+    match code {
+        4 => receive_kind(sort, live, tm, w, i, kind, x),
+        5 => hand_back_kind(sort, live, tm, w, i, kind, x),
+        6 => allocate_kind(sort, live, tm, w, i, kind, x),
+        _ => release_kind(sort, live, tm, w, needs, on, i, kind, x),
     }
 }
 

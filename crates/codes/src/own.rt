@@ -143,7 +143,7 @@ pub(crate) fn allocate(
 }
 
 // What release and unpledge ask where the row is put anew: K5's 17 before K7's 12, by the collateral that is left and what was blocked.
-fn taking<'a>(
+pub(crate) fn taking<'a>(
     w: &'a [u64; 2560],
     needs: &'a [u64; 256],
     on: bool,

@@ -19,7 +19,7 @@ use Rattle.table.specs.Words.{Marks}
 use Rattle.codes.specs.declared.asked.Asked.{Asked}
 use Rattle.codes.specs.declared.asked.Asked.the-variants.{Refused, Bare, One, Four}
 use Rattle.codes.specs.Own.{earlyNumber, aliveIn, deemedUnderIn, Held, Answered, Opens, numbersWith, Retires}
-use Rattle.codes.specs.Asking.{namesKinds, namesOne, namesMargin, amountOf, askedOf, AnswersKinds, AnswersOne}
+use Rattle.codes.specs.Asking.{namesKinds, namesOne, namesMargin, oneAmount, meant, askedOf, AnswersKinds, AnswersOne}
 use Rattle.codes.proofs.Asking.{refused-early, bare-early, one-early, kinds-early, bare-opens}
 use Rattle.codes.proofs.ByCode.{retire-answered}
 use Rattle.steps.specs.declared.Request.{Request}
@@ -44,12 +44,12 @@ module _ (count serial : ℕ) (m : Marks) (w : List ℕ) (modes : List Bool) (ne
   abbrev Left : ℕ → Marks → List ℕ → List ℕ → Type 0
   Left x n u numbers′ = Decided count serial m w modes needs next numbers r (goneWith x (isOpening r) count serial next) n u numbers′
 
-  told : (x : Asked) → asked ≡ x → askedOf (aliveIn (m .live) count (r .account)) serial r ≡ x
+  told : (x : Asked) → meant asked ≡ x → askedOf (aliveIn (m .live) count (r .account)) serial r ≡ x
   told x e = ap (λ p. askedOf (aliveIn (m .live) count p) serial r) (q .placed) ∙ sym (q .is) ∙ e
 
   pub refused-left : (n : ℕ) → asked ≡ Refused n → Left n m w numbers
   refused-left n e =
-      let t = refused-early _ serial r n (told _ e) in
+      let t = refused-early _ serial r n (told _ (ap meant e)) in
       refused-at count serial m w modes needs next numbers h r n _ (early-is count serial m w modes needs next numbers h r n (t .0) (t .1)) (t .1)
 
   -- where no line before 8 refuses it
@@ -63,7 +63,7 @@ module _ (count serial : ℕ) (m : Marks) (w : List ℕ) (modes : List Bool) (ne
 
   module _ (e : asked ≡ Bare) where
     bare : (0 ≡ earlyNumber (aliveIn (m .live) count (r .account)) serial r) × (namesKinds (r .code) ≡ false) × (namesOne (r .code) ≡ false)
-    bare = bare-early _ serial r (told _ e)
+    bare = bare-early _ serial r (told _ (ap meant e))
 
     pub bare-held : Held m w under a
     bare-held = held (bare .0)
@@ -80,8 +80,8 @@ module _ (count serial : ℕ) (m : Marks) (w : List ℕ) (modes : List Bool) (ne
         amended (bare .0) (opening-not r (omega (arith, c))) _ refl x n w (retire-answered count m w under _ r c (rw (q .placed) o))
 
   module _ (z : ℕ) (e : asked ≡ One z) where
-    one : (0 ≡ earlyNumber (aliveIn (m .live) count (r .account)) serial r) × (namesOne (r .code) ≡ true) × (amountOf r ≡ z)
-    one = one-early _ serial r z (told _ e)
+    one : (0 ≡ earlyNumber (aliveIn (m .live) count (r .account)) serial r) × (namesOne (r .code) ≡ true) × (oneAmount r ≡ z)
+    one = one-early _ serial r z (told _ (ap meant e))
 
     pub one-held : Held m w under a × (z ≤ ceiling) × (namesOne code ≡ true)
     unfolding pick
@@ -99,7 +99,7 @@ module _ (count serial : ℕ) (m : Marks) (w : List ℕ) (modes : List Bool) (ne
         past-three : (c : ℕ) → namesOne c ≡ true → 3 < c
         past-three c n = omega (arith, leb-true 8 c (and-split (leb 8 c) (leb c 13) (and-split (leb 8 c && leb c 13) _ n .0) .0))
 
-  module _ (k : Kinds) (e : asked ≡ Four k) where
+  module _ (k : Kinds) (e : meant asked ≡ Four k) where
     four : (0 ≡ earlyNumber (aliveIn (m .live) count (r .account)) serial r) × (namesKinds (r .code) ≡ true) × (r .kinds ≡ k)
     four = kinds-early _ serial r k (told _ e)
 

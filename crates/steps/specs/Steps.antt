@@ -18,7 +18,7 @@ use Rattle.rules.specs.declared.Change.the-variants.{Refuse, Put, Open}
 use Rattle.rules.specs.Effects.{changeOf, changedBy, bookAfter, nextSerial}
 use Rattle.rules.specs.Numbered.{placed}
 use Rattle.codes.specs.Own.{aliveIn}
-use Rattle.codes.specs.Asking.{askedOf}
+use Rattle.codes.specs.Asking.{meant, askedOf}
 use Rattle.table.specs.declared.Table.{Table}
 use Rattle.table.specs.Words.{Marks, bookFrom}
 use Rattle.table.specs.Facts.{Sized}
@@ -119,7 +119,7 @@ pub record Stepped (at : At) (was : List Bool) (l : Lent) (r : Record) (x : Gone
 pub record Asks (alive : Bool) (serial : ℕ) (q : Request) (r : Record) : Type 0 where
   pub coded : r .code ≡ q .code
   pub placed : r .account ≡ q .place
-  pub is : q .asked ≡ askedOf alive serial r
+  pub is : meant (q .asked) ≡ askedOf alive serial r
 
 -- some record does
 pub record Asking (alive : Bool) (serial : ℕ) (q : Request) : Type 0 where

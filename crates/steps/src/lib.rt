@@ -12,6 +12,7 @@ ghost use Rattle.steps.specs.Steps.{Asks, Asking, Ready, Decided, modesI
 ghost use Rattle.steps.specs.Lent.{lent, before, after};
 use codes::amend_kinds;
 use codes::amend_one;
+use codes::amend_only;
 use codes::asked::Asked;
 use codes::asked::Head;
 use codes::asked::asked_at;
@@ -91,6 +92,11 @@ fn decide(
             let i = a as usize;
             let on = mode_of(was, modes, at.waiting, i);
             amend_one(sort, live, tm, w, needs, on, i, code, y)
+        }
+        Asked::Only(kind, x) => {
+            let i = a as usize;
+            let on = mode_of(was, modes, at.waiting, i);
+            amend_only(sort, live, tm, w, needs, on, i, code, kind, x)
         }
         Asked::Four(k) => {
             let i = a as usize;

@@ -1,6 +1,8 @@
 -- `steps::decide` meets its contract: a refusal, an opening, 11, or the code's own lines by the mode before the record (K5).
+use mathlib.Core.Path.{ap}
 use native.Mathlib.Omega.{arith}
 use borrow.Author.Needs.{needs}
+use Rattle.codes.specs.Asking.{meant}
 use Rattle.steps.proofs.Asked.{refused-left, bare-held, opens-left, retires-left, one-held, one-left, kinds-held, kinds-left}
 use Rattle.steps.proofs.decide.Statement.{statement}
 use Rattle.steps.proofs.decide.Tie as tie
@@ -12,7 +14,10 @@ bare t = t .before .before
 abbrev one : tie.After-known-told2 → tie.Start
 one t = t .before .before .before
 
-abbrev kinds : tie.After-known-told3 → tie.Start
+abbrev only : tie.After-known-told3 → tie.Start
+only t = t .before .before .before
+
+abbrev kinds : tie.After-known-told4 → tie.Start
 kinds t = t .before .before .before
 
 retire-requires : tie.Need-retire-requires
@@ -50,18 +55,32 @@ amend-one-requires c κs =
     one-held _ _ _ _ _ _ _ _ (s .pre .0) _ _ (s .pre .3 .asks) _ (t .before .asked2 .given .1)
 
 cast-i-2 : tie.Need-cast-i-2
-cast-i-2 c = let s = kinds c in omega (arith, kinds-held _ _ _ _ _ _ _ _ (s .pre .0) _ _ (s .pre .3 .asks) _ (c .before .asked3 .given .1) .0 .inside)
+cast-i-2 c = let s = only c in omega (arith, kinds-held _ _ _ _ _ _ _ _ (s .pre .0) _ _ (s .pre .3 .asks) _ (ap meant (c .before .asked3 .given .1)) .0 .inside)
 
 mode-of-requires-2 : tie.Need-mode-of-requires-2
 mode-of-requires-2 c κs =
+    let s = only c in
+    (kinds-held _ _ _ _ _ _ _ _ (s .pre .0) _ _ (s .pre .3 .asks) _ (ap meant (c .before .asked3 .given .1)) .0 .inside, s .pre .1, s .pre .2)
+
+amend-only-requires : tie.Need-amend-only-requires
+amend-only-requires c κs =
+    let t = c .before .before .before .before .before in
+    let s = only t in
+    kinds-held _ _ _ _ _ _ _ _ (s .pre .0) _ _ (s .pre .3 .asks) _ (ap meant (t .before .asked3 .given .1))
+
+cast-i-3 : tie.Need-cast-i-3
+cast-i-3 c = let s = kinds c in omega (arith, kinds-held _ _ _ _ _ _ _ _ (s .pre .0) _ _ (s .pre .3 .asks) _ (ap meant (c .before .asked4 .given .1)) .0 .inside)
+
+mode-of-requires-3 : tie.Need-mode-of-requires-3
+mode-of-requires-3 c κs =
     let s = kinds c in
-    (kinds-held _ _ _ _ _ _ _ _ (s .pre .0) _ _ (s .pre .3 .asks) _ (c .before .asked3 .given .1) .0 .inside, s .pre .1, s .pre .2)
+    (kinds-held _ _ _ _ _ _ _ _ (s .pre .0) _ _ (s .pre .3 .asks) _ (ap meant (c .before .asked4 .given .1)) .0 .inside, s .pre .1, s .pre .2)
 
 amend-kinds-requires : tie.Need-amend-kinds-requires
 amend-kinds-requires c κs =
     let t = c .before .before .before .before .before in
     let s = kinds t in
-    kinds-held _ _ _ _ _ _ _ _ (s .pre .0) _ _ (s .pre .3 .asks) _ (t .before .asked3 .given .1)
+    kinds-held _ _ _ _ _ _ _ _ (s .pre .0) _ _ (s .pre .3 .asks) _ (ap meant (t .before .asked4 .given .1))
 
 returns-2 : tie.Need-returns-2
 returns-2 c = λ r q. refused-left _ _ _ _ _ _ _ _ (c .before .before .before .pre .0) _ r q _ (c .before .asked .given .1)
@@ -82,11 +101,18 @@ returns-5 : tie.Need-returns-5
 returns-5 c = λ r q.
     let m = c .before .before .before .before .before in
     let t = m .before in
-    kinds-left _ _ _ _ _ _ _ _ (kinds t .pre .0) _ r q _ (t .before .asked3 .given .1) _ (m .mode-of2 .ensures) _ _ (c .amend-kinds .ensures)
+    kinds-left _ _ _ _ _ _ _ _ (only t .pre .0) _ r q _ (ap meant (t .before .asked3 .given .1)) _ (m .mode-of2 .ensures) _ _ (c .amend-only .ensures)
+
+returns-6 : tie.Need-returns-6
+returns-6 c = λ r q.
+    let m = c .before .before .before .before .before in
+    let t = m .before in
+    kinds-left _ _ _ _ _ _ _ _ (kinds t .pre .0) _ r q _ (ap meant (t .before .asked4 .given .1)) _ (m .mode-of3 .ensures) _ _ (c .amend-kinds .ensures)
 
 pub decide-spec : {M : Type 1} → statement M
 decide-spec =
     tie.close
     (tie.spec (λ c. search needs) (λ c. search needs) retire-requires returns open-requires (λ c. search needs) cast-i
-    mode-of-requires amend-one-requires (λ c. search needs) cast-i-2 mode-of-requires-2 amend-kinds-requires returns-2
-    returns-3 returns-4 returns-5)
+    mode-of-requires amend-one-requires (λ c. search needs) cast-i-2 mode-of-requires-2 amend-only-requires
+    (λ c. search needs) cast-i-3 mode-of-requires-3 amend-kinds-requires returns-2 returns-3 returns-4 returns-5
+    returns-6)

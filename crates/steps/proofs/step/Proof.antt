@@ -4,7 +4,8 @@ use borrow.Author.Needs.{needs}
 use Rattle.dayfile.specs.declared.Record.{Record}
 use Rattle.rules.specs.Numbered.{naming}
 use Rattle.codes.specs.Own.{aliveIn}
-use Rattle.codes.specs.Asking.{askedOf}
+use Rattle.codes.specs.Asking.{meant, askedOf}
+use Rattle.codes.proofs.Asking.{meant-own}
 use Rattle.steps.specs.Steps.{Asks}
 use Rattle.steps.proofs.step.Statement.{statement}
 use Rattle.steps.proofs.step.Tie as tie
@@ -25,7 +26,7 @@ module _ (t : tie.After-asked-of) where
   asks = record {
     coded = refl;
     placed = refl;
-    is = let a = start t .args in t .asked-of .ensures ∙ ap (λ (q : Record). askedOf (aliveIn (a .live .now) (a .at .count) (q .account)) (a .at .serial) q) (t .before .naming .ensures);
+    is = let a = start t .args in ap meant (t .asked-of .ensures) ∙ meant-own _ _ _ ∙ ap (λ (q : Record). askedOf (aliveIn (a .live .now) (a .at .count) (q .account)) (a .at .serial) q) (t .before .naming .ensures);
   }
 
 place-among-requires : tie.Need-place-among-requires

@@ -2,8 +2,8 @@
 use mathlib.Core.Path.{_≡_, sym, ap, _∙_}
 use borrow.Author.Needs.{needs}
 use Rattle.codes.specs.Own.{aliveIn}
-use Rattle.codes.specs.Asking.{askedOf, recordAt}
-use Rattle.codes.proofs.Asking.{other-serial, unknown-left}
+use Rattle.codes.specs.Asking.{meant, askedOf, recordAt}
+use Rattle.codes.proofs.Asking.{other-serial, unknown-left, meant-own}
 use Rattle.codes.proofs.Heading.{unknown}
 use Rattle.codes.proofs.asked.asked_at.Statement.{statement}
 use Rattle.codes.proofs.asked.asked_at.Tie as tie
@@ -36,13 +36,13 @@ asked-one-requires : tie.Need-asked-one-requires
 asked-one-requires c κs = let s = start (not-kinds (c .before .before)) in (s .pre .0, sym (c .before .names-one .ensures) ∙ c .if3 .taken, s .pre .1)
 
 returns-3 : tie.Need-returns-3
-returns-3 c = c .asked-one .ensures ∙ due (not-kinds (c .before .before .before))
+returns-3 c = ap meant (c .asked-one .ensures) ∙ meant-own _ _ _ ∙ due (not-kinds (c .before .before .before))
 
 asked-none-requires : tie.Need-asked-none-requires
 asked-none-requires c κs = let s = start (not-kinds (not-one (c .before .before))) in (s .pre .0, sym (c .before .names-none .ensures) ∙ c .if4 .taken, s .pre .1)
 
 returns-4 : tie.Need-returns-4
-returns-4 c = c .asked-none .ensures ∙ due (not-kinds (not-one (c .before .before .before)))
+returns-4 c = ap meant (c .asked-none .ensures) ∙ meant-own _ _ _ ∙ due (not-kinds (not-one (c .before .before .before)))
 
 returns-5 : tie.Need-returns-5
 returns-5 c =
