@@ -65,7 +65,7 @@ fn collateral_at(w: &[u64; 2560], i: usize) -> u64
 }
 
 // Each account's collateral, to be kept beside the words.
-pub fn collaterals(w: &[u64; 2560]) -> [u64; 256]
+pub(crate) fn collaterals(w: &[u64; 2560]) -> [u64; 256]
     requires { ⌜ AllRanging (now w) ⌝ }
     ensures { λ x. ⌜ Keeps (now (w .entry)) x ⌝ }
 {

@@ -28,7 +28,7 @@ use rules::naming;
 use table::places::word_at;
 
 pub mod entry;
-pub mod following;
+mod following;
 
 // Where a book stands: how many rows it has, the next serial, the next number, and whether no record was carried out since it was handed over.
 pub struct At {
@@ -309,7 +309,7 @@ pub fn on(at: At, gone: Gone) -> At
 }
 
 // The book's modes: those that it was handed over with while no record was carried out, and from then on those that a look left.
-pub fn modes_of(was: [bool; 256], modes: [bool; 256], waiting: bool) -> [bool; 256]
+pub(crate) fn modes_of(was: [bool; 256], modes: [bool; 256], waiting: bool) -> [bool; 256]
     ensures { λ x. ⌜ x ≡ modesIn waiting was modes ⌝ }
 {
     if waiting { was } else { modes }
