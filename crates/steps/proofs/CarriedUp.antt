@@ -15,7 +15,7 @@ use Rattle.rows.specs.Modes.{modeAfter}
 use Rattle.table.specs.Words.{Marks, wordAt}
 use Rattle.steps.specs.declared.following.Due.{Due}
 use Rattle.steps.specs.Steps.{modesIn}
-use Rattle.steps.specs.Looks.{Small, Fits, Steady, Stands, cm, tm, client, cp, Following, Risen, Lifted, Followed, collateralIn, dueOf, excessRisen, dueAt, dueRisen}
+use Rattle.steps.specs.Dues.{Small, Fits, Steady, Stands, Following, Risen, Lifted, Followed, collateralIn, dueOf, excessRisen, dueAt, dueRisen, cm, tm, client, cp}
 use Rattle.steps.proofs.Lifting.{mode-aside, need-stays, excess-stays, mode-stays, no-more}
 use Rattle.steps.proofs.Followed.{Since, Rises, Lifts, since-own, since-tm, since-cp, since-client}
 

@@ -19,7 +19,7 @@ use Rattle.book.proofs.RowTests.{sound-ranged}
 use Rattle.book.proofs.Settled.{sound-rows, none-beyond}
 use Rattle.steps.specs.Lent.{lentOf}
 use Rattle.steps.specs.Steps.{Going}
-use Rattle.steps.specs.Looks.{Keeps, AllRanging}
+use Rattle.steps.specs.Dues.{Keeps, AllRanging}
 use Rattle.steps.proofs.Placing.{sound-placed}
 use native.Mathlib.Omega.{arith}
 

@@ -19,7 +19,8 @@ use Rattle.rows.specs.Inner.{accountAs}
 use Rattle.table.specs.Words.{Marks, wordAt}
 use Rattle.codes.specs.Own.{accountIn}
 use Rattle.steps.specs.declared.following.Due.{Due}
-use Rattle.steps.specs.Looks.{Past, lookIn, excessSince, lookedSince, deemedUnderSince, neededSince, collateralIn, dueOf, Steady, Bare, cm, tm, Following, needRisen, excessRisen, modeRisen, dueAt, dueRisen, marginBefore, pastIn}
+use Rattle.steps.specs.Looks.{Past, lookIn, excessSince, lookedSince, deemedUnderSince, neededSince}
+use Rattle.steps.specs.Dues.{collateralIn, dueOf, Steady, Bare, Following, needRisen, excessRisen, modeRisen, dueAt, dueRisen, marginBefore, pastIn, cm, tm}
 
 right-zero : (n : ℕ) → n + 0 ≡ n
 right-zero n = omega arith

@@ -14,7 +14,7 @@ use Rattle.rows.specs.Modes.{modeAfter}
 use Rattle.table.specs.Words.{wordAt}
 use Rattle.steps.specs.declared.following.Due.{Due}
 use Rattle.steps.specs.Steps.{modesIn}
-use Rattle.steps.specs.Looks.{Small, Fits, Steady, Risen, Lifted, dueOf, needRisen, excessRisen, modeRisen, dueAt, dueRisen}
+use Rattle.steps.specs.Dues.{Small, Fits, Steady, Risen, Lifted, dueOf, needRisen, excessRisen, modeRisen, dueAt, dueRisen}
 
 pub same-dues : {a b : Due} → (eqb (a .plain) (b .plain) && eqb (a .tenths) (b .tenths)) ≡ true → a ≡ b
 same-dues {a} {b} e =

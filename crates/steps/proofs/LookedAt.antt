@@ -46,7 +46,8 @@ use Rattle.codes.specs.declared.settling.DeemedUnderAfter.{DeemedUnderAfter}
 use Rattle.steps.specs.Lent.{lentOf}
 use Rattle.steps.specs.Steps.{Ready, Decided, carriedShown, refusalShown, modesIn, bookAt, atAfter, Going, Stepped}
 use Rattle.codes.specs.Own.{accountIn, deemedUnderAt, deemedUnderIn, deemedUnderAfter}
-use Rattle.steps.specs.Looks.{Placed, Past, PastOf, Keeps, lookIn, excessAfter, excessSince, lookedSince, deemedUnderSince, neededSince}
+use Rattle.steps.specs.Looks.{Placed, Past, PastOf, lookIn, excessAfter, excessSince, lookedSince, deemedUnderSince, neededSince}
+use Rattle.steps.specs.Dues.{Keeps}
 use Rattle.steps.proofs.Placing.{sound-placed}
 use Rattle.codes.proofs.Made.{under-is}
 

@@ -41,7 +41,8 @@ use Rattle.steps.specs.declared.At.{At}
 use Rattle.steps.specs.declared.Gone.{Gone}
 use Rattle.steps.specs.Lent.{lentOf}
 use Rattle.steps.specs.Steps.{Decided, modesIn, bookAt, Going, Stepped}
-use Rattle.steps.specs.Looks.{PastOf, Keeps, Steady, Bare, Stands, cm, tm, client, cp, Following, Followed, collateralIn, marginBefore, pastIn}
+use Rattle.steps.specs.Looks.{PastOf}
+use Rattle.steps.specs.Dues.{Keeps, Steady, Bare, Stands, Following, Followed, collateralIn, marginBefore, pastIn, cm, tm, client, cp}
 use Rattle.steps.proofs.LookedAt.{places-now, places-after, under, deemed-under, under-small, is-after, put-only, moved-step}
 
 module _ (at : At) (m : Marks) (w kept : List ℕ) (was modes : List Bool) (needs numbers excess : List ℕ) (g : Going at was (lentOf m w kept modes needs numbers excess)) (r : Record)

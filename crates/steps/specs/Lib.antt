@@ -1,3 +1,4 @@
 pub mod Lent
 pub mod Steps
 pub mod Looks
+pub mod Dues

@@ -25,7 +25,7 @@ use Rattle.table.specs.Facts.{Sized}
 use Rattle.steps.specs.declared.At.{At}
 use Rattle.steps.specs.declared.Gone.{Gone}
 use Rattle.steps.specs.declared.Request.{Request}
-use Rattle.steps.specs.Looks.{Keeps}
+use Rattle.steps.specs.Dues.{Keeps}
 use Rattle.steps.specs.Lent.{Lent}
 
 -- the words, the modes, the kept needs and the numbers are a sound book's

@@ -10,7 +10,7 @@ ghost use Rattle.rows.specs.Rows.{ceiling};
 ghost use Rattle.rows.specs.Modes.{modeAfter};
 ghost use Rattle.table.specs.Words.{marksFrom};
 ghost use Rattle.steps.specs.Steps.{modesIn};
-ghost use Rattle.steps.specs.Looks.{Ranging, AllRanging, Keeps, Small, Fits, Steady, Following, Risen, Lifted, Followed, collateralIn, dueOf, dueAt};
+ghost use Rattle.steps.specs.Dues.{Ranging, AllRanging, Keeps, Small, Fits, Steady, Following, Risen, Lifted, Followed, collateralIn, dueOf, dueAt};
 use rows::Rule;
 use rows::deemed::less;
 use rows::modes::mode_after;

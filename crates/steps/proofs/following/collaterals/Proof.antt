@@ -4,7 +4,7 @@ use Prim.Native.Nat.{ℕ, _-_, _≤_, _<_}
 use native.Mathlib.Omega.{arith}
 use lib.ListN.{length, getD, length-set}
 use Rattle.sums.proofs.Lists.{filled-step}
-use Rattle.steps.specs.Looks.{collateralIn}
+use Rattle.steps.specs.Dues.{collateralIn}
 use Rattle.steps.proofs.following.collaterals.Statement.{statement}
 use Rattle.steps.proofs.following.collaterals.Tie as tie
 

@@ -13,7 +13,7 @@ use Rattle.rows.specs.Modes.{modeAfter}
 use Rattle.steps.specs.Steps.{modesIn}
 use lib.ListN.{getD, set}
 use Rattle.table.specs.Words.{wordAt}
-use Rattle.steps.specs.Looks.{collateralIn, dueOf}
+use Rattle.steps.specs.Dues.{collateralIn, dueOf}
 use Rattle.steps.proofs.CarriedUp.{kept1, needs1, modes1, gone, come, collateral-fits, top-put, its-put, small-put, many-put, stay, up, further}
 use borrow.Author.Needs.{needs}
 use Rattle.steps.proofs.following.follow.Statement.{statement}

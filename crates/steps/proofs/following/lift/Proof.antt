@@ -2,7 +2,7 @@
 use borrow.Author.Needs.{needs}
 use borrow.Author.Tests.{not-false}
 use mathlib.Core.Path.{_≡_, sym, _∙_}
-use Rattle.steps.specs.Looks.{dueRisen}
+use Rattle.steps.specs.Dues.{dueRisen}
 use Rattle.steps.proofs.Lifting.{same-dues, mode-aside, mode-top, many1, due-risen, fits-here, fits-top, small-risen, lifts, unlifted}
 use Rattle.steps.proofs.following.lift.Statement.{statement}
 use Rattle.steps.proofs.following.lift.Tie as tie
