@@ -63,8 +63,10 @@ fn put_one(
     room: &mut [u16],
     at: usize,
 ) -> usize
-    requires { ⌜ (i < 256) × (getD (now tm) i 0 < 256) × (at + length (entryOf (numberedBook 0 (marksFrom (now sort) (now live) (now tm)) (now w) (now numbers)) i) ≤ length (now room)) ⌝ }
-    ensures { λ x. ⌜ Puts (now (room .entry)) at (entryOf (numberedBook 0 (marksFrom (now (sort .entry)) (now (live .entry)) (now (tm .entry))) (now (w .entry)) (now (numbers .entry))) i) (now (room .exit)) x ⌝ }
+    requires { ⌜ (i < 256) × (getD (now tm) i 0 < 256) × (at + length
+        (entryOf (numberedBook 0 (marksFrom (now sort) (now live) (now tm)) (now w) (now numbers)) i) ≤ length (now room)) ⌝ }
+    ensures { λ x. ⌜ Puts (now (room .entry)) at (entryOf (numberedBook 0 (marksFrom (now (sort .entry)) (now (live .entry)) (now (tm .entry)))
+        (now (w .entry)) (now (numbers .entry))) i) (now (room .exit)) x ⌝ }
 {
     let r = row_at(sort, live, tm, w, i);
     if r.live {
@@ -84,8 +86,10 @@ pub fn put_archived<'a>(
     count: u16,
     room: &mut [u16],
 )
-    requires { ⌜ (count ≤ 256) × ((i : _) → i < count → getD (now tm) i 0 < 256) × (length (archiveOf (numberedBook count (marksFrom (now sort) (now live) (now tm)) (now w) (now numbers))) ≤ length (now room)) ⌝ }
-    ensures { λ _. ⌜ now (room .exit) ≡ atStart (archiveOf (numberedBook count (marksFrom (now (sort .entry)) (now (live .entry)) (now (tm .entry))) (now (w .entry)) (now (numbers .entry)))) (now (room .entry)) ⌝ }
+    requires { ⌜ (count ≤ 256) × ((i : _) → i < count → getD (now tm) i 0 < 256)
+        × (length (archiveOf (numberedBook count (marksFrom (now sort) (now live) (now tm)) (now w) (now numbers))) ≤ length (now room)) ⌝ }
+    ensures { λ _. ⌜ now (room .exit) ≡ atStart (archiveOf (numberedBook count (marksFrom (now (sort .entry)) (now (live .entry)) (now (tm .entry)))
+        (now (w .entry)) (now (numbers .entry)))) (now (room .entry)) ⌝ }
 {
     let n = count as usize;
     let mut at: usize = 0;

@@ -26,7 +26,8 @@ pub(crate) fn figures<'a>(
     kept: u64,
     mode: bool,
 ) -> Figures
-    requires { ⌜ Ranged (seenBook count (now sort) (now tm) (now w)) × Shaped (view (seenBook count (now sort) (now tm) (now w))) × (i < count) × (kept ≡ keptNeed (view (seenBook count (now sort) (now tm) (now w))) i) ⌝ }
+    requires { ⌜ Ranged (seenBook count (now sort) (now tm) (now w)) × Shaped (view (seenBook count (now sort) (now tm) (now w))) × (i < count)
+        × (kept ≡ keptNeed (view (seenBook count (now sort) (now tm) (now w))) i) ⌝ }
     ensures { λ x. ⌜ x ≡ figuresOf (view (seenBook count (now (sort .entry)) (now (tm .entry)) (now (w .entry)))) mode i ⌝ }
 {
     let a = account_at(sort, tm, w, i, Rule::New);

@@ -114,7 +114,8 @@ fn rows_sound<'a>(
     w: &'a [u64; 2560],
     count: u16,
 ) -> bool
-    ensures { λ x. ⌜ x ≡ all 256 (rowSound (bookFrom count 0 (marksFrom (now (sort .entry)) (now (live .entry)) (now (tm .entry))) (now (w .entry)) [] [] 0 [])) ⌝ }
+    ensures { λ x. ⌜ x ≡ all 256 (rowSound (bookFrom count 0 (marksFrom (now (sort .entry)) (now (live .entry)) (now (tm .entry))) (now (w .entry)) []
+        [] 0 [])) ⌝ }
 {
     let n = count as usize;
     let mut ok = true;
@@ -189,7 +190,10 @@ pub(crate) fn table_kept<'a>(
     next: u32,
     rule: Rule,
 ) -> bool
-    ensures { λ x. ⌜ x ≡ (formedB (bookFrom count 0 (marksFrom (now (sort .entry)) (now (live .entry)) (now (tm .entry))) (now (w .entry)) (now (modes .entry)) (now (needs .entry)) next numbers) && keptBy rule (bookFrom count 0 (marksFrom (now (sort .entry)) (now (live .entry)) (now (tm .entry))) (now (w .entry)) (now (modes .entry)) (now (needs .entry)) next numbers)) ⌝ }
+    ensures { λ x. ⌜ x ≡ (formedB (bookFrom count 0 (marksFrom (now (sort .entry)) (now (live .entry)) (now (tm .entry))) (now (w .entry))
+        (now (modes .entry)) (now (needs .entry)) next numbers) && keptBy rule
+        (bookFrom count 0 (marksFrom (now (sort .entry)) (now (live .entry)) (now (tm .entry))) (now (w .entry)) (now (modes .entry))
+        (now (needs .entry)) next numbers)) ⌝ }
 {
     if count < 1 {
         return false;
@@ -221,7 +225,8 @@ pub fn table_sound<'a>(
     count: u16,
     next: u32,
 ) -> bool
-    ensures { λ x. ⌜ x ≡ soundB (bookFrom count 0 (marksFrom (now (sort .entry)) (now (live .entry)) (now (tm .entry))) (now (w .entry)) (now (modes .entry)) (now (needs .entry)) next numbers) ⌝ }
+    ensures { λ x. ⌜ x ≡ soundB (bookFrom count 0 (marksFrom (now (sort .entry)) (now (live .entry)) (now (tm .entry))) (now (w .entry))
+        (now (modes .entry)) (now (needs .entry)) next numbers) ⌝ }
 {
     table_kept(
         sort,

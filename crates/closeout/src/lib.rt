@@ -55,8 +55,10 @@ fn close_out_at<'a>(
     room: &mut [u64],
 ) -> Closed
     requires { ⌜ Sound (heldBook count (marksFrom (now sort) (now live) (now tm)) (now w) (now needs)) ⌝ }
-    ensures { λ x. ⌜ x ≡ closedOf (heldBook count (marksFrom (now (sort .entry)) (now (live .entry)) (now (tm .entry))) (now (w .entry)) (now (needs .entry))) (now (losses .entry)) (now (room .entry)) ⌝ }
-    ensures { λ _. ⌜ now (room .exit) ≡ roomOf (heldBook count (marksFrom (now (sort .entry)) (now (live .entry)) (now (tm .entry))) (now (w .entry)) (now (needs .entry))) (now (losses .entry)) (now (room .entry)) ⌝ }
+    ensures { λ x. ⌜ x ≡ closedOf (heldBook count (marksFrom (now (sort .entry)) (now (live .entry)) (now (tm .entry))) (now (w .entry))
+        (now (needs .entry))) (now (losses .entry)) (now (room .entry)) ⌝ }
+    ensures { λ _. ⌜ now (room .exit) ≡ roomOf (heldBook count (marksFrom (now (sort .entry)) (now (live .entry)) (now (tm .entry))) (now (w .entry))
+        (now (needs .entry))) (now (losses .entry)) (now (room .entry)) ⌝ }
 {
     let n = count as usize;
     if losses.len() != n {

@@ -128,7 +128,10 @@ pub(crate) fn fill<'a>(
     room: &mut [u64],
 ) -> u64
     requires { ⌜ Checked (heldBook count (marksFrom (now sort) (now live) (now tm)) (now w) (now needs)) (now losses) (now room) ⌝ }
-    ensures { λ x. ⌜ (now (room .exit) ≡ rowsTo (four (view (heldBook count (marksFrom (now (sort .entry)) (now (live .entry)) (now (tm .entry))) (now (w .entry)) (now (needs .entry)))) (lossAt (now (losses .entry)))) count) × (x ≡ total (view (heldBook count (marksFrom (now (sort .entry)) (now (live .entry)) (now (tm .entry))) (now (w .entry)) (now (needs .entry)))) (lossAt (now (losses .entry)))) ⌝ }
+    ensures { λ x. ⌜ (now (room .exit) ≡ rowsTo (four (view (heldBook count (marksFrom (now (sort .entry)) (now (live .entry)) (now (tm .entry)))
+        (now (w .entry)) (now (needs .entry)))) (lossAt (now (losses .entry)))) count)
+        × (x ≡ total (view (heldBook count (marksFrom (now (sort .entry)) (now (live .entry)) (now (tm .entry))) (now (w .entry))
+        (now (needs .entry)))) (lossAt (now (losses .entry)))) ⌝ }
 {
     let mut left = zeros();
     let mut free = zeros();

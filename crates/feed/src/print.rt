@@ -27,7 +27,8 @@ pub(crate) fn print_lines(
     requires { ⌜ Texts (now words) × (length (now numbers) ≡ 3200) × (count ≤ 640) × (length (now text) ≡ 20480) ⌝ }
     ensures { λ m. ⌜ (m .count ≤ length (pick printing (linesTo (now (numbers .entry)) count) [])) × (m .count ≤ 20480) ⌝ }
     ensures { λ m. ⌜ m .failed ≡ ltb (m .count) (length (pick printing (linesTo (now (numbers .entry)) count) [])) ⌝ }
-    ensures { λ _. ⌜ (length (now (text .exit)) ≡ 20480) × (now (text .exit) ≡ pick printing (atStart (linesTo (now (numbers .entry)) count) (now (text .entry))) (now (text .entry))) ⌝ }
+    ensures { λ _. ⌜ (length (now (text .exit)) ≡ 20480) × (now (text .exit)
+        ≡ pick printing (atStart (linesTo (now (numbers .entry)) count) (now (text .entry))) (now (text .entry))) ⌝ }
 {
     if !printing {
         return Moved {

@@ -32,7 +32,8 @@ fn slide_row(
     i: usize,
 ) -> bool
     requires { ⌜ Sized (marksFrom (now sort) (now live) (now tm)) (now w) × (i < 256) × (k < 256) × (getD (now tm) i 0 < 256) ⌝ }
-    ensures { λ x. ⌜ RowSlid (marksFrom (now (sort .entry)) (now (live .entry)) (now (tm .entry))) (now (w .entry)) (now (to .entry)) k i x (marksFrom (now (sort .exit)) (now (live .exit)) (now (tm .exit))) (now (w .exit)) ⌝ }
+    ensures { λ x. ⌜ RowSlid (marksFrom (now (sort .entry)) (now (live .entry)) (now (tm .entry))) (now (w .entry)) (now (to .entry)) k i x
+        (marksFrom (now (sort .exit)) (now (live .exit)) (now (tm .exit))) (now (w .exit)) ⌝ }
 {
     let row = row_at(sort, live, tm, w, i);
     put_row(sort, live, tm, w, i, no_row());
@@ -97,7 +98,9 @@ pub fn close_gaps(
     requires { ⌜ Sized (marksFrom (now sort) (now live) (now tm)) (now w) ⌝ }
     requires { ⌜ Closable (heldBook count (marksFrom (now sort) (now live) (now tm)) (now w) (now modes) (now needs) (now numbers)) ⌝ }
     ensures { λ _. ⌜ Sized (marksFrom (now (sort .exit)) (now (live .exit)) (now (tm .exit))) (now (w .exit)) ⌝ }
-    ensures { λ x. ⌜ heldBook x (marksFrom (now (sort .exit)) (now (live .exit)) (now (tm .exit))) (now (w .exit)) (now (modes .exit)) (now (needs .exit)) (now (numbers .exit)) ≡ archived (heldBook count (marksFrom (now (sort .entry)) (now (live .entry)) (now (tm .entry))) (now (w .entry)) (now (modes .entry)) (now (needs .entry)) (now (numbers .entry))) ⌝ }
+    ensures { λ x. ⌜ heldBook x (marksFrom (now (sort .exit)) (now (live .exit)) (now (tm .exit))) (now (w .exit)) (now (modes .exit))
+        (now (needs .exit)) (now (numbers .exit)) ≡ archived (heldBook count (marksFrom (now (sort .entry)) (now (live .entry)) (now (tm .entry)))
+        (now (w .entry)) (now (modes .entry)) (now (needs .entry)) (now (numbers .entry))) ⌝ }
 {
     let n = count as usize;
     let mut to = [0u16; 256];

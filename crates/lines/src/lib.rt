@@ -61,7 +61,8 @@ pub fn lines(t: Table, piece: &[u8], most: u64, room: &mut [u8]) -> Lined
 // The lines of records by their numbers, five of each, put from the room's start; gives how long they are.
 pub fn lines_of_numbers(numbers: &[u16], count: usize, room: &mut [u8]) -> usize
     ensures { λ n. ⌜ n ≡ length (linesTo (now (numbers .entry)) (fitting count (now (numbers .entry)) (now (room .entry)))) ⌝ }
-    ensures { λ _. ⌜ now (room .exit) ≡ atStart (linesTo (now (numbers .entry)) (fitting count (now (numbers .entry)) (now (room .entry)))) (now (room .entry)) ⌝ }
+    ensures { λ _. ⌜ now (room .exit) ≡ atStart (linesTo (now (numbers .entry)) (fitting count (now (numbers .entry)) (now (room .entry))))
+        (now (room .entry)) ⌝ }
 {
     let k = least(
         count as u64,

@@ -85,7 +85,8 @@ pub fn close_out_text(
     room: &mut [u8; 65536],
 ) -> usize
     ensures { λ n. ⌜ n ≡ length (closeOutText refusal total (now (numbers .entry)) (now (losses .entry)) (now (amounts .entry))) ⌝ }
-    ensures { λ _. ⌜ now (room .exit) ≡ atStart (closeOutText refusal total (now (numbers .entry)) (now (losses .entry)) (now (amounts .entry))) (now (room .entry)) ⌝ }
+    ensures { λ _. ⌜ now (room .exit) ≡ atStart (closeOutText refusal total (now (numbers .entry)) (now (losses .entry)) (now (amounts .entry)))
+        (now (room .entry)) ⌝ }
 {
     loss::put_close_out(room, refusal, total, numbers, losses, amounts)
 }

@@ -40,7 +40,8 @@ fn put_losses(
     amounts: &[u64],
 ) -> usize
     requires { ⌜ (n ≤ 256) × (n ≤ length (now losses)) × (4 * n ≤ length (now amounts)) × (126 * n ≤ length (now room)) ⌝ }
-    ensures { λ after. ⌜ Puts (now (room .entry)) 0 (lossLines (now (numbers .entry)) (now (losses .entry)) (now (amounts .entry)) n) (now (room .exit)) after ⌝ }
+    ensures { λ after. ⌜ Puts (now (room .entry)) 0 (lossLines (now (numbers .entry)) (now (losses .entry)) (now (amounts .entry)) n)
+        (now (room .exit)) after ⌝ }
     ensures { λ after. ⌜ after ≤ 126 * n ⌝ }
 {
     let mut at: usize = 0;
@@ -73,7 +74,8 @@ pub(crate) fn put_close_out(
     amounts: &[u64],
 ) -> usize
     requires { ⌜ 65536 ≤ length (now room) ⌝ }
-    ensures { λ after. ⌜ Puts (now (room .entry)) 0 (closeOutText refusal total (now (numbers .entry)) (now (losses .entry)) (now (amounts .entry))) (now (room .exit)) after ⌝ }
+    ensures { λ after. ⌜ Puts (now (room .entry)) 0 (closeOutText refusal total (now (numbers .entry)) (now (losses .entry)) (now (amounts .entry)))
+        (now (room .exit)) after ⌝ }
 {
     if refusal != 0 {
         return put_labelled(room, 0, b"refused ", refusal as u64);

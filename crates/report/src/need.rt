@@ -13,7 +13,8 @@ use text::put_spaced;
 // Puts the lines of the rows that a list has the needs of, at most 42 bytes each, and gives how long they are.
 fn put_list(room: &mut [u8], numbers: &[u16; 256], needs: &[u64]) -> usize
     requires { ⌜ (length (now needs) ≤ 256) × (42 * length (now needs) ≤ length (now room)) ⌝ }
-    ensures { λ after. ⌜ Puts (now (room .entry)) 0 (needLines (λ i. getD (now (numbers .entry)) i 0) (λ i. getD (now (needs .entry)) i 0) (length (now (needs .entry)))) (now (room .exit)) after ⌝ }
+    ensures { λ after. ⌜ Puts (now (room .entry)) 0 (needLines (λ i. getD (now (numbers .entry)) i 0) (λ i. getD (now (needs .entry)) i 0)
+        (length (now (needs .entry)))) (now (room .exit)) after ⌝ }
 {
     let mut at: usize = 0;
     let mut i: usize = 0;

@@ -41,8 +41,10 @@ fn is_live_client<'a>(
 
 // The refusal of what stands at a place where the record of the client at place i is wanted, or 0.
 fn client_fault(w: &[u64; 2560], i: usize, account: u16, statement: &[u8], at: usize) -> u8
-    requires { ⌜ (i < 256) × KindsWithin (kindsFrom (λ j. wordAt (now w) j i) 0) ceilings × KindsWithin (kindsFrom (λ j. wordAt (now w) j i) 4) ceilings × (at ≤ length (now statement)) ⌝ }
-    ensures { λ r. ⌜ r ≡ wantedRefusal (now (statement .entry)) at account (totalOf (kindsFrom (λ j. wordAt (now (w .entry)) j i) 0)) (totalOf (kindsFrom (λ j. wordAt (now (w .entry)) j i) 4)) ⌝ }
+    requires { ⌜ (i < 256) × KindsWithin (kindsFrom (λ j. wordAt (now w) j i) 0) ceilings
+        × KindsWithin (kindsFrom (λ j. wordAt (now w) j i) 4) ceilings × (at ≤ length (now statement)) ⌝ }
+    ensures { λ r. ⌜ r ≡ wantedRefusal (now (statement .entry)) at account (totalOf (kindsFrom (λ j. wordAt (now (w .entry)) j i) 0))
+        (totalOf (kindsFrom (λ j. wordAt (now (w .entry)) j i) 4)) ⌝ }
 {
     let received = total(kinds_at(w, 0, i));
     let allocated = total(kinds_at(w, 4, i));
@@ -60,7 +62,9 @@ pub(crate) fn records_finding<'a>(
     statement: &[u8],
 ) -> Finding
     requires { ⌜ Ranged (heldBook count (now sort) (now live) (now tms) (now w) (now numbers)) ⌝ }
-    ensures { λ r. ⌜ r ≡ findingFrom (heldBook count (now (sort .entry)) (now (live .entry)) (now (tms .entry)) (now (w .entry)) (now (numbers .entry))) 0 (liveClients (heldBook count (now (sort .entry)) (now (live .entry)) (now (tms .entry)) (now (w .entry)) (now (numbers .entry))) tm) (now (statement .entry)) ⌝ }
+    ensures { λ r. ⌜ r ≡ findingFrom (heldBook count (now (sort .entry)) (now (live .entry)) (now (tms .entry)) (now (w .entry))
+        (now (numbers .entry))) 0 (liveClients (heldBook count (now (sort .entry)) (now (live .entry)) (now (tms .entry)) (now (w .entry))
+        (now (numbers .entry))) tm) (now (statement .entry)) ⌝ }
 {
     let n = count as usize;
     let mut at: usize = 0;

@@ -106,7 +106,8 @@ fn put_own(
 )
     requires { ⌜ (i < 256) × (length (now was) ≡ 256) × (length (now modes) ≡ 256) × (used ≤ 9_000_000_000_000_000_000) × (collateral ≤ 100_000_000_000_000) ⌝ }
     ensures { λ _. ⌜ now (needs .exit) ≡ pick has (set (now (needs .entry)) i need) (now (needs .entry)) ⌝ }
-    ensures { λ _. ⌜ now (modes .exit) ≡ pick has (set (now (modes .entry)) i (modeAfter used collateral (getD (modesIn waiting (now (was .entry)) (now (modes .entry))) i false))) (now (modes .entry)) ⌝ }
+    ensures { λ _. ⌜ now (modes .exit) ≡ pick has (set (now (modes .entry)) i
+        (modeAfter used collateral (getD (modesIn waiting (now (was .entry)) (now (modes .entry))) i false))) (now (modes .entry)) ⌝ }
 {
     if has {
         needs[i] = need;
@@ -127,8 +128,11 @@ fn rise(
     old: Due,
     new: Due,
 )
-    requires { ⌜ Fits 1_000_000_000_000_000_000 (now w) (now kept) (now needs) (now excess) t × Small 2_000_000_000_000_000_000 new × (length (now was) ≡ 256) × (length (now modes) ≡ 256) ⌝ }
-    ensures { λ _. ⌜ Risen (now (w .entry)) (now (kept .entry)) (now (needs .entry)) (now (excess .entry)) (modesIn waiting (now (was .entry)) (now (modes .entry))) (now (modes .entry)) t old new (now (needs .exit)) (now (excess .exit)) (now (modes .exit)) ⌝ }
+    requires { ⌜ Fits 1_000_000_000_000_000_000 (now w) (now kept) (now needs) (now excess) t × Small 2_000_000_000_000_000_000 new
+        × (length (now was) ≡ 256) × (length (now modes) ≡ 256) ⌝ }
+    ensures { λ _. ⌜ Risen (now (w .entry)) (now (kept .entry)) (now (needs .entry)) (now (excess .entry))
+        (modesIn waiting (now (was .entry)) (now (modes .entry))) (now (modes .entry)) t old new (now (needs .exit)) (now (excess .exit))
+        (now (modes .exit)) ⌝ }
 {
     let m = word_at(w, 9, t);
     let e = less(excess[t] + new.tenths, old.tenths);
@@ -151,8 +155,12 @@ fn lift(
     old: Due,
     new: Due,
 )
-    requires { ⌜ Fits 100_000_000_000_000_000 (now w) (now kept) (now needs) (now excess) t × Steady (now w) (now kept) (now needs) (now excess) (modesIn waiting (now was) (now modes)) (now modes) 0 × Small 200_000_000_000_000_000 new × (length (now was) ≡ 256) × (length (now modes) ≡ 256) × (0 < t) ⌝ }
-    ensures { λ _. ⌜ Lifted (now (w .entry)) (now (kept .entry)) (now (needs .entry)) (now (excess .entry)) (modesIn waiting (now (was .entry)) (now (modes .entry))) (now (modes .entry)) t old new (now (needs .exit)) (now (excess .exit)) (now (modes .exit)) ⌝ }
+    requires { ⌜ Fits 100_000_000_000_000_000 (now w) (now kept) (now needs) (now excess) t
+        × Steady (now w) (now kept) (now needs) (now excess) (modesIn waiting (now was) (now modes)) (now modes) 0 × Small 200_000_000_000_000_000 new
+        × (length (now was) ≡ 256) × (length (now modes) ≡ 256) × (0 < t) ⌝ }
+    ensures { λ _. ⌜ Lifted (now (w .entry)) (now (kept .entry)) (now (needs .entry)) (now (excess .entry))
+        (modesIn waiting (now (was .entry)) (now (modes .entry))) (now (modes .entry)) t old new (now (needs .exit)) (now (excess .exit))
+        (now (modes .exit)) ⌝ }
 {
     let its = due_at(w, kept, needs, excess, t);
     rise(w, kept, modes, needs, excess, was, waiting, t, old, new);
@@ -177,8 +185,11 @@ pub(crate) fn follow(
     i: usize,
     m0: u64,
 )
-    requires { ⌜ Following (marksFrom (now sort) (now live) (now tm)) (now w) (now kept) (now needs) (now excess) (modesIn waiting (now was) (now modes)) (now modes) i m0 × (length (now was) ≡ 256) × (length (now modes) ≡ 256) ⌝ }
-    ensures { λ _. ⌜ Followed (marksFrom (now (sort .entry)) (now (live .entry)) (now (tm .entry))) (now (w .entry)) (now (kept .entry)) (now (needs .entry)) (now (excess .entry)) (modesIn waiting (now (was .entry)) (now (modes .entry))) (now (modes .entry)) i m0 (now (kept .exit)) (now (needs .exit)) (now (excess .exit)) (now (modes .exit)) ⌝ }
+    requires { ⌜ Following (marksFrom (now sort) (now live) (now tm)) (now w) (now kept) (now needs) (now excess)
+        (modesIn waiting (now was) (now modes)) (now modes) i m0 × (length (now was) ≡ 256) × (length (now modes) ≡ 256) ⌝ }
+    ensures { λ _. ⌜ Followed (marksFrom (now (sort .entry)) (now (live .entry)) (now (tm .entry))) (now (w .entry)) (now (kept .entry))
+        (now (needs .entry)) (now (excess .entry)) (modesIn waiting (now (was .entry)) (now (modes .entry))) (now (modes .entry)) i m0
+        (now (kept .exit)) (now (needs .exit)) (now (excess .exit)) (now (modes .exit)) ⌝ }
 {
     let m1 = word_at(w, 9, i);
     let c1 = collateral_at(w, i);

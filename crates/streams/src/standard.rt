@@ -57,7 +57,8 @@ pub fn write_output(program: &[u8], text: &[u8]) -> Moved
 // Where a word is `--help`, the text goes to standard error.
 fn help_by(word: &[u8], text: &[u8]) -> Helped
     ensures { λ h. ⌜ h .asked ≡ sameBytes (now (word .entry)) helpWord ⌝ }
-    ensures { λ h. ⌜ (h .count ≤ pick (h .asked) (length (now (text .entry))) 0) × (h .failed ≡ ltb (h .count) (pick (h .asked) (length (now (text .entry))) 0)) ⌝ }
+    ensures { λ h. ⌜ (h .count ≤ pick (h .asked) (length (now (text .entry))) 0)
+        × (h .failed ≡ ltb (h .count) (pick (h .asked) (length (now (text .entry))) 0)) ⌝ }
 {
     if !is_same(word, b"--help") {
         return Helped {

@@ -21,7 +21,8 @@ pub fn look_all<'a>(
     modes: &'a [bool; 256],
 ) -> [bool; 256]
     requires { ⌜ Ranged (seenBook count (now sort) (now tm) (now w)) × Shaped (view (seenBook count (now sort) (now tm) (now w))) ⌝ }
-    requires { ⌜ NoneBeyond (view (seenBook count (now sort) (now tm) (now w))) × DeemedUnder (inTenths (view (seenBook count (now sort) (now tm) (now w)))) (now excess) ⌝ }
+    requires { ⌜ NoneBeyond (view (seenBook count (now sort) (now tm) (now w)))
+        × DeemedUnder (inTenths (view (seenBook count (now sort) (now tm) (now w)))) (now excess) ⌝ }
     ensures { λ x. ⌜ x ≡ looked (view (seenBook count (now (sort .entry)) (now (tm .entry)) (now (w .entry)))) (now (modes .entry)) ⌝ }
 {
     let mut after = [false; 256];

@@ -94,7 +94,8 @@ fn members_sum<'a>(
     under: &'a [u64; 256],
     rule: Rule,
 ) -> u64
-    requires { ⌜ Ranged (seenBook count (now sort) (now tm) (now w)) × ClientSums (viewAs tenths (viewBy rule (seenBook count (now sort) (now tm) (now w)))) (now under) ⌝ }
+    requires { ⌜ Ranged (seenBook count (now sort) (now tm) (now w))
+        × ClientSums (viewAs tenths (viewBy rule (seenBook count (now sort) (now tm) (now w)))) (now under) ⌝ }
     ensures { λ x. ⌜ x ≡ membersBelow (viewAs tenths (viewBy rule (seenBook count (now (sort .entry)) (now (tm .entry)) (now (w .entry))))) count ⌝ }
 {
     let mut sum: u64 = 0;
@@ -119,7 +120,8 @@ fn deemed_under_by<'a>(
     under: &mut [u64; 256],
     rule: Rule,
 )
-    requires { ⌜ Ranged (seenBook count (now sort) (now tm) (now w)) × Shaped (viewBy rule (seenBook count (now sort) (now tm) (now w))) × (now under ≡ replicate 256 0) ⌝ }
+    requires { ⌜ Ranged (seenBook count (now sort) (now tm) (now w)) × Shaped (viewBy rule (seenBook count (now sort) (now tm) (now w)))
+        × (now under ≡ replicate 256 0) ⌝ }
     ensures { λ _. ⌜ DeemedUnder (viewAs tenths (viewBy rule (seenBook count (now (sort .entry)) (now (tm .entry)) (now (w .entry))))) (now (under .exit)) ⌝ }
 {
     client_sums(sort, tm, w, count, tenths, under, rule);
@@ -136,7 +138,8 @@ pub fn deemed_under<'a>(
     tenths: bool,
     under: &mut [u64; 256],
 )
-    requires { ⌜ Ranged (seenBook count (now sort) (now tm) (now w)) × Shaped (view (seenBook count (now sort) (now tm) (now w))) × (now under ≡ replicate 256 0) ⌝ }
+    requires { ⌜ Ranged (seenBook count (now sort) (now tm) (now w)) × Shaped (view (seenBook count (now sort) (now tm) (now w)))
+        × (now under ≡ replicate 256 0) ⌝ }
     ensures { λ _. ⌜ DeemedUnder (viewAs tenths (view (seenBook count (now (sort .entry)) (now (tm .entry)) (now (w .entry))))) (now (under .exit)) ⌝ }
 {
     deemed_under_by(sort, tm, w, count, tenths, under, Rule::New);
@@ -174,7 +177,8 @@ pub fn needs_afresh<'a>(
     needs: &mut [u64; 256],
     rule: Rule,
 )
-    requires { ⌜ Ranged (seenBook count (now sort) (now tm) (now w)) × Shaped (viewBy rule (seenBook count (now sort) (now tm) (now w))) × NoneBeyond (viewBy rule (seenBook count (now sort) (now tm) (now w))) × (now needs ≡ replicate 256 0) ⌝ }
+    requires { ⌜ Ranged (seenBook count (now sort) (now tm) (now w)) × Shaped (viewBy rule (seenBook count (now sort) (now tm) (now w)))
+        × NoneBeyond (viewBy rule (seenBook count (now sort) (now tm) (now w))) × (now needs ≡ replicate 256 0) ⌝ }
     ensures { λ _. ⌜ now (needs .exit) ≡ needsAfresh (viewBy rule (seenBook count (now (sort .entry)) (now (tm .entry)) (now (w .entry)))) ⌝ }
 {
     deemed_under_by(sort, tm, w, count, false, needs, rule);
@@ -195,7 +199,8 @@ pub fn needs_kept<'a>(
     needs: &'a [u64; 256],
     rule: Rule,
 ) -> bool
-    requires { ⌜ Ranged (seenBook count (now sort) (now tm) (now w)) × Shaped (viewBy rule (seenBook count (now sort) (now tm) (now w))) × NoneBeyond (viewBy rule (seenBook count (now sort) (now tm) (now w))) ⌝ }
+    requires { ⌜ Ranged (seenBook count (now sort) (now tm) (now w)) × Shaped (viewBy rule (seenBook count (now sort) (now tm) (now w)))
+        × NoneBeyond (viewBy rule (seenBook count (now sort) (now tm) (now w))) ⌝ }
     ensures { λ x. ⌜ x ≡ allKept (viewBy rule (seenBook count (now (sort .entry)) (now (tm .entry)) (now (w .entry)))) (now (needs .entry)) ⌝ }
 {
     let mut fresh = [0u64; 256];
