@@ -36,7 +36,7 @@ namesMargin code = eqb code 10 || eqb code 13
 abbrev pub namesNone : ℕ → Bool
 namesNone code = leb 1 code && leb code 3 || eqb code 11
 
--- an amount that was read, by its bit, which is 0 where it isn't named
+-- an amount that was read, and so is 0 where its bit is: from 1 to the ceiling, or 0; and each of the four
 abbrev pub goodNamed : ℕ → ℕ → Bool
 goodNamed bit x = leb bit x && leb x ceiling
 
@@ -44,7 +44,7 @@ abbrev pub goodKinds : ℕ → Kinds → Bool
 goodKinds named k =
     goodNamed (bit 0 named) (k .cash) && goodNamed (bit 1 named) (k .deposits) && goodNamed (bit 2 named) (k .guarantees) && goodNamed (bit 3 named) (k .securities)
 
--- the least that the one amount may be
+-- the least that the one amount may be, which what is set has none of (K8), and whether it is good
 abbrev pub leastOf : ℕ → ℕ
 leastOf code = pick (leb code 9) 1 0
 
@@ -59,6 +59,10 @@ oneAmount r = pick (namesMargin (r .code)) (r .margin) (r .pledged)
 abbrev pub asksOf : Record → Asked
 asksOf r = pick (namesKinds (r .code)) (Four (r .kinds)) (pick (namesOne (r .code)) (One (oneAmount r)) Bare)
 
+-- those, unless a line before 8 refuses the record
+unfoldable pub askedOf : Bool → ℕ → Record → Asked
+askedOf alive serial r = unlessRefused (earlyNumber alive serial r) (asksOf r) Refused
+
 -- a second mark byte that names one kind alone, and which it names
 abbrev pub namesOnly : ℕ → Bool
 namesOnly named = eqb named 1 || eqb named 2 || eqb named 4 || eqb named 8
@@ -66,17 +70,13 @@ namesOnly named = eqb named 1 || eqb named 2 || eqb named 4 || eqb named 8
 abbrev pub kindOf : ℕ → Kind
 kindOf named = pick (eqb named 1) Cash (pick (eqb named 2) Deposits (pick (eqb named 4) Guarantees Securities))
 
--- one kind alone asked stands for four amounts
+-- what is asked with every kind written out: one kind alone stands for four amounts
 abbrev pub meant : Asked → Asked
 meant (Refused n) = Refused n
 meant Bare = Bare
 meant (One x) = One x
 meant (Only kind x) = Four (onlyKind kind x)
 meant (Four k) = Four k
-
--- those, unless a line before 8 refuses the record
-unfoldable pub askedOf : Bool → ℕ → Record → Asked
-askedOf alive serial r = unlessRefused (earlyNumber alive serial r) (asksOf r) Refused
 
 -- what the functions of kinds answer, and those of one amount: the table's answer to each record that names this
 abbrev pub AnswersKinds : Marks → List ℕ → List ℕ → Bool → ℕ → ℕ → Kinds → ℕ → List ℕ → Type 0
