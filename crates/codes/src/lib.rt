@@ -69,8 +69,10 @@ pub fn amend_kinds(
     code: u8,
     k: Kinds,
 ) -> u8
-    requires { ⌜ Held (marksFrom (now sort) (now live) (now tm)) (now w) (deemedUnderIn (now w) (now needs)) i × KindsWithin k ceilings × (namesKinds code ≡ true) ⌝ }
-    ensures { λ x. ⌜ AnswersKinds (marksFrom (now (sort .entry)) (now (live .entry)) (now (tm .entry))) (now (w .entry)) (deemedUnderIn (now (w .entry)) (now (needs .entry))) on i code k x (now (w .exit)) ⌝ }
+    requires { ⌜ Held (marksFrom (now sort) (now live) (now tm)) (now w) (deemedUnderIn (now w) (now needs)) i × KindsWithin k ceilings
+        × (namesKinds code ≡ true) ⌝ }
+    ensures { λ x. ⌜ AnswersKinds (marksFrom (now (sort .entry)) (now (live .entry)) (now (tm .entry))) (now (w .entry))
+        (deemedUnderIn (now (w .entry)) (now (needs .entry))) on i code k x (now (w .exit)) ⌝ }
 {
     match code {
         4 => receive(sort, live, tm, w, i, k),
@@ -93,8 +95,10 @@ pub fn amend_only(
     kind: Kind,
     x: u64,
 ) -> u8
-    requires { ⌜ Held (marksFrom (now sort) (now live) (now tm)) (now w) (deemedUnderIn (now w) (now needs)) i × KindsWithin (onlyKind kind x) ceilings × (namesKinds code ≡ true) ⌝ }
-    ensures { λ n. ⌜ AnswersKinds (marksFrom (now (sort .entry)) (now (live .entry)) (now (tm .entry))) (now (w .entry)) (deemedUnderIn (now (w .entry)) (now (needs .entry))) on i code (onlyKind kind x) n (now (w .exit)) ⌝ }
+    requires { ⌜ Held (marksFrom (now sort) (now live) (now tm)) (now w) (deemedUnderIn (now w) (now needs)) i
+        × KindsWithin (onlyKind kind x) ceilings × (namesKinds code ≡ true) ⌝ }
+    ensures { λ n. ⌜ AnswersKinds (marksFrom (now (sort .entry)) (now (live .entry)) (now (tm .entry))) (now (w .entry))
+        (deemedUnderIn (now (w .entry)) (now (needs .entry))) on i code (onlyKind kind x) n (now (w .exit)) ⌝ }
 {
     match code {
         4 => receive_kind(sort, live, tm, w, i, kind, x),
@@ -117,7 +121,8 @@ pub fn amend_one(
     y: u64,
 ) -> u8
     requires { ⌜ Held (marksFrom (now sort) (now live) (now tm)) (now w) (deemedUnderIn (now w) (now needs)) i × (y ≤ ceiling) × (namesOne code ≡ true) ⌝ }
-    ensures { λ x. ⌜ AnswersOne (marksFrom (now (sort .entry)) (now (live .entry)) (now (tm .entry))) (now (w .entry)) (deemedUnderIn (now (w .entry)) (now (needs .entry))) on i code y x (now (w .exit)) ⌝ }
+    ensures { λ x. ⌜ AnswersOne (marksFrom (now (sort .entry)) (now (live .entry)) (now (tm .entry))) (now (w .entry))
+        (deemedUnderIn (now (w .entry)) (now (needs .entry))) on i code y x (now (w .exit)) ⌝ }
 {
     match code {
         8 => pledge(sort, live, tm, w, i, y),

@@ -115,7 +115,8 @@ pub(crate) fn receive_kind(
     kind: Kind,
     x: u64,
 ) -> u8
-    requires { ⌜ Sized (marksFrom (now sort) (now live) (now tm)) (now w) × (i < 256) × InRange (rowIn (marksFrom (now sort) (now live) (now tm)) (now w) i) × (x ≤ ceiling) ⌝ }
+    requires { ⌜ Sized (marksFrom (now sort) (now live) (now tm)) (now w) × (i < 256)
+        × InRange (rowIn (marksFrom (now sort) (now live) (now tm)) (now w) i) × (x ≤ ceiling) ⌝ }
     ensures { λ n. ⌜ Receives (marksFrom (now (sort .entry)) (now (live .entry)) (now (tm .entry))) (now (w .entry)) i (onlyKind kind x) n (now (w .exit)) ⌝ }
 {
     let sum = word_at(w, number_of(kind), i) + x;
@@ -158,7 +159,8 @@ pub(crate) fn allocate_kind(
     kind: Kind,
     x: u64,
 ) -> u8
-    requires { ⌜ Sized (marksFrom (now sort) (now live) (now tm)) (now w) × (i < 256) × InRange (rowIn (marksFrom (now sort) (now live) (now tm)) (now w) i) × (x ≤ ceiling) ⌝ }
+    requires { ⌜ Sized (marksFrom (now sort) (now live) (now tm)) (now w) × (i < 256)
+        × InRange (rowIn (marksFrom (now sort) (now live) (now tm)) (now w) i) × (x ≤ ceiling) ⌝ }
     ensures { λ n. ⌜ Allocates (marksFrom (now (sort .entry)) (now (live .entry)) (now (tm .entry))) (now (w .entry)) i (onlyKind kind x) n (now (w .exit)) ⌝ }
 {
     let number = number_of(kind);
@@ -183,7 +185,8 @@ pub(crate) fn release_kind(
     x: u64,
 ) -> u8
     requires { ⌜ Held (marksFrom (now sort) (now live) (now tm)) (now w) (deemedUnderIn (now w) (now needs)) i ⌝ }
-    ensures { λ n. ⌜ Releases (marksFrom (now (sort .entry)) (now (live .entry)) (now (tm .entry))) (now (w .entry)) (deemedUnderIn (now (w .entry)) (now (needs .entry))) on i (onlyKind kind x) n (now (w .exit)) ⌝ }
+    ensures { λ n. ⌜ Releases (marksFrom (now (sort .entry)) (now (live .entry)) (now (tm .entry))) (now (w .entry))
+        (deemedUnderIn (now (w .entry)) (now (needs .entry))) on i (onlyKind kind x) n (now (w .exit)) ⌝ }
 {
     let row = row_at(sort, live, tm, w, i);
     let had = kind_in(row.allocated, kind);

@@ -62,7 +62,9 @@ pub fn open(
     a: u16,
 ) -> u8
     requires { ⌜ Sized (marksFrom (now sort) (now live) (now tm)) (now w) × (a < 256) ⌝ }
-    ensures { λ x. ⌜ Opens (marksFrom (now (sort .entry)) (now (live .entry)) (now (tm .entry))) (now (w .entry)) count next code a x (marksFrom (now (sort .exit)) (now (live .exit)) (now (tm .exit))) (now (w .exit)) × (now (numbers .exit) ≡ numbersWith x count next (now (numbers .entry))) ⌝ }
+    ensures { λ x. ⌜ Opens (marksFrom (now (sort .entry)) (now (live .entry)) (now (tm .entry))) (now (w .entry)) count next code a x
+        (marksFrom (now (sort .exit)) (now (live .exit)) (now (tm .exit))) (now (w .exit))
+        × (now (numbers .exit) ≡ numbersWith x count next (now (numbers .entry))) ⌝ }
 {
     let its = sort[a as usize];
     if its != wanted(code) {
@@ -85,7 +87,8 @@ pub(crate) fn receive(
     i: usize,
     k: Kinds,
 ) -> u8
-    requires { ⌜ Sized (marksFrom (now sort) (now live) (now tm)) (now w) × (i < 256) × InRange (rowIn (marksFrom (now sort) (now live) (now tm)) (now w) i) × KindsWithin k ceilings ⌝ }
+    requires { ⌜ Sized (marksFrom (now sort) (now live) (now tm)) (now w) × (i < 256)
+        × InRange (rowIn (marksFrom (now sort) (now live) (now tm)) (now w) i) × KindsWithin k ceilings ⌝ }
     ensures { λ x. ⌜ Receives (marksFrom (now (sort .entry)) (now (live .entry)) (now (tm .entry))) (now (w .entry)) i k x (now (w .exit)) ⌝ }
 {
     let row = row_at(sort, live, tm, w, i);
@@ -129,7 +132,8 @@ pub(crate) fn allocate(
     i: usize,
     k: Kinds,
 ) -> u8
-    requires { ⌜ Sized (marksFrom (now sort) (now live) (now tm)) (now w) × (i < 256) × InRange (rowIn (marksFrom (now sort) (now live) (now tm)) (now w) i) × KindsWithin k ceilings ⌝ }
+    requires { ⌜ Sized (marksFrom (now sort) (now live) (now tm)) (now w) × (i < 256)
+        × InRange (rowIn (marksFrom (now sort) (now live) (now tm)) (now w) i) × KindsWithin k ceilings ⌝ }
     ensures { λ x. ⌜ Allocates (marksFrom (now (sort .entry)) (now (live .entry)) (now (tm .entry))) (now (w .entry)) i k x (now (w .exit)) ⌝ }
 {
     let row = row_at(sort, live, tm, w, i);
@@ -173,7 +177,8 @@ pub(crate) fn release(
     k: Kinds,
 ) -> u8
     requires { ⌜ Held (marksFrom (now sort) (now live) (now tm)) (now w) (deemedUnderIn (now w) (now needs)) i × KindsWithin k ceilings ⌝ }
-    ensures { λ x. ⌜ Releases (marksFrom (now (sort .entry)) (now (live .entry)) (now (tm .entry))) (now (w .entry)) (deemedUnderIn (now (w .entry)) (now (needs .entry))) on i k x (now (w .exit)) ⌝ }
+    ensures { λ x. ⌜ Releases (marksFrom (now (sort .entry)) (now (live .entry)) (now (tm .entry))) (now (w .entry))
+        (deemedUnderIn (now (w .entry)) (now (needs .entry))) on i k x (now (w .exit)) ⌝ }
 {
     let row = row_at(sort, live, tm, w, i);
     if !kinds_within(k, row.allocated) {
@@ -197,7 +202,8 @@ pub(crate) fn pledge(
     i: usize,
     y: u64,
 ) -> u8
-    requires { ⌜ Sized (marksFrom (now sort) (now live) (now tm)) (now w) × (i < 256) × InRange (rowIn (marksFrom (now sort) (now live) (now tm)) (now w) i) × (y ≤ ceiling) ⌝ }
+    requires { ⌜ Sized (marksFrom (now sort) (now live) (now tm)) (now w) × (i < 256)
+        × InRange (rowIn (marksFrom (now sort) (now live) (now tm)) (now w) i) × (y ≤ ceiling) ⌝ }
     ensures { λ x. ⌜ Pledges (marksFrom (now (sort .entry)) (now (live .entry)) (now (tm .entry))) (now (w .entry)) i y x (now (w .exit)) ⌝ }
 {
     let row = row_at(sort, live, tm, w, i);
@@ -222,7 +228,8 @@ pub(crate) fn unpledge(
     y: u64,
 ) -> u8
     requires { ⌜ Held (marksFrom (now sort) (now live) (now tm)) (now w) (deemedUnderIn (now w) (now needs)) i ⌝ }
-    ensures { λ x. ⌜ Unpledges (marksFrom (now (sort .entry)) (now (live .entry)) (now (tm .entry))) (now (w .entry)) (deemedUnderIn (now (w .entry)) (now (needs .entry))) on i y x (now (w .exit)) ⌝ }
+    ensures { λ x. ⌜ Unpledges (marksFrom (now (sort .entry)) (now (live .entry)) (now (tm .entry))) (now (w .entry))
+        (deemedUnderIn (now (w .entry)) (now (needs .entry))) on i y x (now (w .exit)) ⌝ }
 {
     let row = row_at(sort, live, tm, w, i);
     if row.pledged < y {
@@ -248,8 +255,10 @@ fn need_passes_after(
     row: Row,
     y: u64,
 ) -> bool
-    requires { ⌜ Held (marksFrom (now sort) (now live) (now tm)) (now w) (deemedUnderIn (now w) (now needs)) i × (y ≤ ceiling) × (row ≡ rowIn (marksFrom (now sort) (now live) (now tm)) (now w) i) ⌝ }
-    ensures { λ x. ⌜ x ≡ needPassesIn (marksFrom (now (sort .entry)) (now (live .entry)) (now (tm .entry))) (now (w .entry)) (deemedUnderIn (now (w .entry)) (now (needs .entry))) i y ⌝ }
+    requires { ⌜ Held (marksFrom (now sort) (now live) (now tm)) (now w) (deemedUnderIn (now w) (now needs)) i × (y ≤ ceiling)
+        × (row ≡ rowIn (marksFrom (now sort) (now live) (now tm)) (now w) i) ⌝ }
+    ensures { λ x. ⌜ x ≡ needPassesIn (marksFrom (now (sort .entry)) (now (live .entry)) (now (tm .entry))) (now (w .entry))
+        (deemedUnderIn (now (w .entry)) (now (needs .entry))) i y ⌝ }
 {
     let top = account_of(row_at(sort, live, tm, w, 0));
     let new = with_margin(row, y);
@@ -269,7 +278,8 @@ pub(crate) fn set_margin(
     y: u64,
 ) -> u8
     requires { ⌜ Held (marksFrom (now sort) (now live) (now tm)) (now w) (deemedUnderIn (now w) (now needs)) i × (y ≤ ceiling) ⌝ }
-    ensures { λ x. ⌜ SetsMargin (marksFrom (now (sort .entry)) (now (live .entry)) (now (tm .entry))) (now (w .entry)) (deemedUnderIn (now (w .entry)) (now (needs .entry))) i y x (now (w .exit)) ⌝ }
+    ensures { λ x. ⌜ SetsMargin (marksFrom (now (sort .entry)) (now (live .entry)) (now (tm .entry))) (now (w .entry))
+        (deemedUnderIn (now (w .entry)) (now (needs .entry))) i y x (now (w .exit)) ⌝ }
 {
     let row = row_at(sort, live, tm, w, i);
     if row.margin < y {
@@ -353,7 +363,8 @@ pub fn retire(
     a: u16,
 ) -> u8
     requires { ⌜ Sized (marksFrom (now sort) (now live) (now tm)) (now w) × (a < 256) × (count ≤ 256) ⌝ }
-    ensures { λ x. ⌜ Retires (marksFrom (now (sort .entry)) (now (live .entry)) (now (tm .entry))) (now (w .entry)) count a x (marksFrom (now (sort .entry)) (now (live .exit)) (now (tm .entry))) ⌝ }
+    ensures { λ x. ⌜ Retires (marksFrom (now (sort .entry)) (now (live .entry)) (now (tm .entry))) (now (w .entry)) count a x
+        (marksFrom (now (sort .entry)) (now (live .exit)) (now (tm .entry))) ⌝ }
 {
     if a == 0 {
         return 8;

@@ -38,7 +38,8 @@ pub fn deemed_under_after(
     new: Account,
     its: Account,
 ) -> DeemedUnderAfter
-    requires { ⌜ (own ≤ 25_600_000_000_000_000) × (clients ≤ 25_600_000_000_000_000) × (all ≤ 25_600_000_000_000_000) × (old .margin ≤ 100_000_000_000_000) × (new .margin ≤ 100_000_000_000_000) × (its .margin ≤ 100_000_000_000_000) ⌝ }
+    requires { ⌜ (own ≤ 25_600_000_000_000_000) × (clients ≤ 25_600_000_000_000_000) × (all ≤ 25_600_000_000_000_000)
+        × (old .margin ≤ 100_000_000_000_000) × (new .margin ≤ 100_000_000_000_000) × (its .margin ≤ 100_000_000_000_000) ⌝ }
     ensures { λ x. ⌜ x ≡ deemedUnderAfter own clients all old new its ⌝ }
 {
     DeemedUnderAfter {
@@ -58,8 +59,10 @@ pub(crate) fn deemed_under_after_at(
     old: Account,
     new: Account,
 ) -> DeemedUnderAfter
-    requires { ⌜ Held (marksFrom (now sort) (now live) (now tm)) (now w) (deemedUnderIn (now w) (now needs)) i × (old .tm < 256) × (old .margin ≤ ceiling) × (new .margin ≤ ceiling) ⌝ }
-    ensures { λ x. ⌜ x ≡ deemedUnderAfterIn (marksFrom (now (sort .entry)) (now (live .entry)) (now (tm .entry))) (now (w .entry)) (deemedUnderIn (now (w .entry)) (now (needs .entry))) i old new ⌝ }
+    requires { ⌜ Held (marksFrom (now sort) (now live) (now tm)) (now w) (deemedUnderIn (now w) (now needs)) i × (old .tm < 256)
+        × (old .margin ≤ ceiling) × (new .margin ≤ ceiling) ⌝ }
+    ensures { λ x. ⌜ x ≡ deemedUnderAfterIn (marksFrom (now (sort .entry)) (now (live .entry)) (now (tm .entry))) (now (w .entry))
+        (deemedUnderIn (now (w .entry)) (now (needs .entry))) i old new ⌝ }
 {
     let t = old.tm as usize;
     let its = account_of(row_at(sort, live, tm, w, t));
