@@ -4,6 +4,7 @@
 mod archives;
 mod books;
 mod calls;
+mod explains;
 mod margins;
 mod merges;
 mod orders;
@@ -27,11 +28,12 @@ use crate::tally::Tally;
 use std::fs;
 use std::path::{Path, PathBuf};
 
-const VALUED: [&str; 18] = [
+const VALUED: [&str; 19] = [
     "--day",
     "--standings",
     "--closeouts",
     "--needs",
+    "--explain",
     "--take-over",
     "--archive",
     "--margins",
@@ -61,6 +63,7 @@ pub struct Programs<'a> {
     standings: Option<&'a str>,
     closeouts: Option<&'a str>,
     needs: Option<&'a str>,
+    explain: Option<&'a str>,
     take_over: Option<&'a str>,
     archive: Option<&'a str>,
     margins: Option<&'a str>,
@@ -73,6 +76,7 @@ pub struct Programs<'a> {
 impl Programs<'_> {
     fn reads_days(&self) -> bool {
         let shows = self.standings.or(self.closeouts).or(self.needs);
+        let shows = shows.or(self.explain);
         let books = self.take_over.or(self.archive);
         self.day.or(shows).or(books).is_some()
     }
@@ -93,6 +97,7 @@ pub fn compare(words: &[String]) -> Result<String, String> {
         standings: options.value("--standings"),
         closeouts: options.value("--closeouts"),
         needs: options.value("--needs"),
+        explain: options.value("--explain"),
         take_over: options.value("--take-over"),
         archive: options.value("--archive"),
         margins: options.value("--margins"),
@@ -103,7 +108,7 @@ pub fn compare(words: &[String]) -> Result<String, String> {
     };
     if !programs.reads_days() && !programs.reads_others() {
         return Err(
-            "compare: name a program with --day, --standings, --closeouts, --needs, --take-over, --archive, --margins, --merge, --statements or --calls"
+            "compare: name a program with --day, --standings, --closeouts, --needs, --explain, --take-over, --archive, --margins, --merge, --statements or --calls"
                 .to_string(),
         );
     }
@@ -125,7 +130,11 @@ fn all(options: &Options, programs: &Programs) -> Result<Vec<String>, String> {
     let asked = ["--days", "--millions", "--books"];
     let asks_days = asked.iter().any(|name| options.has(name));
     if programs.reads_days() && (asks_days || programs.merge.is_none()) {
-        lines.push(all_days(options, programs)?.summary());
+        let tally = all_days(options, programs)?;
+        lines.push(tally.summary());
+        if programs.explain.is_some() {
+            lines.push(tally.explained.line());
+        }
         let many = options.number("--books", 0)?;
         if many > 0 {
             let met = books::all_books(options, programs, many)?;
@@ -184,6 +193,9 @@ fn all_days(options: &Options, programs: &Programs) -> Result<Tally, String> {
     if programs.closeouts.is_some() {
         missed.extend(tally.missed_closed());
     }
+    if programs.explain.is_some() {
+        missed.extend(tally.explained.missed());
+    }
     if days >= ROUND.len() as u64 && !missed.is_empty() {
         return Err(format!("not met: {}", missed.join(", ")));
     }
@@ -195,6 +207,9 @@ fn one_day(programs: &Programs, made: &Made, tally: &mut Tally) -> Result<(), St
     if let Some(program) = programs.day {
         let got = ask(program, &[], &made.bytes, made.pace);
         settle(&programs.folder, made, "day", &own.out, got)?;
+    }
+    if let Some(program) = programs.explain {
+        explains::one_day(programs, program, made, tally)?;
     }
     if programs.standings.or(programs.needs).is_some() {
         for records in own.stops {

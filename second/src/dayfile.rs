@@ -126,6 +126,12 @@ pub fn suits(code: u8, mark: u8) -> Option<bool> {
     }
 }
 
+/// "Every amount is 1 to the ceiling, except that a margin may be 0"; codes 12
+/// and 13 "both allow 0".
+pub fn least(code: u8) -> u64 {
+    u64::from(!matches!(code, SET_MARGIN | REVALUE | REVISE))
+}
+
 impl Values {
     /// The first of 4, 5, 6 that applies. "An unnamed amount that isn't 0
     /// gives 6."
@@ -135,8 +141,7 @@ impl Values {
             Some(false) => return Some(Refusal::UnsuitedMark),
             Some(true) => {}
         }
-        let may_be_nothing = matches!(self.code, SET_MARGIN | REVALUE | REVISE);
-        let least = u64::from(!may_be_nothing);
+        let least = least(self.code);
         let in_range = self.amounts.iter().enumerate().all(|(bit, amount)| {
             if self.mark & (1 << bit) != 0 {
                 (least..=CEILING).contains(amount)

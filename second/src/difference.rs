@@ -90,7 +90,7 @@ fn difference(made: &Made, name: &str, want: &[u8], got: &Output) -> String {
         second,
         other
     );
-    if name.starts_with("day") {
+    if name.starts_with("day") || name.starts_with("explain") {
         report += &format!("\n  record: {}", record_hex(&made.bytes, same));
     }
     if matches!(made.pace, Pace::Trickle(_)) {

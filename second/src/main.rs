@@ -14,6 +14,7 @@ mod day;
 mod dayfile;
 mod desk;
 mod difference;
+mod explain;
 mod files;
 mod holds;
 mod kinds;
@@ -23,6 +24,7 @@ mod make;
 mod margins;
 mod merge;
 mod mode;
+mod most;
 mod moves;
 mod options;
 mod orders;
@@ -51,6 +53,8 @@ second day [--check] [FROM [TO]] < DAYFILE
                                          a line per record, then end, cut or long
 second standings [FROM] < DAYFILE        the closing line, then every account's five figures, mode and shortfall
 second needs [FROM] < DAYFILE            the closing line, then every account's need
+second explain [FROM] < DAYFILE          as day, and behind each refused record with one amount 0 and
+                                         the largest amount that would have passed, or a refusal and 0
 second closeouts LOSSFILE [FROM] < DAYFILE
                                          the closing line, then what each loss is paid from
                                          FROM: a book file to start from, - for a fresh book
@@ -75,8 +79,8 @@ second make KIND SEED > DAYFILE          a made-up day: busy hostile bent bounds
                                          tens valued short wanting falling million
 second losses SEED < DAYFILE > LOSSFILE  made-up losses for the book at that day's end
 second make-calls SEED > CALLS           made-up calls
-second compare [--day P] [--standings P] [--closeouts P] [--needs P] [--take-over P]
-               [--archive P] [--margins P] [--merge P] [--statements P] [--calls P]
+second compare [--day P] [--standings P] [--closeouts P] [--needs P] [--explain P]
+               [--take-over P] [--archive P] [--margins P] [--merge P] [--statements P] [--calls P]
                [--days N] [--seed S] [--millions K] [--books N] [--trickle]
                [--margin-runs N] [--merges N] [--statement-runs N] [--call-inputs N]
                                          other programs against this one: on made-up days, on N days
@@ -104,6 +108,7 @@ Calls, each handed the book as it is then:
   margin SERIAL ACCOUNT INITIAL POSITION ; .., POSITION: PRODUCT SIDE NOTIONAL, PRODUCT a name or a number
   margin_with SERIAL ACCOUNT INITIAL FIGURES POSITION ; ..   exposure FIGURES, such as 50,-30
   exposures EACH room N FIGURE ..   statement TM RECORD ; .., as `second write-statement` takes them
+  most RECORD
 Other bytes:
   bytes HEX   cut N   # a comment
 WORD: number sort live tm received.KIND allocated.KIND pledged margin mode need, KIND one of cash deposits
@@ -132,6 +137,7 @@ fn main() -> ExitCode {
         "day" => programs::day(&arguments[1..], &day_file),
         "standings" => programs::standings(&arguments[1..], &day_file),
         "needs" => programs::needs(&arguments[1..], &day_file),
+        "explain" => programs::explain(&arguments[1..], &day_file),
         "closeouts" => programs::closeouts(&arguments[1..], &day_file),
         "margins" => desk::lines::margins(&arguments[1..], &|| input(desk::lines::MOST as u64 + 1)),
         "take_over" => programs::take_over(&arguments[1..]),

@@ -13,6 +13,7 @@ pub mod merges;
 mod mixed;
 mod moved;
 pub mod orders;
+pub mod refused;
 pub mod sheets;
 mod short;
 mod steer;

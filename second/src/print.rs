@@ -9,10 +9,10 @@ use crate::day::{run, Closing, Day, MILLION};
 /// How the line begins that stands on standard error in place of the output.
 pub const CANNOT_READ: &str = "closeouts: cannot read the file of losses";
 
-/// Room for six of the longest numbers, each with a space or the newline.
-const LINE: usize = 6 * 21;
+/// Room for seven of the longest numbers, each with a space or the newline.
+const LINE: usize = 7 * 21;
 
-/// A line of up to six numbers, laid down from its end: a day may print five
+/// A line of up to seven numbers, laid down from its end: a day may print five
 /// million numbers, and this way each line is copied once.
 fn push_numbers(out: &mut Vec<u8>, numbers: &[u64]) {
     let mut line = [b' '; LINE];
@@ -33,18 +33,31 @@ fn push_numbers(out: &mut Vec<u8>, numbers: &[u64]) {
     out.extend_from_slice(&line[at..]);
 }
 
-pub fn push_answer(out: &mut Vec<u8>, answer: &Answer) {
-    let numbers = [
+fn answer_numbers(answer: &Answer) -> [u64; 5] {
+    [
         u64::from(answer.serial),
         u64::from(answer.code),
         u64::from(answer.account),
         u64::from(answer.refusal()),
         u64::from(answer.opened()),
-    ];
-    push_numbers(out, &numbers);
+    ]
 }
 
-fn push_closing(out: &mut Vec<u8>, day: &Day) {
+pub fn push_answer(out: &mut Vec<u8>, answer: &Answer) {
+    push_numbers(out, &answer_numbers(answer));
+}
+
+/// The same with two numbers more.
+pub fn push_explained(out: &mut Vec<u8>, answer: &Answer, more: [u64; 2]) {
+    let [serial, code, account, refusal, opened] = answer_numbers(answer);
+    let [first, second] = more;
+    push_numbers(
+        out,
+        &[serial, code, account, refusal, opened, first, second],
+    );
+}
+
+pub fn push_closing(out: &mut Vec<u8>, day: &Day) {
     let word: &[u8] = match day.closing {
         Closing::End => b"end ",
         Closing::Cut => b"cut ",

@@ -1,4 +1,4 @@
-//! The programs `day`, `standings`, `needs` and `closeouts`: over a fresh
+//! The programs `day`, `standings`, `needs`, `explain` and `closeouts`: over a fresh
 //! book, or over the one that FROM holds. A FROM that can't be read, or is no
 //! book, is told and nothing is printed; over one that isn't sound the day
 //! stays unread. And `take_over` and `archive`, from one book file to another,
@@ -11,7 +11,7 @@ mod statements;
 use crate::book::{Book, MOST_ACCOUNTS};
 use crate::seen::Seen;
 use crate::table::Table;
-use crate::{bookfile, files, print, put_out, usage, Output};
+use crate::{bookfile, explain, files, print, put_out, usage, Output};
 pub use archive::{archive, with_lines};
 pub use merge::{merge, MOST as MERGE_MOST};
 pub use statements::statements;
@@ -142,6 +142,10 @@ pub fn standings(words: &[OsString], day_file: Reading) -> Output {
 
 pub fn needs(words: &[OsString], day_file: Reading) -> Output {
     shown("needs", words, day_file, print::needs_over)
+}
+
+pub fn explain(words: &[OsString], day_file: Reading) -> Output {
+    shown("explain", words, day_file, explain::over)
 }
 
 /// Where the losses can't be read, that is told and the day stays unread.

@@ -36,6 +36,7 @@
 //!     exposure FIGURES
 //!     exposures EACH room N FIGURE ..
 //!     statement TM RECORD ; ..      RECORD: as `second write-statement` takes it
+//!     most RECORD                   its serial and amounts are not looked at
 //!
 //!     bytes HEX                     bytes as they stand, for what is no call
 //!     cut N                         takes the last N bytes off again
@@ -190,6 +191,7 @@ impl Story {
             ("is_sound", []) => Call::IsSound(book),
             ("standing", [account]) => Call::Standing(book, parsed(account, "account")?),
             ("carry_out", _) => Call::CarryOut(book, self.record(rest)?),
+            ("most", _) => Call::Most(book, self.record(rest)?),
             ("carry_out_next", [place, ..]) => {
                 Call::CarryOutNext(book, self.piece(after(rest))?, parsed(place, "place")?)
             }

@@ -3,6 +3,7 @@
 use crate::book::{Book, Sort};
 use crate::carry::Answer;
 use crate::closeout::CloseOut;
+use crate::explain;
 use crate::holds;
 use crate::looks::{self, KINDS};
 use crate::{margins, moves, shorts, tenths};
@@ -29,6 +30,8 @@ pub struct Tally {
     pub shorts: shorts::Met,
     /// Close-outs under a shortfall, by kind.
     pub closed: [u64; CLOSED.len()],
+    /// What was explained, where that was asked for.
+    pub explained: explain::Met,
     /// How often a day was stopped on the way to ask for standings and needs.
     pub stops: u64,
 }

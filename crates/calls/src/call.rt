@@ -8,6 +8,7 @@ use crate::checked;
 use crate::closed;
 use crate::exposed;
 use crate::margins;
+use crate::passed;
 use crate::pieces;
 use desk::Table;
 
@@ -44,6 +45,7 @@ fn of_book(call: u8, bytes: &[u8], table: Table, room: &mut [u8]) -> Told
         10 => carried::take_over(table, room),
         15 => checked::check(bytes, table, room),
         16 => archived::archive(bytes, table, room),
+        17 => passed::most(bytes, table, room),
         _ => none(),
     }
 }
@@ -86,7 +88,7 @@ fn answer_first(bytes: &[u8], room: &mut [u8]) -> Told
     ensures { λ t. ⌜ (t .size ≤ length (now (bytes .entry))) × (t .text ≤ length (now (room .exit))) ⌝ }
 {
     match bytes[0] {
-        1..=5 | 8..=10 | 15 | 16 => with_book(bytes, room),
+        1..=5 | 8..=10 | 15..=17 => with_book(bytes, room),
         6 => pieces::read_at(bytes, room),
         7 => pieces::write(bytes, room),
         11 => margins::margin(bytes, room),

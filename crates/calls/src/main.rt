@@ -14,6 +14,7 @@ mod exposed;
 mod held;
 mod lines;
 mod margins;
+mod passed;
 mod pieces;
 mod rooms;
 mod taken;

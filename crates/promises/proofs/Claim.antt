@@ -1,4 +1,4 @@
--- P1 to P11, Annexure 5, K3's list, K7's tenth, K9's charges, K10's clients, K13's statements and K14's orders, by one claim over the list: `figures`, at the end. What stands before it makes it quick to compute: by the rules each
+-- P1 to P11, Annexure 5, K3's list, K7's tenth, K9's charges, K10's clients, K13's statements, K14's orders and how much would have passed, by one claim over the list: `figures`, at the end. What stands before it makes it quick to compute: by the rules each
 -- record asks whether the book is sound, which is long to compute, and holds by theorem (Quick).
 use mathlib.Core.Bool.{not}
 use mathlib.Core.List.{List, [], _∷_, _++_, map}
@@ -30,6 +30,9 @@ use Rattle.dayfile.specs.Written.{field}
 use Rattle.dayfile.specs.Reading.{got, past, recordOf, foundFrom, foundAt, sizeOf}
 use Rattle.rules.specs.Effects.{amended}
 use Rattle.rules.proofs.WhatIsBeside.{refusalBy, changeBy}
+use Rattle.passing.specs.Most.{mostOf}
+use Rattle.passing.specs.Inner.{refusalAt, largestBy}
+use Rattle.passing.proofs.Exactly.{quickMost, quick-most}
 use Rattle.desk.specs.declared.Outcome.the-variants.{Refused, End}
 use Rattle.desk.specs.Answers.{nobody, refusalIn}
 use Rattle.desk.specs.Steps.{Next, stepOf, onFound, nextOf}
@@ -47,8 +50,8 @@ use Rattle.currency.specs.Margins.{sumOf, refusalOf as marginRefusal, madeOf}
 use Rattle.exposure.specs.Exposures.{intradayOf}
 use Rattle.promises.specs.Sequences.{afterAll}
 use Rattle.promises.specs.Archivings.{answersTo}
-use Rattle.promises.specs.Figures.{Question, blockedAfter, deemedAfter, refusalAfter, refusalsAfter, closedAfter, bytesLong, refusalRead, excessAfter, usedAfter, needsAfter, collateralAfter, marginOf, ratesOf, exposureTo, statementAfter}
-use Rattle.promises.specs.Figures.{cases, each, excessIn, usedIn, closedIn, zeros, byTheRules, casesByTheRules, expected, marginIn, ratesIn, exposureIn, findingIn}
+use Rattle.promises.specs.Figures.{Question, blockedAfter, deemedAfter, refusalAfter, refusalsAfter, closedAfter, bytesLong, refusalRead, excessAfter, usedAfter, needsAfter, collateralAfter, marginOf, ratesOf, exposureTo, statementAfter, mostAfter}
+use Rattle.promises.specs.Figures.{cases, each, excessIn, usedIn, closedIn, zeros, byTheRules, casesByTheRules, expected, marginIn, ratesIn, exposureIn, findingIn, mostIn}
 use Rattle.promises.proofs.Quick.{quickStep, quick-step, all-sound, quickAll, quick-all, quickClosed, quickRoom, quick-closed, quick-room}
 
 -- the ways to carry out, quickly
@@ -109,6 +112,9 @@ finding-same rs s =
     (first-later 1 (not (soundB b)) (refused7 b 1) (ap not (sound← b (all-sound freshBook rs fresh-sound))))
     ∙ ap (λ c. quickFinding c 1 s) (after-same rs)
 
+most-same : (rs : List Record) (r : Record) → mostOf (afterAll freshBook rs) r ≡ quickMost (quickAll freshBook rs) r
+most-same rs r = quick-most (afterAll freshBook rs) r (all-sound freshBook rs fresh-sound) ∙ ap (λ b. quickMost b r) (after-same rs)
+
 -- what is said to each question, quickly
 unfoldable quickly : Question → List ℕ
 quickly (blockedAfter rs) = each (blocked (view (quickAll freshBook rs)))
@@ -127,6 +133,7 @@ quickly (marginOf p) = marginIn p
 quickly (ratesOf product) = ratesIn product
 quickly (exposureTo premium loss) = exposureIn premium loss
 quickly (statementAfter rs s) = findingIn (quickFinding (quickAll freshBook rs) 1 s)
+quickly (mostAfter rs r) = mostIn (quickMost (quickAll freshBook rs) r)
 
 same : (q : Question) → byTheRules q ≡ quickly q
 unfolding byTheRules quickly
@@ -145,6 +152,7 @@ same (marginOf p) = refl
 same (ratesOf product) = refl
 same (exposureTo premium loss) = refl
 same (statementAfter rs s) = ap findingIn (finding-same rs s)
+same (mostAfter rs r) = ap mostIn (most-same rs r)
 
 casesQuickly : List (List ℕ)
 casesQuickly = map (λ c. quickly (c .asked)) cases
@@ -154,9 +162,9 @@ unfolding casesByTheRules casesQuickly
 same-cases i = map (λ c. same (c .asked) i) cases
 
 computed : casesQuickly ≡ expected
-unfolding casesQuickly quickly quickRefusals counted cases expected quickAll placeAmong least any changeBy amended refusalBy first pick sum all needTM needCM need hasLiveClient freshBook faultOf foundAt foundFrom recordOf number got past ones onesIn rowsTo four paid₁ part₂ ownColumn tmColumn cmColumn uncovered fromTM askedOfCM fromCM unpaid looked listTo useOf useTM useCM modeAfter allNeeds needsAfresh madeOf marginRefusal firstFault faultIn rates rateOf sumOf charges chargeOf intradayOf clientsFrom findingFrom recordFor setOf amountsOf bitFor field bytesOf partsFrom badAmounts
+unfolding casesQuickly quickly quickRefusals counted cases expected quickAll placeAmong least any changeBy amended refusalBy first pick sum all needTM needCM need hasLiveClient freshBook faultOf foundAt foundFrom recordOf number got past ones onesIn rowsTo four paid₁ part₂ ownColumn tmColumn cmColumn uncovered fromTM askedOfCM fromCM unpaid looked listTo useOf useTM useCM modeAfter allNeeds needsAfresh madeOf marginRefusal firstFault faultIn rates rateOf sumOf charges chargeOf intradayOf clientsFrom findingFrom recordFor setOf amountsOf bitFor field bytesOf partsFrom badAmounts refusalAt largestBy
 computed = refl
 
--- document 01's figures, Annexure 5's, K3's list, K7's tenth, K9's charges, K10's clients, K13's statements and K14's orders, by the rules
+-- document 01's figures, Annexure 5's, K3's list, K7's tenth, K9's charges, K10's clients, K13's statements, K14's orders and how much would have passed, by the rules
 pub figures : casesByTheRules ≡ expected
 figures = same-cases ∙ computed

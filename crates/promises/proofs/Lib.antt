@@ -13,6 +13,7 @@ pub mod Shortfall
 pub mod Needs
 pub mod ExtremeLoss
 pub mod Obligations
+pub mod WouldHavePassed
 pub mod OneResult
 pub mod Quick
 pub mod Exactly

@@ -32,6 +32,7 @@ use Rattle.feed.specs.Books.{namesFile, freshFrom, fromHeld, wentTo, nowhere}
 use Rattle.table.proofs as table
 use Rattle.book.proofs as book
 use Rattle.archival.proofs as archival
+use Rattle.most.proofs as most
 use Rattle.merging.proofs as merging
 use Rattle.statement.proofs as statement
 use Rattle.dayfile.proofs as dayfile
@@ -188,6 +189,12 @@ of-dayfile-reader-next κs a x y u v p q =
 -- a TM's statement held against the book
 pub of-statement-check : OneResultOnly statement.check.ended statement.check.Reads.Learnt
 of-statement-check κs a x y u v p q = (one-result p q, refl)
+
+-- ---- most
+
+-- how much would have passed
+pub of-most-most : OneResultOnly most.most.ended most.most.Reads.Learnt
+of-most-most κs a x y u v p q = (one-result p q, refl)
 
 -- ---- merging
 

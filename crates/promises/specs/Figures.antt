@@ -1,4 +1,4 @@
--- Document 01, 'Figures to hold against it': P1 to P11, P8 as K1 of document 02 has it; K2's case, the table of 004 Annexure 5; K3's list of needs at P4; K7's tenth; K9's charges; K10's six clients; K13's statements; and K14's two orders. In paise.
+-- Document 01, 'Figures to hold against it': P1 to P11, P8 as K1 of document 02 has it; K2's case, the table of 004 Annexure 5; K3's list of needs at P4; K7's tenth; K9's charges; K10's six clients; K13's statements; K14's two orders; and how much would have passed beside P6, P9 and K7's tenth. In paise.
 -- First the records of each case; then `cases`, the list of what is asked and the figures that the documents give; then what the rules say to it.
 use mathlib.Core.List.{List, [], _∷_, _++_, map}
 use Prim.Native.Nat.{ℕ, _+_, _*_}
@@ -11,6 +11,8 @@ use Rattle.rows.specs.Modes.{ownExcess, excessTM, useOf}
 use Rattle.book.specs.NeedsListed.{allNeeds}
 use Rattle.dayfile.specs.declared.Record.{Record}
 use Rattle.dayfile.specs.Reading.{sizeOf}
+use Rattle.passing.specs.declared.Largest.{Largest}
+use Rattle.passing.specs.Most.{mostOf}
 use Rattle.desk.specs.Answers.{refusalIn}
 use Rattle.desk.specs.Steps.{stepOf, nextOf}
 use Rattle.statement.specs.declared.Finding.{Finding}
@@ -134,6 +136,10 @@ securities serial code account amount = record {
 abbrev atK7 : ℕ → List Record
 atK7 amount = opening 0 1 0 ∷ opening 1 2 1 ∷ securities 2 4 2 amount ∷ securities 3 6 2 amount ∷ []
 
+-- and 9 are needed
+abbrev atK7Needed : ℕ → List Record
+atK7Needed amount = atK7 amount ++ (margin 4 2 9 ∷ [])
+
 -- K13: A has received a paisa that isn't allocated
 abbrev atK13 : List Record
 atK13 = start ++ (cash 11 4 2 1 ∷ [])
@@ -215,6 +221,8 @@ pub data Question : Type 0 where
   exposureTo : ℤ → ℤ → Question
   -- K13: what a check finds of TM-1's statement: the refusal or 0, the record at fault, and the account wanted there
   statementAfter : List Record → List ℕ → Question
+  -- how much would have passed of a record, whose serial and amounts are not looked at: the refusal or 0, and the amount
+  mostAfter : List Record → Record → Question
 
 -- what is asked, and the figures that a document gives for it
 pub record Case : Type 0 where
@@ -225,7 +233,7 @@ infix 20 _gives_
 abbrev _gives_ : Question → List ℕ → Case
 q gives l = record { asked = q; figures = l }
 
--- P1 to P11, Annexure 5, K3, K7, K9, K10, K13 and K14, in one list
+-- P1 to P11, Annexure 5, K3, K7, K9, K10, K13, K14 and how much would have passed, in one list
 unfoldable pub cases : List Case
 cases =
     (blockedAfter atP1 gives (0 ∷ 0 ∷ 0 ∷ 10000 ∷ []))  -- P1: B blocked 100, TM-1 0, CM 0
@@ -260,8 +268,8 @@ cases =
     ∷ (collateralAfter (atK7 19) 2 gives (17 ∷ []))
     ∷ (collateralAfter (atK7 20) 2 gives (18 ∷ []))
     ∷ (collateralAfter (atK7 21) 2 gives (18 ∷ []))
-    ∷ (refusalAfter (atK7 11 ++ (margin 4 2 9 ∷ [])) (securities 5 7 2 1) gives (0 ∷ []))  -- K7: 11 to 10 paise, with nothing free
-    ∷ (refusalAfter (atK7 10 ++ (margin 4 2 9 ∷ [])) (securities 5 7 2 1) gives (12 ∷ []))  -- K7: 10 to 9
+    ∷ (refusalAfter (atK7Needed 11) (securities 5 7 2 1) gives (0 ∷ []))  -- K7: 11 to 10 paise, with nothing free
+    ∷ (refusalAfter (atK7Needed 10) (securities 5 7 2 1) gives (12 ∷ []))  -- K7: 10 to 9
     ∷ (marginOf (position 5 Futures 10000001) gives (0 ∷ 50001 ∷ []))  -- K9: USDINR futures of 10,000,001 paise give 50,001
     ∷ (marginOf (position 0 Spread 2000) gives (0 ∷ 1 ∷ []))  -- K9: rounded once, an EURINR spread of 2,000 gives 1
     ∷ (ratesOf 0 gives (0 ∷ 150 ∷ 0 ∷ 750 ∷ []))  -- K9: EURINR 150, 750
@@ -298,6 +306,17 @@ cases =
     ∷ (refusalsAfter atK14Warned allocatedFirst gives (0 ∷ 0 ∷ []))
     ∷ (usedAfter (atK14Warned ++ marginFirst) 1 gives (90000 ∷ 105000 ∷ 1 ∷ []))  -- and the TM's mode is on after the first
     ∷ (usedAfter (atK14Warned ++ allocatedFirst) 1 gives (90000 ∷ 105000 ∷ 0 ∷ []))  -- and off after the second
+    ∷ (mostAfter atP4 (margin 0 3 0) gives (0 ∷ 150000 ∷ []))  -- P5, P6: B's margin up to 1500.00
+    ∷ (mostAfter atP4 (margin 0 2 0) gives (0 ∷ 120000 ∷ []))  -- A's up to 1200.00
+    ∷ (mostAfter atP4 (margin 0 1 0) gives (0 ∷ 60000 ∷ []))  -- TM-1's up to 600.00
+    ∷ (mostAfter atP1 (cash 0 7 3 0) gives (0 ∷ 20000 ∷ []))  -- P9: B may release 200.00
+    ∷ (mostAfter (atK7Needed 11) (securities 0 7 2 0) gives (0 ∷ 1 ∷ []))  -- K7: nothing is free, and a paisa may go: 10 count for as much as 11
+    ∷ (mostAfter (atK7Needed 10) (securities 0 7 2 0) gives (12 ∷ 0 ∷ []))  -- none of 10
+    ∷ (mostAfter (atK7Needed 21) (securities 0 7 2 0) gives (0 ∷ 11 ∷ []))  -- 9 are free: 11 may go, and leave 10, which count for 9
+    ∷ (mostAfter (atK7Needed 21) (cash 0 7 2 0) gives (11 ∷ 0 ∷ []))  -- no cash is allocated
+    ∷ (mostAfter atP1 (opening 0 1 0) gives (4 ∷ 0 ∷ []))  -- an opening has no amount
+    ∷ (mostAfter atP1 (cash 0 8 3 0) gives (5 ∷ 0 ∷ []))  -- cash isn't pledged
+    ∷ (mostAfter atP1 (cash 0 7 4 0) gives (7 ∷ 0 ∷ []))  -- number 4 was never given
     ∷ []
 
 -- What the rules say to a question. Of the book after the records, f of CM, TM-1, A and B,
@@ -346,6 +365,10 @@ exposureIn premium loss = intradayOf premium loss .refusal ∷ intradayOf premiu
 abbrev pub findingIn : Finding → List ℕ
 findingIn f = f .refusal ∷ f .index ∷ f .wanted ∷ []
 
+-- of how much would have passed both
+abbrev pub mostIn : Largest → List ℕ
+mostIn m = m .refusal ∷ m .amount ∷ []
+
 -- the book after records from a fresh book
 abbrev after : List Record → Book
 after rs = afterAll freshBook rs
@@ -366,6 +389,7 @@ byTheRules (marginOf p) = marginIn p
 byTheRules (ratesOf product) = ratesIn product
 byTheRules (exposureTo premium loss) = exposureIn premium loss
 byTheRules (statementAfter rs s) = findingIn (statementFinding (after rs) 1 s)
+byTheRules (mostAfter rs r) = mostIn (mostOf (after rs) r)
 
 -- The one claim (`promises.Claim.figures`) is that these two lists are the same: what the rules say to each question, and the documents' figures.
 unfoldable pub casesByTheRules : List (List ℕ)

@@ -10,6 +10,7 @@ use crate::dayfile::{length, next_at, Next, Values};
 use crate::desk;
 use crate::desk::figures::{exposure, exposures, margin_with};
 use crate::mode::Mode;
+use crate::most::most;
 use crate::refusal::{Refusal, UNSOUND};
 use crate::statement::check;
 use crate::table::Table;
@@ -37,6 +38,7 @@ pub fn answer(call: &Call) -> Answered {
         Call::Needs(book, room) => needs(book.book(), *room),
         Call::TakeOver(book) => take_over(book),
         Call::Archive(book, room) => archive(book, *room),
+        Call::Most(book, record) => most_call(book.book(), record),
         Call::Statement(book, tm, statement) => {
             told(check(book.book().as_ref(), *tm, statement).refusal(), &[])
         }
@@ -302,6 +304,15 @@ fn archive(table: &Table, room: usize) -> Answered {
     }
     words.insert(0, entries.len() as u64);
     with_book(told(refusal, &words), &book_words(table, &after))
+}
+
+/// "A refusal or 0, and an amount": 0 with a refusal.
+fn most_call(book: Option<Book>, record: &Values) -> Answered {
+    match book.map(|book| most(&book, record)) {
+        None => told(UNSOUND, &[0]),
+        Some(Err(refusal)) => told(refusal as u8, &[0]),
+        Some(Ok(amount)) => told(0, &[amount]),
+    }
 }
 
 /// The refusal alone, "no record then", or the record.

@@ -34,10 +34,11 @@ pub enum Call {
     Statement(Table, u16, Vec<u8>),
     /// Book, room.
     Archive(Table, usize),
+    Most(Table, Values),
 }
 
 /// Every call by its number.
-pub const NAMES: [(u8, &str); 16] = [
+pub const NAMES: [(u8, &str); 17] = [
     (1, "is_sound"),
     (2, "standing"),
     (3, "carry_out"),
@@ -54,6 +55,7 @@ pub const NAMES: [(u8, &str); 16] = [
     (14, "exposures"),
     (15, "statement"),
     (16, "archive"),
+    (17, "most"),
 ];
 
 impl Call {
@@ -83,6 +85,7 @@ impl Call {
             14 => Call::Exposures(input.figures_each()?, input.signed_list()?, input.room()?),
             15 => Call::Statement(input.book()?, input.short()?, input.piece()?),
             16 => Call::Archive(input.book()?, input.room()?),
+            17 => Call::Most(input.book()?, input.record()?),
             _ => return None,
         };
         Some(call)
@@ -111,6 +114,7 @@ impl Call {
             Call::Exposures(..) => 14,
             Call::Statement(..) => 15,
             Call::Archive(..) => 16,
+            Call::Most(..) => 17,
         }
     }
 
@@ -134,7 +138,7 @@ impl Call {
             Call::CarryOutNext(book, _, _) | Call::Day(book, _, _) => Some(book),
             Call::CloseOut(book, _, _) | Call::Needs(book, _) => Some(book),
             Call::TakeOver(book) | Call::Archive(book, _) => Some(book),
-            Call::Statement(book, _, _) => Some(book),
+            Call::Statement(book, _, _) | Call::Most(book, _) => Some(book),
             Call::ReadAt(..) | Call::Write(..) | Call::Margin(..) => None,
             Call::Exposure(..) | Call::MarginWith(..) | Call::Exposures(..) => None,
         }
@@ -152,7 +156,7 @@ impl Call {
         match self {
             Call::IsSound(_) | Call::TakeOver(_) => {}
             Call::Standing(_, account) => out.extend_from_slice(&account.to_be_bytes()),
-            Call::CarryOut(_, record) => lay_record(out, record),
+            Call::CarryOut(_, record) | Call::Most(_, record) => lay_record(out, record),
             Call::CarryOutNext(_, piece, number)
             | Call::Day(_, piece, number)
             | Call::ReadAt(piece, number) => {

@@ -4,6 +4,7 @@
 mod desk;
 mod edges;
 mod figures;
+mod most;
 mod numbers;
 
 use super::call::NAMES;
@@ -33,6 +34,7 @@ const OUTCOMES: [&str; NAMES.len()] = [
     "0 15",
     "0 1 7 8 24 25 26 27 28 29",
     "0 1 23",
+    "0 1 4 5 7 10 11 12 17",
 ];
 
 #[derive(Default)]
@@ -52,6 +54,7 @@ pub struct Met {
     desk: desk::Met,
     figures: figures::Met,
     statements: statement::Met,
+    most: most::Met,
 }
 
 impl Met {
@@ -67,6 +70,7 @@ impl Met {
             self.desk.count(*initial, positions);
         }
         self.figures.count(call);
+        self.most.count(call, answered);
         if let Call::Statement(book, tm, statement) = call {
             let book = book.book();
             let checked = statement::check(book.as_ref(), *tm, statement);
@@ -128,7 +132,13 @@ impl Met {
         missed.extend(self.desk.missed());
         missed.extend(self.figures.missed());
         missed.extend(self.statements.missed());
+        missed.extend(self.most.missed());
         missed
+    }
+
+    /// Where an answer of `most` and those of `carry_out` don't agree.
+    pub fn wrong(&self) -> &[String] {
+        &self.most.wrong
     }
 
     pub fn lines(&self) -> Vec<String> {
@@ -157,6 +167,7 @@ impl Met {
         lines.extend([self.desk.line(), self.figures.line()]);
         lines.push(format!("statements, {}", self.statements.line()));
         lines.push(self.number_line());
+        lines.extend(self.most.lines());
         let endings = self.endings();
         let endings: Vec<String> = endings
             .map(|(ending, many)| format!("{ending}: {many}"))

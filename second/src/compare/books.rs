@@ -6,9 +6,10 @@ use crate::book::Book;
 use crate::bookfile;
 use crate::child::{ask, ask_held, Pace};
 use crate::difference::settle;
+use crate::explain;
 use crate::made::Made;
 use crate::make::asked::{any_sound, to_take_over, unsound, with_steps};
-use crate::make::{losses, make, ROUND};
+use crate::make::{losses, make, refused, ROUND};
 use crate::options::Options;
 use crate::print;
 use crate::rng::Rng;
@@ -216,6 +217,10 @@ impl Night<'_> {
             let want = print::needs_over(handed_over(book), piece);
             self.settled("needs from a book", program, &[path], piece, &want)?;
         }
+        if let Some(program) = self.programs.explain {
+            let want = explain::over(handed_over(book), piece);
+            self.settled("explain from a book", program, &[path], piece, &want)?;
+        }
         if let Some(program) = self.programs.closeouts {
             let losses = losses::make(book, self.rng.next());
             let file = self.put("losses", &losses)?;
@@ -240,9 +245,21 @@ impl Night<'_> {
         let to = self.path("to");
         let _ = fs::remove_file(&to);
         self.shown(&sound, &book, &piece)?;
+        self.explained(&sound, &book)?;
         let after = self.day(sound, &book, &to, &piece)?;
         self.met.odd += 1;
         self.shown(&after, &to, &[])
+    }
+
+    /// Records that are refused by a paisa.
+    fn explained(&mut self, book: &Book, path: &Path) -> Result<(), String> {
+        let program = match self.programs.explain {
+            Some(program) => program,
+            None => return Ok(()),
+        };
+        let piece = refused::records(book, self.rng.next());
+        let want = explain::over(book.clone(), &piece);
+        self.settled("explain from a book", program, &[path], &piece, &want)
     }
 
     /// The refusal alone, standard input unread, and TO: the book taken over,

@@ -47,6 +47,9 @@ fn one_input(
         return Err(format!("calls, seed {seed}: made with another ending"));
     }
     met.count_input(&asked);
+    if let Some(wrong) = met.wrong().first() {
+        return Err(format!("calls, seed {seed}: own answers differ: {wrong}"));
+    }
     let got = ask(program, &[], &asked.bytes, pace);
     let got = got.map_err(|error| format!("calls: cannot run: {error}"))?;
     if got.stdout == want && got.status.code().is_some() {

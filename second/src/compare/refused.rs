@@ -56,6 +56,7 @@ impl Night<'_> {
             ("day", self.programs.day, vec![book, to]),
             ("standings", self.programs.standings, vec![book]),
             ("needs", self.programs.needs, vec![book]),
+            ("explain", self.programs.explain, vec![book]),
             ("closeouts", self.programs.closeouts, vec![losses, book]),
         ];
         all.into_iter()

@@ -11,6 +11,7 @@ mod endings;
 pub mod figures;
 mod given;
 mod lists;
+mod most;
 pub mod numbers;
 mod overs;
 mod pieces;

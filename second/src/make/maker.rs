@@ -80,12 +80,25 @@ impl Maker {
     }
 
     pub fn put(&mut self, code: u8, mark: u8, serial: u16, account: u16, amounts: &[u64]) -> bool {
-        if self.full() {
-            return false;
-        }
         let number = self.naming.number(&self.book, account);
+        if self.full() {
+            return self.go_on(code, mark, serial, number, amounts);
+        }
         lay(&mut self.bytes, code, mark, serial, number, amounts);
         self.catch_up()
+    }
+
+    /// Past the day's room nothing is laid down any more. The model goes on, so
+    /// that a step finds what it has put.
+    fn go_on(&mut self, code: u8, mark: u8, serial: u16, number: u16, amounts: &[u64]) -> bool {
+        let mut bytes = Vec::new();
+        lay(&mut bytes, code, mark, serial, number, amounts);
+        match Reader::new(&bytes).next() {
+            Next::Record(record) => {
+                !matches!(carry(&mut self.book, &record).outcome, Outcome::Refused(_))
+            }
+            _ => false,
+        }
     }
 
     /// The model reads the bytes as anyone would and so stays in step with

@@ -85,7 +85,9 @@ fn call_line(call: &Call, serial: u16) -> String {
     let line = match call {
         Call::IsSound(_) | Call::TakeOver(_) => name.to_string(),
         Call::Standing(_, account) => format!("{name} {account}"),
-        Call::CarryOut(_, record) => format!("{name} {}", record_words(record, serial)),
+        Call::CarryOut(_, record) | Call::Most(_, record) => {
+            format!("{name} {}", record_words(record, serial))
+        }
         Call::CarryOutNext(_, piece, number)
         | Call::Day(_, piece, number)
         | Call::ReadAt(piece, number) => {

@@ -9,6 +9,7 @@ use crate::looks::Looks;
 use crate::make::asked::desk::Case;
 use crate::make::asked::{any_sound, figures, make, unsound, whole_round, with_steps, ENDINGS};
 use crate::margins::Margins;
+use crate::most::kinds::Kind;
 use crate::moves::Moves;
 use crate::rng::Rng;
 use crate::table::{Fault, Table};
@@ -44,6 +45,8 @@ fn every_fault_by_itself() {
 /// A run that must meet everything does, and one without calls misses all.
 #[test]
 fn a_whole_round_meets_everything() {
+    // With fewer inputs than a round a comparison doesn't say what it missed.
+    assert!(whole_round() <= 60, "{}", whole_round());
     for start in [1, 700] {
         let mut met = Met::default();
         for seed in start..start + whole_round() as u64 {
@@ -55,8 +58,9 @@ fn a_whole_round_meets_everything() {
             met.count_input(&asked);
         }
         assert_eq!(met.missed(), Vec::<String>::new());
+        assert_eq!(met.wrong(), Vec::<String>::new());
     }
-    let outcomes = 2 + 3 + 15 + 17 + 4 + 6 + 5 + 4 + 3 + 6 + 2 + 7 + 2 + 10 + 3;
+    let outcomes = 2 + 3 + 15 + 17 + 4 + 6 + 5 + 4 + 3 + 6 + 2 + 7 + 2 + 10 + 3 + 9;
     let edges = 5 + 5 + 6 + 5 + 5 + 5 + 8 + 3 + 3 + 3 + 8 + 12;
     let taken_over = 2 + 3 + 6;
     let numbers = 9 + 7 + 4 + 7 + 2 + 6 + 13 + 3 + 4;
@@ -66,7 +70,19 @@ fn a_whole_round_meets_everything() {
     let all = all + 1;
     let all = all + Case::all().len() + figures::Case::all().len();
     let all = all + crate::statement::Met::default().missed().len();
+    let all = all + Kind::all().len() + 36;
     assert_eq!(Met::default().missed().len(), all);
+}
+
+/// None stands twice in the list, and its edges are amounts.
+#[test]
+fn kinds_of_most() {
+    let mut kinds = Kind::all();
+    let many = kinds.len();
+    kinds.sort();
+    kinds.dedup();
+    assert_eq!((kinds.len(), many), (301, 301));
+    assert_eq!(kinds.iter().filter(|kind| kind.is_edge()).count(), 63);
 }
 
 #[test]

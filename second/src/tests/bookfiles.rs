@@ -9,10 +9,10 @@ use std::fs;
 use std::path::PathBuf;
 
 /// A folder of its own for each test; it goes with the test.
-struct Folder(PathBuf);
+pub struct Folder(PathBuf);
 
 impl Folder {
-    fn new(name: &str) -> Folder {
+    pub fn new(name: &str) -> Folder {
         let name = format!("second-tests-{}-{name}", std::process::id());
         let path = std::env::temp_dir().join(name);
         fs::create_dir_all(&path).unwrap();
@@ -23,7 +23,7 @@ impl Folder {
         self.0.join(name).into_os_string()
     }
 
-    fn put(&self, name: &str, bytes: &[u8]) -> OsString {
+    pub fn put(&self, name: &str, bytes: &[u8]) -> OsString {
         fs::write(self.0.join(name), bytes).unwrap();
         self.word(name)
     }

@@ -2,6 +2,7 @@
 
 use crate::bookfile::{self, Version};
 use crate::calls::{answered, Call, Calls};
+use crate::dayfile::Values;
 use crate::story;
 use crate::table::{Table, LIVE, MODE, NEED, SORT, TM};
 
@@ -335,6 +336,42 @@ fn needs() {
     assert_eq!(start("set 2 need 1\nneeds room 0"), "1");
 }
 
+/// 1, 4, 5, 7, then what a paisa is refused with; or 0 and the amount.
+#[test]
+fn most() {
+    assert_eq!(answer("most margin 0 0"), "0 0");
+    assert_eq!(answer("most pledge 0 1"), "0 10000000000000");
+    assert_eq!(answer("most revalue 0 1"), "0 10000000000000");
+    assert_eq!(start("most margin 2 1"), "0 1800");
+    assert_eq!(
+        start("most serial 0 margin 1 18446744073709551615"),
+        "0 1500"
+    );
+    assert_eq!(start("most release 2 cash 0"), "0 300");
+    assert_eq!(start("do margin 2 299\nmost release 2 cash 0"), "0 1");
+    assert_eq!(start("do margin 2 300\nmost release 2 cash 0"), "12 0");
+    assert_eq!(start("most release 2 deposits 1"), "11 0");
+    assert_eq!(start("set 1 mode 1\nmost unpledge 1 1"), "17 0");
+    assert_eq!(
+        start("set 0 received.cash 10000000000000\nmost receive 0 cash 5"),
+        "10 0"
+    );
+    assert_eq!(start("most values 0 10 32 2 9 9 9 9 9 9"), "0 1800");
+    for account in [4, 5, 256, 65_535] {
+        assert_eq!(start(&format!("most margin {account} 1")), "7 0");
+        assert_eq!(
+            start(&format!("most receive {account} cash 1 deposits 1")),
+            "5 0"
+        );
+        assert_eq!(start(&format!("most retire {account}")), "4 0");
+    }
+    assert_eq!(start("most tm"), "4 0");
+    assert_eq!(start("most raw 0E01 0000 0000 0000000000000001"), "4 0");
+    assert_eq!(start("most raw 0440 0000 0000 0000000000000001"), "5 0");
+    assert_eq!(start("set 0 margin 1\nmost tm"), "1 0");
+    assert_eq!(start("set 0 margin 1\nmost margin 9 1"), "1 0");
+}
+
 #[test]
 fn what_is_no_call() {
     let good = "is_sound\nneeds room 1\n";
@@ -342,7 +379,7 @@ fn what_is_no_call() {
         "bytes 00",
         "bytes 0A",
         "bytes 0F",
-        "bytes 11",
+        "bytes 12",
         "bytes 15",
         "bytes FF\nis_sound",
         "needs room 4097",
@@ -382,6 +419,8 @@ fn cut_short() {
         "needs room 3",
         "archive room 3",
         "version 2\narchive room 3",
+        "most tm",
+        "version 2\nmost tm",
     ];
     for call in calls {
         let whole = story::write(call.as_bytes()).unwrap();
@@ -424,12 +463,13 @@ fn the_largest_words() {
             Call::CloseOut(table.clone(), vec![u64::MAX], 1),
             Call::Needs(table.clone(), 0),
             Call::Archive(table.clone(), 2),
+            Call::Most(table.clone(), Values::default()),
         ] {
             call.lay(&mut bytes);
         }
         let want =
-            "0\n1 0 0 0 0 0 0 0\n0 0 0 1 0 18446744073709551615 same\n1 0 1\n1\n1 0 1 2 same\n";
+            "0\n1 0 0 0 0 0 0 0\n0 0 0 1 0 18446744073709551615 same\n1 0 1\n1\n1 0 1 2 same\n1 0\n";
         assert_eq!(String::from_utf8(answered(&bytes)).unwrap(), want);
-        assert_eq!(Calls::of(&bytes).count(), 6);
+        assert_eq!(Calls::of(&bytes).count(), 7);
     }
 }

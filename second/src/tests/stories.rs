@@ -59,6 +59,9 @@ fresh
 archive room 4096
 statement 65535
 statement 1 2 5 3 2 2 0 ; 3 0 0 0 0 0 ; raw 010100
+most margin 3 0
+most serial 9 receive 0 cash 5
+most values 7 14 255 65535 1 2 3 4 5 18446744073709551615
 bytes 00FF
 ";
     let bytes = story::write(said.as_bytes()).unwrap();

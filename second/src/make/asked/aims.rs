@@ -2,9 +2,10 @@
 
 mod numbers;
 
-use super::{books, breaches, desk, figures, lists, overs, pieces, records, statements};
+use super::{books, breaches, desk, figures, lists, most, overs, pieces, records, statements};
 use crate::calls::Call;
 use crate::dayfile::*;
+use crate::most::kinds::Kind;
 use crate::rng::Rng;
 use crate::rule::Rule;
 use crate::table::{Fault, Table, CLIENT, CM, CP, TRADING};
@@ -62,6 +63,12 @@ pub enum Aim {
     Numbers(numbers::Aim),
     /// K13.
     Statement(statements::Case),
+    /// What `most` is asked.
+    Most(Kind),
+    /// A record with as much as passes, or a paisa more.
+    AtMost(Kind, u64),
+    /// `most` asked of a book with this fault alone.
+    MostOfFault(Fault),
 }
 
 /// The refusals of a record that is handed over as values, and 0.
@@ -94,6 +101,10 @@ impl Aim {
         aims.extend(desk::Case::all().into_iter().map(Aim::Desk));
         aims.extend(figures::Case::all().into_iter().map(Aim::Figures));
         aims.extend(statements::Case::all().into_iter().map(Aim::Statement));
+        aims.extend(Kind::all().into_iter().map(Aim::Most));
+        let edges = Kind::all().into_iter().filter(Kind::is_edge);
+        aims.extend(edges.flat_map(|kind| [0, 1].map(|more| Aim::AtMost(kind, more))));
+        aims.extend(Fault::all(Rule::New).into_iter().map(Aim::MostOfFault));
         aims
     }
 
@@ -181,6 +192,9 @@ impl Aim {
             Aim::FaultOver(fault) => Call::TakeOver(breaches::with(fault, Rule::Old, rng)),
             Aim::Numbers(aim) => aim.call(rng),
             Aim::Statement(case) => case.call(rng),
+            Aim::Most(kind) => most::call(kind, rng),
+            Aim::AtMost(kind, more) => most::at_edge(kind, more, rng),
+            Aim::MostOfFault(fault) => most::of_unsound(fault, rng),
         }
     }
 }
@@ -205,7 +219,8 @@ fn any_record(book: Table, rng: &mut Rng) -> Call {
 /// By one of the other calls that take a book, with arguments that would do
 /// for a sound one, or wouldn't.
 fn asked_elsewhere(book: Table, rng: &mut Rng) -> Call {
-    match rng.below(8) {
+    match rng.below(9) {
+        8 => Call::Most(book, records::any_values(rng)),
         7 => Call::Statement(book, rng.below(9) as u16, pieces::some_piece(rng)),
         0 => {
             let account = rng.near(u64::from(book.count)) as u16;

@@ -182,7 +182,7 @@ pub fn cover(table: &mut Table, rule: Rule, rng: &mut Rng) {
 }
 
 /// Leaves the CM a paisa short of its need, or more, or with nothing.
-fn fall_short(table: &mut Table, rng: &mut Rng) {
+pub(super) fn fall_short(table: &mut Table, rng: &mut Rng) {
     let need = table.places[0][NEED];
     let left = rng.below(need.max(1));
     let left = rng.pick(&[need.saturating_sub(1), left, 0]);

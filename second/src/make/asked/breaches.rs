@@ -79,7 +79,12 @@ fn breach(table: &mut Table, fault: Fault, rule: Rule, rng: &mut Rng) -> Option<
 
 /// An account of this sort: one that is there or, if there is none or now and
 /// then, a new one. A client is opened with its TM.
-fn an_account(table: &mut Table, sort: u64, live: Option<u64>, rng: &mut Rng) -> Option<usize> {
+pub(super) fn an_account(
+    table: &mut Table,
+    sort: u64,
+    live: Option<u64>,
+    rng: &mut Rng,
+) -> Option<usize> {
     let found = find(table, sort, live, rng);
     let room = MOST_ACCOUNTS - table.held();
     if found.is_some() && (room < 2 || !rng.one_in(4)) {

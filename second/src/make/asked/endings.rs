@@ -13,7 +13,7 @@ type Ending = (&'static str, fn(&mut Vec<u8>, &mut Rng));
 
 /// An odd number, so that inputs fed in small pieces (one in four) have every
 /// ending.
-pub const ENDINGS: [Ending; 33] = [
+pub const ENDINGS: [Ending; 35] = [
     ("the end", |_, _| {}),
     ("an unknown call", unknown),
     ("call 1 cut", |out, rng| cut(1, out, rng)),
@@ -33,6 +33,8 @@ pub const ENDINGS: [Ending; 33] = [
     ("call 14 cut", |out, rng| cut(14, out, rng)),
     ("call 15 cut", |out, rng| cut(15, out, rng)),
     ("call 16 cut", |out, rng| cut(16, out, rng)),
+    ("call 17 cut", |out, rng| cut(17, out, rng)),
+    ("the number behind the last call's", behind_last),
     ("a book of version 1 cut", first_version_cut),
     ("a side above 3", no_side),
     ("figures neither two nor four", no_figures),
@@ -78,6 +80,14 @@ fn unknown(out: &mut Vec<u8>, rng: &mut Rng) {
     let start = out.len();
     any_call(rng).lay(out);
     out[start] = rng.pick(&[unknown[0], unknown[1], drawn, 255]);
+    good_calls(out, rng);
+}
+
+/// 18, with a book and a record behind it.
+fn behind_last(out: &mut Vec<u8>, rng: &mut Rng) {
+    let start = out.len();
+    Call::Most(books::sound(rng), Values::default()).lay(out);
+    out[start] += 1;
     good_calls(out, rng);
 }
 

@@ -73,7 +73,7 @@ pub fn standing_short(rng: &mut Rng) -> Call {
 }
 
 /// The place of one that is there, or of a new one. A full table may have none.
-fn retired(book: &mut Table, rng: &mut Rng) -> usize {
+pub(super) fn retired(book: &mut Table, rng: &mut Rng) -> usize {
     let sort = rng.pick(&[TRADING, CLIENT, CP]);
     let room = book.held() < MOST_ACCOUNTS;
     let found = find(book, sort, Some(0), rng);

@@ -132,7 +132,7 @@ fn face_only(rng: &mut Rng) -> Table {
 }
 
 /// From a paisa of securities up to all of the amount.
-fn fund_with_securities(place: &mut Place, amount: u64, rule: Rule, rng: &mut Rng) {
+pub(super) fn fund_with_securities(place: &mut Place, amount: u64, rule: Rule, rng: &mut Rng) {
     let drawn = rng.between(1, amount.max(1));
     let wanted = rng.pick(&[1, 2, 10, 11, drawn, amount]).min(amount);
     let face = rule.face(wanted).min(CEILING);
