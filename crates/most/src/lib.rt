@@ -15,5 +15,16 @@ pub fn most(t: Table, record: Record) -> Largest
     if !book::is_sound(t) {
         return refused(1);
     }
-    most_in(t, record)
+    let count = t.count;
+    most_in(
+        &t.sort,
+        &t.live,
+        &t.tm,
+        &t.amounts,
+        &t.modes,
+        &t.needs,
+        &t.numbers,
+        count,
+        record,
+    )
 }

@@ -16,8 +16,7 @@ use Rattle.rows.specs.Facts.{InRange}
 use Rattle.rows.specs.DeemedUnder.{needBy}
 use Rattle.rows.proofs.Counted.{collateral-most}
 use Rattle.rows.proofs.KeptNeeds.{need-by, kept-CM}
-use Rattle.table.specs.declared.Table.{Table}
-use Rattle.table.specs.Words.{Marks, marksOf, turnedBack, rowIn}
+use Rattle.table.specs.Words.{Marks, rowIn, bookFrom}
 use Rattle.table.proofs.Gathered.{row-in}
 use Rattle.book.specs.Facts.{Sound}
 use Rattle.passing.specs.Inner.{raisedTo, limitsOf, limitsIn, freeIn, shortIn, limitsBy, Within}
@@ -55,36 +54,37 @@ limits-from m w modes needs i code named {row} {own} {its} {top} {raised} {short
     ∙ ap (λ (z : Row). limitsOf code named z (getD modes i false) (freeIn m w needs i) (raisedTo (z .sort) (z .margin) (shortIn m w needs) (freeIn m w needs i) (freeIn m w needs (z .tm)) (freeIn m w needs 0))) er
 
 -- by the words of a sound table
-module _ (t : Table) (s : Sound (turnedBack t)) where
+module _ (count serial : ℕ) (m : Marks) (w : List ℕ) (modes : List Bool) (needs : List ℕ) (next : ℕ) (numbers : List ℕ)
+    (s : Sound (bookFrom count serial m w modes needs next numbers)) where
   abbrev b : Book
-  b = turnedBack t
+  b = bookFrom count serial m w modes needs next numbers
 
-  row : (i : ℕ) → i < t .count → rowAt b i ≡ rowIn (marksOf t) (t .amounts) i
-  row i l = row-in (marksOf t) (t .amounts) i (omega (arith, s .most))
+  row : (i : ℕ) → i < count → rowAt b i ≡ rowIn m w i
+  row i l = row-in m w i (omega (arith, s .most))
 
-  free-by : (i : ℕ) → i < t .count → free (view b) i ≡ freeIn (marksOf t) (t .amounts) (t .needs) i
+  free-by : (i : ℕ) → i < count → free (view b) i ≡ freeIn m w needs i
   free-by i l = sym (free-kept b s i l) ∙ ap (λ r. freeOf (needBy (accountOf r) (needAt b i)) (collateral r)) (row i l)
 
-  short-by : ltb (view b .collateral 0) (needCM (view b)) ≡ shortIn (marksOf t) (t .amounts) (t .needs)
+  short-by : ltb (view b .collateral 0) (needCM (view b)) ≡ shortIn m w needs
   short-by = sym (short-kept b s) ∙ ap (λ r. ltb (collateral r) (needAt b 0)) (row 0 (s .shaped .some))
 
-  ranged : (i : ℕ) → i < t .count → InRange (rowIn (marksOf t) (t .amounts) i)
+  ranged : (i : ℕ) → i < count → InRange (rowIn m w i)
   ranged i l = subst InRange (row i l) (s .ranges i l)
 
-  module _ (i : ℕ) (l : i < t .count) where
+  module _ (i : ℕ) (l : i < count) where
     abbrev its : ℕ
     its = rowAt b i .tm
 
-    pub within : Within (marksOf t) (t .amounts) i
+    pub within : Within m w i
     within = record {
       place = omega (arith, s .most);
       tm = subst (λ (r : Row). r .tm < 256) (row i l) (omega (arith, s .most, tm-inside b s i l));
       own = ranged i l;
-      its = subst (λ (r : Row). InRange (rowIn (marksOf t) (t .amounts) (r .tm))) (row i l) (ranged its (tm-inside b s i l));
+      its = subst (λ (r : Row). InRange (rowIn m w (r .tm))) (row i l) (ranged its (tm-inside b s i l));
       top = ranged 0 (s .shaped .some);
     }
 
     -- THE LAW: the limits by the words are the book's
-    pub limits-by : (code named : ℕ) → limitsBy (marksOf t) (t .amounts) (t .modes) (t .needs) i code named ≡ limitsIn b i code named
+    pub limits-by : (code named : ℕ) → limitsBy m w modes needs i code named ≡ limitsIn b i code named
     limits-by code named =
-        sym (limits-from (marksOf t) (t .amounts) (t .modes) (t .needs) i code named (row i l) (free-by i l) (free-by its (tm-inside b s i l)) (free-by 0 (s .shaped .some)) short-by refl)
+        sym (limits-from m w modes needs i code named (row i l) (free-by i l) (free-by its (tm-inside b s i l)) (free-by 0 (s .shaped .some)) short-by refl)

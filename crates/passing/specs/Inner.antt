@@ -1,6 +1,7 @@
 -- Only for internal functions: no promise of a public call cites it. Up to where each code's amount passes, in closed form.
 use mathlib.Core.Bool.{Bool, false, not, _||_}
 use mathlib.Core.List.{List, [], _∷_}
+use mathlib.Core.Path.{_≡_}
 use Prim.Native.Nat.{ℕ, _+_, _-_, _*_, _/_, _<_, min}
 use lib.Dec.{eqb, ltb}
 use lib.ListN.{getD}
@@ -15,10 +16,12 @@ use Rattle.rows.specs.View.{View, needCM, freeOf, free}
 use Rattle.rows.specs.Rows.{ceiling, counted, collateral, accountOf, rowAt, modeAt, view}
 use Rattle.rows.specs.Facts.{InRange}
 use Rattle.rows.specs.DeemedUnder.{needBy}
-use Rattle.table.specs.Words.{Marks, rowIn}
+use Rattle.table.specs.Words.{Marks, rowIn, bookFrom}
+use Rattle.book.specs.Facts.{Sound}
 use Rattle.passing.specs.declared.Largest.{Largest}
 use Rattle.passing.specs.declared.limits.Limits.{Limits}
-use Rattle.passing.specs.Most.{unlessWith}
+use Rattle.dayfile.specs.declared.Record.{Record}
+use Rattle.passing.specs.Most.{unlessWith, mostOf}
 
 -- the kind that a second mark byte names alone
 abbrev pub kindNamed : ℕ → Kinds → ℕ
@@ -81,6 +84,17 @@ pub record Within (m : Marks) (w : List ℕ) (i : ℕ) : Type 0 where
   pub own : InRange (rowIn m w i)
   pub its : InRange (rowIn m w (rowIn m w i .tm))
   pub top : InRange (rowIn m w 0)
+
+-- the arrays are a sound book's, whatever its serial and its next number are
+pub record Lent (count : ℕ) (m : Marks) (w : List ℕ) (modes : List Bool) (needs numbers : List ℕ) : Type 0 where
+  pub serial : ℕ
+  pub next : ℕ
+  pub sound : Sound (bookFrom count serial m w modes needs next numbers)
+
+-- what `most` gives at each such book
+abbrev pub IsMost : ℕ → Marks → List ℕ → List Bool → List ℕ → List ℕ → Record → Largest → Type 0
+IsMost count m w modes needs numbers r x =
+    (serial next : ℕ) → Sound (bookFrom count serial m w modes needs next numbers) → x ≡ mostOf (bookFrom count serial m w modes needs next numbers) r
 
 -- the refusal that an amount meets, or 0: K5's 17 after 11 and before 12
 unfoldable pub refusalAt : Limits → ℕ → ℕ

@@ -2,10 +2,9 @@
 ghost use mathlib.Core.Path.{_≡_};
 ghost use Prim.Native.Nat.{_<_};
 ghost use Rattle.rows.specs.Facts.{InRange};
-ghost use Rattle.table.specs.Words.{marksFrom, rowIn, turnedBack};
-ghost use Rattle.book.specs.Facts.{Sound};
-ghost use Rattle.passing.specs.Most.{leastOf, hasAmount, namesOne, mostOf};
-ghost use Rattle.passing.specs.Inner.{freeIn, shortIn, limitsBy, Within};
+ghost use Rattle.table.specs.Words.{marksFrom, rowIn};
+ghost use Rattle.passing.specs.Most.{leastOf, hasAmount, namesOne};
+ghost use Rattle.passing.specs.Inner.{freeIn, shortIn, limitsBy, Within, Lent, IsMost};
 pub use dayfile::Record;
 use limits::Limits;
 use limits::free_of;
@@ -14,7 +13,6 @@ use limits::limits_of;
 use limits::raised_to;
 use lookup::place_among;
 use rows::needs::collateral_of;
-pub use table::Table;
 use table::places::row_at;
 
 mod limits;
@@ -117,10 +115,21 @@ fn limits_at<'a>(
     limits_of(code, named, row, modes[i], own, raised)
 }
 
-// The largest amount with which the record would have been carried out at a sound table, whatever its serial and its amounts are.
-pub fn most_in(t: Table, record: Record) -> Largest
-    requires { ⌜ Sound (turnedBack t) ⌝ }
-    ensures { λ x. ⌜ x ≡ mostOf (turnedBack t) «record» ⌝ }
+// The largest amount with which the record would have been carried out at a sound table, whose arrays are lent, whatever the record's serial and its amounts are.
+pub fn most_in<'a>(
+    sort: &'a [u8; 256],
+    live: &'a [bool; 256],
+    tm: &'a [u16; 256],
+    w: &'a [u64; 2560],
+    modes: &'a [bool; 256],
+    needs: &'a [u64; 256],
+    numbers: &'a [u16; 256],
+    count: u16,
+    record: Record,
+) -> Largest
+    requires { ⌜ Lent count (marksFrom (now sort) (now live) (now tm)) (now w) (now modes) (now needs) (now numbers) ⌝ }
+    ensures { λ x. ⌜ IsMost count (marksFrom (now (sort .entry)) (now (live .entry)) (now (tm .entry))) (now (w .entry)) (now (modes .entry))
+        (now (needs .entry)) (now (numbers .entry)) «record» x ⌝ }
 {
     let code = record.code;
     if !has_amount(code) {
@@ -130,26 +139,14 @@ pub fn most_in(t: Table, record: Record) -> Largest
     if !names_one(code, named) {
         return refused(5);
     }
-    let count = t.count;
-    let numbers = t.numbers;
-    let place = place_among(&numbers, count, record.account);
+    let place = place_among(numbers, count, record.account);
     if place >= count {
         return refused(7);
     }
     let i = place as usize;
-    if !t.live[i] {
+    if !live[i] {
         return refused(7);
     }
-    let l = limits_at(
-        &t.sort,
-        &t.live,
-        &t.tm,
-        &t.amounts,
-        &t.modes,
-        &t.needs,
-        i,
-        code,
-        named,
-    );
+    let l = limits_at(sort, live, tm, w, modes, needs, i, code, named);
     largest_by(l, least_of(code))
 }

@@ -1,0 +1,3 @@
+pub mod Told
+pub mod Explained
+pub mod Inner
