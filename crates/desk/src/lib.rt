@@ -10,6 +10,7 @@ ghost use Rattle.table.specs.Words.{turned, turnedBack};
 use dayfile::Found;
 pub use dayfile::Record;
 pub use rows::Kinds;
+use steps::At;
 use steps::entry::enter;
 use steps::entry::leave;
 pub use table::Table;
@@ -71,18 +72,26 @@ fn step_at(t: Table, r: Record) -> Carried
     requires { ⌜ Sound (turnedBack t) ⌝ }
     ensures { λ d. ⌜ d ≡ overDone (stepOf (turnedBack t) r) ⌝ }
 {
-    let entered = enter(t);
-    let at = entered.at;
     let mut sort = t.sort;
     let mut live = t.live;
     let mut tm = t.tm;
     let mut amounts = t.amounts;
-    let mut kept = entered.kept;
-    let mut modes = entered.modes;
     let mut needs = t.needs;
     let mut numbers = t.numbers;
-    let mut excess = entered.excess;
     let was = t.modes;
+    table::sizes(sort, live, tm, amounts);
+    table::modes::size(was);
+    table::needs::size(needs);
+    let entered = enter(&sort, &tm, &amounts, &was, t.count);
+    let mut kept = entered.kept;
+    let mut modes = entered.modes;
+    let mut excess = entered.excess;
+    let at = At {
+        count: t.count,
+        serial: t.serial,
+        next: t.next,
+        waiting: true,
+    };
     let gone = steps::step(
         &mut sort,
         &mut live,

@@ -9,6 +9,7 @@ use print::ROOM;
 use print::print_lines;
 pub use records::Closing;
 use space::SPACE;
+use steps::At;
 use steps::entry::enter;
 use steps::entry::leave;
 pub use streams::Moved;
@@ -73,18 +74,26 @@ fn in_turns(program: &[u8], printing: bool, t: Table) -> Day
     let mut text = [0u8; ROOM];
     let mut words = [0u64; 1000];
     text::texts::fill(&mut words);
-    let entered = enter(t);
-    let mut at = entered.at;
     let mut sort = t.sort;
     let mut live = t.live;
     let mut tm = t.tm;
     let mut amounts = t.amounts;
-    let mut kept = entered.kept;
-    let mut modes = entered.modes;
     let mut needs = t.needs;
     let mut accounts = t.numbers;
-    let mut excess = entered.excess;
     let was = t.modes;
+    table::sizes(sort, live, tm, amounts);
+    table::modes::size(was);
+    table::needs::size(needs);
+    let entered = enter(&sort, &tm, &amounts, &was, t.count);
+    let mut kept = entered.kept;
+    let mut modes = entered.modes;
+    let mut excess = entered.excess;
+    let mut at = At {
+        count: t.count,
+        serial: t.serial,
+        next: t.next,
+        waiting: true,
+    };
     let mut rest: usize = 0;
     let mut read: u64 = 0;
     let mut done: u64 = 0;

@@ -12,6 +12,7 @@ ghost use Rattle.records.specs.Inner.{putNumbersFrom};
 ghost use Rattle.run.specs.Over.{overRan};
 pub use records::Closing;
 use records::go;
+use steps::At;
 use steps::entry::enter;
 use steps::entry::leave;
 pub use table::Table;
@@ -31,18 +32,26 @@ fn run(t: Table, piece: &[u8], most: u64, room: &mut [u16], numbered: bool) -> E
     ensures { λ r. ⌜ r ≡ overRan (runOf (now (piece .entry)) most (turnedBack t) 0 0 0) ⌝ }
     ensures { λ r. ⌜ now (room .exit) ≡ pick numbered (putNumbersFrom (now (piece .entry)) most (turnedBack t) 0 0 (now (room .entry))) (now (room .entry)) ⌝ }
 {
-    let entered = enter(t);
-    let first = entered.at;
     let mut sort = t.sort;
     let mut live = t.live;
     let mut tm = t.tm;
     let mut amounts = t.amounts;
-    let mut kept = entered.kept;
-    let mut modes = entered.modes;
     let mut needs = t.needs;
     let mut numbers = t.numbers;
-    let mut excess = entered.excess;
     let was = t.modes;
+    table::sizes(sort, live, tm, amounts);
+    table::modes::size(was);
+    table::needs::size(needs);
+    let entered = enter(&sort, &tm, &amounts, &was, t.count);
+    let mut kept = entered.kept;
+    let mut modes = entered.modes;
+    let mut excess = entered.excess;
+    let first = At {
+        count: t.count,
+        serial: t.serial,
+        next: t.next,
+        waiting: true,
+    };
     let went = go(
         &mut sort,
         &mut live,

@@ -1,4 +1,4 @@
--- Entering the arrays of a sound book: what adding up uses and looking ask of them, and that with these beside them a step can be made.
+-- Entering the arrays of a sound book: what that asks of them holds, and with what then stands beside them a step can be made.
 use mathlib.Core.Bool.{Bool, true}
 use mathlib.Core.List.{List}
 use mathlib.Core.Path.{_≡_, sym, ap, subst, _∙_}
@@ -7,10 +7,10 @@ use lib.ListN.{length}
 use Rattle.sums.specs.Choice.{pick}
 use Rattle.rows.specs.View.{View}
 use Rattle.rows.specs.Rows.{view}
-use Rattle.rows.specs.Facts.{Shaped, NoneBeyond}
+use Rattle.rows.specs.Facts.{NoneBeyond}
 use Rattle.rows.specs.DeemedUnder.{DeemedUnder}
 use Rattle.rows.specs.Modes.{looked}
-use Rattle.rows.specs.Inner.{Ranged, inTenths}
+use Rattle.rows.specs.Inner.{inTenths}
 use Rattle.table.specs.Words.{Marks, bookFrom}
 use Rattle.table.specs.Facts.{Sized, seenBook}
 use Rattle.table.proofs.Seen.{seen-view, seen-ranged}
@@ -19,7 +19,8 @@ use Rattle.book.proofs.RowTests.{sound-ranged}
 use Rattle.book.proofs.Settled.{sound-rows, none-beyond}
 use Rattle.steps.specs.Lent.{lentOf}
 use Rattle.steps.specs.Steps.{Going}
-use Rattle.steps.specs.Dues.{Keeps, AllRanging}
+use Rattle.steps.specs.declared.entry.Entered.{Entered}
+use Rattle.steps.specs.Beside.{Enterable, Enters}
 use Rattle.steps.proofs.Placing.{sound-placed}
 use native.Mathlib.Omega.{arith}
 
@@ -30,33 +31,32 @@ module _ (count serial : ℕ) (m : Marks) (w : List ℕ) (modes : List Bool) (ne
   is-seen : seen ≡ view (bookFrom count serial m w modes needs next numbers)
   is-seen = seen-view count serial m w modes needs next numbers
 
-  pub adds-up : Ranged (seenBook count (m .sort) (m .tm) w) × Shaped seen
-  adds-up = (seen-ranged count serial m w modes needs next numbers (sound-ranged _ h), rw is-seen (h .shaped))
+  pub enterable : Sized m w → Enterable count (m .sort) (m .tm) w
+  enterable z = record {
+    ranged = seen-ranged count serial m w modes needs next numbers (sound-ranged _ h);
+    shaped = rw is-seen (h .shaped);
+    beyond = subst NoneBeyond (sym is-seen) (none-beyond (bookFrom count serial m w modes needs next numbers) (sound-rows _ h));
+    ranging = λ i l.
+        let k = sound-placed count serial m w modes needs next numbers z (sound-rows _ h) .ranges i l in
+        record {
+          inside = l;
+          cash = omega (arith, k .received, k .allocated);
+          deposits = omega (arith, k .received, k .allocated);
+          guarantees = omega (arith, k .received, k .allocated);
+          securities = omega (arith, k .received, k .allocated);
+          pledged = k .pledged;
+        };
+  }
 
-  pub looks-up : (excess : List ℕ) → DeemedUnder (inTenths seen) excess → NoneBeyond seen × DeemedUnder (inTenths seen) excess
-  looks-up excess u = (subst NoneBeyond (sym is-seen) (none-beyond (bookFrom count serial m w modes needs next numbers) (sound-rows _ h)), u)
-
-  pub all-ranging : Sized m w → AllRanging w
-  all-ranging z i l =
-      let k = sound-placed count serial m w modes needs next numbers z (sound-rows _ h) .ranges i l in
-      record {
-        inside = l;
-        cash = omega (arith, k .received, k .allocated);
-        deposits = omega (arith, k .received, k .allocated);
-        guarantees = omega (arith, k .received, k .allocated);
-        securities = omega (arith, k .received, k .allocated);
-        pledged = k .pledged;
-      }
-
-  pub sound-enters : Sized m w → length modes ≡ 256 → length needs ≡ 256 → (kept : List ℕ) → Keeps w kept → (excess : List ℕ) (after : List Bool) → DeemedUnder (inTenths seen) excess → after ≡ looked seen modes
-      → Going (record { count = count; serial = serial; next = next; waiting = true }) modes (lentOf m w kept after needs numbers excess)
+  pub sound-enters : Sized m w → length modes ≡ 256 → length needs ≡ 256 → (e : Entered) → Enters count (m .sort) (m .tm) w modes e
+      → Going (record { count = count; serial = serial; next = next; waiting = true }) modes (lentOf m w (e .kept) (e .modes) needs numbers (e .excess))
   unfolding pick
-  sound-enters s l n kept keeps excess after e k = record {
+  sound-enters s l n e k = record {
     size = s;
     many = l;
     wide = n;
-    keeps = keeps;
+    keeps = k .keeps;
     sound = h;
-    in-excess = subst (λ v. DeemedUnder (inTenths v) excess) is-seen e;
-    looks = k ∙ ap (λ v. looked v modes) is-seen;
+    in-excess = subst (λ v. DeemedUnder (inTenths v) (e .excess)) is-seen (k .in-excess);
+    looks = k .looks ∙ ap (λ v. looked v modes) is-seen;
   }

@@ -2,3 +2,4 @@ pub mod Lent
 pub mod Steps
 pub mod Looks
 pub mod Dues
+pub mod Beside

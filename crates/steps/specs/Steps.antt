@@ -1,5 +1,5 @@
 -- A record carried out on the table's words in place, against the book of the old order: only for internal functions.
-use mathlib.Core.Bool.{Bool, true, _&&_}
+use mathlib.Core.Bool.{Bool, _&&_}
 use mathlib.Core.List.{List}
 use mathlib.Core.Path.{_≡_}
 use Prim.Native.Nat.{ℕ, _+_}
@@ -19,7 +19,6 @@ use Rattle.rules.specs.Effects.{changeOf, changedBy, bookAfter, nextSerial}
 use Rattle.rules.specs.Numbered.{placed}
 use Rattle.codes.specs.Own.{aliveIn}
 use Rattle.codes.specs.Asking.{meant, askedOf}
-use Rattle.table.specs.declared.Table.{Table}
 use Rattle.table.specs.Words.{Marks, bookFrom}
 use Rattle.table.specs.Facts.{Sized}
 use Rattle.steps.specs.declared.At.{At}
@@ -88,10 +87,6 @@ bookAt at m w was modes needs numbers = bookFrom (at .count) (at .serial) m w (m
 
 abbrev pub bookIn : At → List Bool → Lent → Book
 bookIn at was l = bookAt at (l .marks) (l .words) was (l .modes) (l .needs) (l .numbers)
-
--- where a table's book stands that was handed over
-abbrev pub startOf : Table → At
-startOf t = record { count = t .count; serial = t .serial; next = t .next; waiting = true }
 
 -- where it stands after a record that came to x
 abbrev pub atAfter : At → Gone → At

@@ -1,9 +1,8 @@
 // The arrays of a sound table are entered, gone through by steps, and left.
 ghost use mathlib.Core.Path.{_≡_};
-ghost use Rattle.book.specs.Facts.{Sound};
-ghost use Rattle.table.specs.Words.{marksFrom, marksOf, turned, turnedBack};
-ghost use Rattle.steps.specs.Lent.{lentOf};
-ghost use Rattle.steps.specs.Steps.{bookAt, Going, startOf};
+ghost use Rattle.table.specs.Words.{marksFrom, turned};
+ghost use Rattle.steps.specs.Steps.{bookAt};
+ghost use Rattle.steps.specs.Beside.{Enterable, Enters};
 use crate::At;
 use crate::following::collaterals;
 use crate::modes_of;
@@ -11,40 +10,29 @@ use table::Table;
 use table::modes::look_all;
 use table::needs::deemed_under;
 
-// What steps go by beside a table's own arrays: where its book stands, each account's collateral, the modes that a look leaves, and what is in excess under each account.
+// What steps go by beside a table's own arrays: each account's collateral, the modes that a look leaves, and what is in excess under each account.
 pub struct Entered {
-    pub at: At,
     pub kept: [u64; 256],
     pub modes: [bool; 256],
     pub excess: [u64; 256],
 }
 
-pub fn enter(t: Table) -> Entered
-    requires { ⌜ Sound (turnedBack t) ⌝ }
-    ensures { λ e. ⌜ Going (e .at) (t .modes) (lentOf (marksOf t) (t .amounts) (e .kept) (e .modes) (t .needs) (t .numbers) (e .excess)) ⌝ }
-    ensures { λ e. ⌜ e .at ≡ startOf t ⌝ }
+// The arrays are lent and not handed over: by value they would stand in the frame once more.
+pub fn enter<'a>(
+    sort: &'a [u8; 256],
+    tm: &'a [u16; 256],
+    w: &'a [u64; 2560],
+    was: &'a [bool; 256],
+    count: u16,
+) -> Entered
+    requires { ⌜ Enterable count (now sort) (now tm) (now w) ⌝ }
+    ensures { λ e. ⌜ Enters count (now (sort .entry)) (now (tm .entry)) (now (w .entry)) (now (was .entry)) e ⌝ }
 {
-    let sort = t.sort;
-    let live = t.live;
-    let tm = t.tm;
-    let amounts = t.amounts;
-    let was = t.modes;
-    let needs = t.needs;
-    table::sizes(sort, live, tm, amounts);
-    table::modes::size(was);
-    table::needs::size(needs);
     let mut excess = [0u64; 256];
-    deemed_under(&sort, &tm, &amounts, t.count, true, &mut excess);
-    let modes = look_all(&sort, &tm, &amounts, t.count, &excess, &was);
-    let kept = collaterals(&amounts);
-    let at = At {
-        count: t.count,
-        serial: t.serial,
-        next: t.next,
-        waiting: true,
-    };
+    deemed_under(sort, tm, w, count, true, &mut excess);
+    let modes = look_all(sort, tm, w, count, &excess, was);
+    let kept = collaterals(w);
     Entered {
-        at,
         kept,
         modes,
         excess,

@@ -1,5 +1,6 @@
 -- `feed::in_turns`: the turns so far are those of the pieces that were read so far.
-use mathlib.Core.Path.{_≡_, sym, ap, _∙_}
+use mathlib.Core.Bool.{true}
+use mathlib.Core.Path.{refl, _≡_, sym, ap, _∙_}
 use Prim.Native.Nat.{ℕ, _+_, _-_}
 use native.Mathlib.Omega.{arith}
 use lib.ListN.{length, length-replicate}
@@ -13,6 +14,7 @@ use Rattle.table.specs.Words.{marksOf, marksFrom, turnedBack}
 use Rattle.book.proofs.SoundTest.{sound←}
 use Rattle.steps.specs.Lent.{lentOf}
 use Rattle.steps.specs.Steps.{bookAt, Going}
+use Rattle.steps.proofs.Entering.{enterable, sound-enters}
 use Rattle.records.specs.Inner.{ranIn}
 use Rattle.records.proofs.NumbersPut.{ran-sound}
 use Rattle.streams.proofs.Taken.{all-taken}
@@ -23,22 +25,28 @@ use Rattle.feed.proofs.in_turns.Tie as tie
 use Rattle.records.specs.Runs.{Ran}
 
 abbrev Inv-loop : tie.InvT-loop
-Inv-loop program printing space₀ numbers₀ text₀ words at₀ sort₀ live₀ tm₀ amounts₀ kept₀ modes₀ needs₀ accounts₀ excess₀ was rest₀ read₀ done₀ printed₀ ended₀ space numbers text at sort live tm amounts kept modes needs accounts excess rest read done printed ended =
+Inv-loop program printing space₀ numbers₀ text₀ words sort₀ live₀ tm₀ amounts₀ needs₀ accounts₀ was kept₀ modes₀ excess₀ at₀ rest₀ read₀ done₀ printed₀ ended₀ space numbers text sort live tm amounts needs accounts kept modes excess at rest read done printed ended =
     Feeding printing (bookAt at₀ (marksFrom sort₀ live₀ tm₀) amounts₀ was modes₀ needs₀ accounts₀) space (bookAt at (marksFrom sort live tm) amounts was modes needs accounts) rest read done printed
     × Going at was (lentOf (marksFrom sort live tm) amounts kept modes needs accounts excess)
     × (length numbers ≡ 3200)
     × (length text ≡ 20480)
 
 abbrev μ-loop : tie.MeasureT-loop
-μ-loop program printing space₀ numbers₀ text₀ words at₀ sort₀ live₀ tm₀ amounts₀ kept₀ modes₀ needs₀ accounts₀ excess₀ was rest₀ read₀ done₀ printed₀ ended₀ space numbers text at sort live tm amounts kept modes needs accounts excess rest read done printed ended =
+μ-loop program printing space₀ numbers₀ text₀ words sort₀ live₀ tm₀ amounts₀ needs₀ accounts₀ was kept₀ modes₀ excess₀ at₀ rest₀ read₀ done₀ printed₀ ended₀ space numbers text sort live tm amounts needs accounts kept modes excess at rest read done printed ended =
     1_000_000 - read
 
 -- THE PLACES, each named once.
-abbrev entered : tie.After-was Inv-loop μ-loop → tie.After-enter Inv-loop μ-loop
-entered t = t .before .before .before .before .before .before .before .before .before .before .before
+abbrev entered : tie.After-excess Inv-loop μ-loop → tie.After-enter Inv-loop μ-loop
+entered x = x .before .before .before
+
+abbrev sized : tie.After-enter Inv-loop μ-loop → tie.After-size2 Inv-loop μ-loop
+sized e = e .before .before .before .before .before
+
+abbrev filling : tie.After-size2 Inv-loop μ-loop → tie.After-fill Inv-loop μ-loop
+filling z = z .before .before .before .before .before .before .before .before .before .before
 
 abbrev called : tie.After-enter Inv-loop μ-loop → tie.Start Inv-loop μ-loop
-called e = e .before .before .before .before .before
+called e = filling (sized e) .before .before .before .before
 
 abbrev turn : tie.After-refill Inv-loop μ-loop → tie.At-loop Inv-loop μ-loop
 turn f = f .before .before
@@ -61,13 +69,13 @@ handed t = called (entered (t .before)) .args .t
 
 -- the same by the words that the loop starts from
 abbrev first : tie.After-enter Inv-loop μ-loop → Book
-first e = let t = called e .args .t in bookAt (e .enter .result .at) (marksOf t) (t .amounts) (t .modes) (e .enter .result .modes) (t .needs) (t .numbers)
+first e =
+    let t = called e .args .t in
+    bookAt (record { count = t .count; serial = t .serial; next = t .next; waiting = true }) (marksOf t) (t .amounts) (t .modes) (e .enter .result .modes) (t .needs) (t .numbers)
 
 is-first : (e : tie.After-enter Inv-loop μ-loop) → first e ≡ turnedBack (called e .args .t)
 unfolding pick
-is-first e =
-    let t = called e .args .t in
-    ap (λ p. bookAt p (marksOf t) (t .amounts) (t .modes) (e .enter .result .modes) (t .needs) (t .numbers)) (e .enter .ensures .1)
+is-first e = refl
 
 -- what the turn came to
 abbrev ran : tie.After-carry-on Inv-loop μ-loop → Ran
@@ -97,11 +105,21 @@ shown s =
     let none = or-fails (filled (carried (written s)) .refill .result .failed) (p .result .failed) (s .before .before .before .before .if1 .left) .1 in
     all-taken (p .result) _ (p .ensures .0 .0) (p .ensures .1 .0) none ∙ ap length (same-where _ (carried (written s) .carry-on .ensures .1 .1 .2))
 
+enter-requires : tie.Need-enter-requires Inv-loop μ-loop
+enter-requires c κs =
+    let z = c .before .before .before .before in
+    let s = filling z .before .before .before .before in
+    let t = s .args .t in
+    enterable (t .count) (t .serial) (marksOf t) (t .amounts) (t .modes) (t .needs) (t .next) (t .numbers) (s .pre) (z .before .before .sizes .ensures)
+
 loop-holds : tie.Need-loop-holds Inv-loop μ-loop
 loop-holds c =
     let e = entered c in
-    let h = e .enter .ensures .0 in (
-      nothing-read (called e .args .printing) (first e) _ (sound← _ (h .sound)) (sym (e .before .before .before .blank .ensures)),
+    let z = sized e in
+    let s = called e in
+    let t = s .args .t in
+    let h = sound-enters (t .count) (t .serial) (marksOf t) (t .amounts) (t .modes) (t .needs) (t .next) (t .numbers) (s .pre) (z .before .before .sizes .ensures) (z .before .size .ensures) (z .size2 .ensures) _ (e .enter .ensures) in (
+      nothing-read (s .args .printing) (first e) _ (sound← _ (h .sound)) (sym (filling z .before .before .blank .ensures)),
       h,
       length-replicate {A = ℕ} 3200 0,
       length-replicate {A = ℕ} 20480 0,
@@ -138,7 +156,7 @@ print-lines-requires c κs =
     let t = c .before .before .before .before in
     let k = t .carry-on .ensures .1 .1 in
     let l = turn (filled t) in
-    (entered (l .before) .before .fill .ensures, k .1, k .0, l .loop .inv .3)
+    (filling (sized (entered (l .before))) .fill .ensures, k .1, k .0, l .loop .inv .3)
 
 returns : tie.Need-returns Inv-loop μ-loop
 returns c =
@@ -191,7 +209,8 @@ returns-2 c =
 pub in-turns-spec : {M : Type 1} → statement M
 in-turns-spec =
     tie.close
-    (tie.spec Inv-loop μ-loop (λ c κs. search needs) (λ c κs. length-replicate {A = ℕ} 1000 0) (λ c κs. search needs) loop-holds slice-aggregate-refill refill-requires
+    (tie.spec Inv-loop μ-loop (λ c κs. search needs) (λ c κs. length-replicate {A = ℕ} 1000 0) (λ c κs. search needs)
+    (λ c κs. search needs) (λ c κs. search needs) enter-requires loop-holds slice-aggregate-refill refill-requires
     add-held array-share-prefix-space slice-aggregate-carry-on sub-carry-on carry-on-requires slice-aggregate-print-lines
     print-lines-requires (λ c κs. search needs) returns add-read add-done add-printed (λ c κs. search needs)
     slice-aggregate-to-front to-front-requires loop-less loop-again (λ c κs. search needs) returns-2)
