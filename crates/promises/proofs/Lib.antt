@@ -15,6 +15,7 @@ pub mod ExtremeLoss
 pub mod Obligations
 pub mod WouldHavePassed
 pub mod OneResult
+pub mod SystemAside
 pub mod Quick
 pub mod Exactly
 pub mod Positions
