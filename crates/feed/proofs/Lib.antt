@@ -2,4 +2,4 @@ mod Moving
 pub mod Pieces
 pub mod PieceLines
 mod TurnText
-mod Feeding
+pub mod Feeding

@@ -13,6 +13,8 @@ use Rattle.book.specs.Sound.{soundB}
 use Rattle.records.specs.declared.Closing.the-variants.{End}
 use Rattle.records.specs.Runs.{Ran, ranOf}
 use Rattle.lines.specs.Texts.{textOf}
+use Rattle.telling.specs.Told.{toldOf}
+use Rattle.telling.specs.Explained.{lineTold}
 use Rattle.feed.specs.declared.Day.{Day}
 
 -- how many bytes are printed: where that is asked for "a line per record" that was read, of an unsound book none
@@ -38,3 +40,16 @@ pub record Came (printing : Bool) (b : Book) (d : Day) : Type 0 where
   pub input : List ℕ
   pub bytes : Bytes input
   pub is : d ≡ pick (d .failed && soundB b) noDay (wholeDay printing b input)
+
+-- The program `explain`: "`day`'s output, and behind each refused record with one amount .. two more numbers"; of an unsound book no line
+unfoldable pub explainedText : Book → List ℕ → List ℕ
+explainedText b s = pick (soundB b) (toldOf (lineTold true) s 1_000_000 b 0) []
+
+-- the same day, with so many bytes printed
+unfoldable pub explainedDay : Book → List ℕ → Day
+explainedDay b s = dayOf (length (explainedText b s)) (ranOf b s 1_000_000)
+
+pub record CameExplained (b : Book) (d : Day) : Type 0 where
+  pub input : List ℕ
+  pub bytes : Bytes input
+  pub is : d ≡ pick (d .failed && soundB b) noDay (explainedDay b input)

@@ -4,26 +4,27 @@ ghost use mathlib.Core.Path.{_≡_};
 ghost use Rattle.table.specs.Words.{turnedBack};
 ghost use Rattle.book.specs.Facts.{Sound};
 ghost use Rattle.records.specs.Runs.{endedWith};
-ghost use Rattle.feed.specs.Fed.{noDay, dayOf, Came};
-use print::ROOM;
-use print::print_lines;
+ghost use Rattle.feed.specs.Fed.{noDay, dayOf, Came, CameExplained};
+ghost use Rattle.feed.specs.Inner.{toldText, CameWith};
 pub use records::Closing;
 use space::SPACE;
 use steps::At;
 use steps::entry::enter;
 use steps::entry::leave;
 pub use streams::Moved;
+use streams::standard::write_output;
 pub use table::Table;
-use turn::NUMBERS;
 use turn::stops;
 
 pub mod books;
-mod print;
 mod space;
 mod turn;
 
 // "at a million records"
 pub const MILLION: u64 = 1_000_000;
+
+// The lines of a turn stand here.
+const ROOM: usize = 20_480;
 
 // What a whole day file came to, with how many bytes of lines were printed, or that a read or a write failed.
 pub struct Day {
@@ -64,13 +65,12 @@ fn unsound(t: Table) -> Day
 }
 
 // The turns over a sound book. The end of a piece is no cut: the rest of it stays, and the next piece is read behind it. Only a piece that doesn't fill the
-// space is the last one.
-fn in_turns(program: &[u8], printing: bool, t: Table) -> Day
+// space is the last one. Nothing else of this crate prints.
+fn in_turns(program: &[u8], printing: bool, explained: bool, t: Table) -> Day
     requires { ⌜ Sound (turnedBack t) ⌝ }
-    ensures { λ d. ⌜ Came printing (turnedBack t) d ⌝ }
+    ensures { λ d. ⌜ CameWith (toldText printing explained (turnedBack t)) (turnedBack t) d ⌝ }
 {
     let mut space = space::blank();
-    let mut numbers = [0u16; NUMBERS];
     let mut text = [0u8; ROOM];
     let mut words = [0u64; 1000];
     text::texts::fill(&mut words);
@@ -102,7 +102,7 @@ fn in_turns(program: &[u8], printing: bool, t: Table) -> Day
     let closing = loop {
         let got = space::refill(program, &mut space, rest, ended);
         let held = rest + got.count;
-        let went = turn::carry_on(
+        let told = turn::carry_on(
             &mut sort,
             &mut live,
             &mut tm,
@@ -117,12 +117,15 @@ fn in_turns(program: &[u8], printing: bool, t: Table) -> Day
             &space[..held],
             MILLION - read,
             printing,
-            &mut numbers,
+            explained,
+            &words,
+            &mut text,
         );
+        let went = told.went;
         let word = went.closing;
         let stands = went.at;
-        let lines = went.read as usize;
-        let put = print_lines(program, printing, &words, &numbers, lines, &mut text);
+        let n = told.text;
+        let put = write_output(program, &text[..n]);
         if got.failed | put.failed {
             return no_day();
         }
@@ -155,5 +158,15 @@ pub fn whole_day(program: &[u8], printing: bool, t: Table) -> Day
     if !book::is_sound(t) {
         return unsound(t);
     }
-    in_turns(program, printing, t)
+    in_turns(program, printing, false, t)
+}
+
+// The same, with how much would have passed behind the line of each refused record with one amount.
+pub fn explained_day(program: &[u8], t: Table) -> Day
+    ensures { λ d. ⌜ CameExplained (turnedBack t) d ⌝ }
+{
+    if !book::is_sound(t) {
+        return unsound(t);
+    }
+    in_turns(program, true, true, t)
 }

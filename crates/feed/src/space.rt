@@ -7,11 +7,11 @@ ghost use Rattle.numbers.specs.Bytes.{Bytes};
 use streams::Moved;
 use streams::standard::read_input;
 
-// 8,192 bytes and the longest record.
-pub(crate) const SPACE: usize = 8_262;
+// 16,384 bytes and the longest record.
+pub(crate) const SPACE: usize = 16_454;
 
 pub(crate) fn blank() -> [u8; SPACE]
-    ensures { λ r. ⌜ 8262 ≡ length r ⌝ }
+    ensures { λ r. ⌜ 16454 ≡ length r ⌝ }
 {
     [0; SPACE]
 }

@@ -1,25 +1,21 @@
-// One turn of the day file: the records of the bytes held, and the numbers of their lines. Nothing is read or written here.
-ghost use mathlib.Core.Bool.{true};
+// One turn of the day file: the records of the bytes held, and where that is asked for their lines. Nothing is read or written here.
 ghost use mathlib.Core.Path.{_≡_};
-ghost use Prim.Native.Nat.{_+_, _≤_, min};
+ghost use Prim.Native.Nat.{_+_, _≤_, _<_, min};
 ghost use lib.ListN.{length};
+ghost use Rattle.sums.specs.Choice.{pick};
 ghost use Rattle.steps.specs.Lent.{lent, before, after};
 ghost use Rattle.steps.specs.Steps.{bookIn, Going};
 ghost use Rattle.records.specs.Runs.{runOf};
-ghost use Rattle.records.specs.LineNumbers.{answersOf};
 ghost use Rattle.records.specs.Inner.{ranIn};
-ghost use Rattle.lines.specs.Lines.{linesOf};
-ghost use Rattle.text.specs.Numbers.{linesTo};
-ghost use Rattle.feed.specs.Inner.{stopsAt};
+ghost use Rattle.text.specs.Inner.{Puts, Texts};
+ghost use Rattle.telling.specs.Told.{toldOf};
+ghost use Rattle.telling.specs.Explained.{lineTold};
+ghost use Rattle.feed.specs.Inner.{stopsAt, turnTakes, turnText};
 use records::Closing;
-use records::Went;
 use records::go;
 use steps::At;
-
-// The records that a turn takes, with five numbers for each.
-pub(crate) const RECORDS: u64 = 640;
-
-pub(crate) const NUMBERS: usize = 3_200;
+use telling::Told;
+use telling::tell;
 
 // Whether the turn is the last: it took all of a piece that is shorter than its space, or the million is full.
 pub(crate) fn stops(word: Closing, short: bool, full: bool) -> bool
@@ -33,13 +29,7 @@ pub(crate) fn stops(word: Closing, short: bool, full: bool) -> bool
     }
 }
 
-fn at_once(left: u64) -> u64
-    ensures { λ n. ⌜ n ≡ min left 640 ⌝ }
-{
-    if left < RECORDS { left } else { RECORDS }
-}
-
-// Where lines are asked for, their numbers are put from the room's start; `accounts` are the rows' numbers.
+// `accounts` are the rows' numbers. A turn ends where its lines fill the room.
 pub(crate) fn carry_on(
     sort: &mut [u8; 256],
     live: &mut [bool; 256],
@@ -55,19 +45,41 @@ pub(crate) fn carry_on(
     held: &[u8],
     left: u64,
     printing: bool,
-    numbers: &mut [u16; 3200],
-) -> Went
+    explained: bool,
+    words: &[u64; 1000],
+    text: &mut [u8],
+) -> Told
     requires { ⌜ Going at (now was) (lent sort live tm w kept modes needs accounts excess)
-        × (length (now numbers) ≡ 3200) ⌝ }
-    ensures { λ x. ⌜ ranIn x (now (was .entry)) (after sort live tm w kept modes needs accounts excess)
-        ≡ runOf (now (held .entry)) (min left 640)
+        × Texts (now words) × (147 ≤ length (now text)) × (left ≤ 1_000_000) ⌝ }
+    ensures { λ x. ⌜ ranIn (x .went) (now (was .entry)) (after sort live tm w kept modes needs accounts excess)
+        ≡ runOf (now (held .entry)) (min left (turnTakes (x .went .closing) (x .went .read)))
         (bookIn at (now (was .entry)) (before sort live tm w kept modes needs accounts excess)) 0 0 0 ⌝ }
-    ensures { λ x. ⌜ Going (x .at) (now (was .entry)) (after sort live tm w kept modes needs accounts excess) ⌝ }
-    ensures { λ x. ⌜ (x .read ≤ 640) × (length (now (numbers .exit)) ≡ 3200)
-        × (printing ≡ true → linesTo (now (numbers .exit)) (x .read) ≡ linesOf (answersOf (now (held .entry)) (min left 640)
-        (bookIn at (now (was .entry)) (before sort live tm w kept modes needs accounts excess)) 0)) ⌝ }
+    ensures { λ x. ⌜ Going (x .went .at) (now (was .entry)) (after sort live tm w kept modes needs accounts excess) ⌝ }
+    ensures { λ x. ⌜ Puts (now (text .entry)) 0 (turnText printing explained (now (held .entry)) (min left (turnTakes (x .went .closing) (x .went .read)))
+        (bookIn at (now (was .entry)) (before sort live tm w kept modes needs accounts excess))) (now (text .exit)) (x .text) ⌝ }
 {
-    go(
+    if printing {
+        return tell(
+            sort,
+            live,
+            tm,
+            w,
+            kept,
+            modes,
+            needs,
+            accounts,
+            excess,
+            was,
+            at,
+            held,
+            left,
+            explained,
+            words,
+            text,
+        );
+    }
+    let mut none = [0u16; 1];
+    let went = go(
         sort,
         live,
         tm,
@@ -80,8 +92,9 @@ pub(crate) fn carry_on(
         was,
         at,
         held,
-        at_once(left),
-        numbers,
-        printing,
-    )
+        left,
+        &mut none,
+        false,
+    );
+    Told { went, text: 0 }
 }

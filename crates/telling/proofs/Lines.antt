@@ -17,7 +17,8 @@ use Rattle.steps.specs.declared.At.{At}
 use Rattle.steps.specs.declared.Gone.{Gone}
 use Rattle.steps.specs.Steps.{modesIn, bookAt}
 use Rattle.text.specs.Numbers.{spaced}
-use Rattle.explaining.specs.Inner.{lineBy}
+use Rattle.codes.specs.declared.asked.Head.{Head}
+use Rattle.telling.specs.Inner.{headOnly, lineBy}
 
 -- the arrays with the modes that are the book's
 module _ (at : At) (m : Marks) (w : List ℕ) (was modes : List Bool) (needs numbers : List ℕ) (z : List Bool) (e : modesIn (at .waiting) was modes ≡ z)
@@ -32,24 +33,29 @@ module _ (at : At) (m : Marks) (w : List ℕ) (was modes : List Bool) (needs num
   most-with r h = h (at .serial) (at .next) sound-with ∙ ap (λ l. mostOf (bookFrom (at .count) (at .serial) m w l needs (at .next) numbers) r) (sym e)
 
 -- whether it is explained, by the code's own test
-none-more : (a c : Bool) → (a || not c) ≡ true → (not a && c) ≡ false
-none-more true c e = refl
-none-more false true e = sym e
-none-more false false e = refl
+none-more : (x a c : Bool) → ((not x || a) || not c) ≡ true → (x && (not a && c)) ≡ false
+none-more false a c e = refl
+none-more true true c e = refl
+none-more true false true e = sym e
+none-more true false false e = refl
 
-two-more : (a c : Bool) → (a || not c) ≡ false → (not a && c) ≡ true
-two-more true c e = sym e
-two-more false true e = refl
-two-more false false e = sym e
+two-more : (x a c : Bool) → ((not x || a) || not c) ≡ false → (x && (not a && c)) ≡ true
+two-more false a c e = sym e
+two-more true true c e = sym e
+two-more true false true e = refl
+two-more true false false e = sym e
 
-module _ (b : Book) (r : Record) (x : Gone) where
-  pub line-five : (eqb (x .refusal) 0 || not (eqb (ones (r .named)) 1)) ≡ true → spaced (r .serial ∷ r .code ∷ r .account ∷ x .refusal ∷ x .given ∷ []) ≡ lineBy b r x
+module _ (explained : Bool) (b : Book) (h : Head) (x : Gone) where
+  abbrev Short : Bool
+  Short = (not explained || eqb (x .refusal) 0) || not (eqb (ones (h .named)) 1)
+
+  pub line-five : Short ≡ true → spaced (h .serial ∷ h .code ∷ h .account ∷ x .refusal ∷ x .given ∷ []) ≡ lineBy explained b h x
   unfolding pick
-  line-five e = rw (none-more (eqb (x .refusal) 0) (eqb (ones (r .named)) 1) e)
+  line-five e = rw (none-more explained (eqb (x .refusal) 0) (eqb (ones (h .named)) 1) e)
 
-  pub line-seven : (eqb (x .refusal) 0 || not (eqb (ones (r .named)) 1)) ≡ false → {m : Largest} → m ≡ mostOf b r
-      → spaced (r .serial ∷ r .code ∷ r .account ∷ x .refusal ∷ x .given ∷ m .refusal ∷ m .amount ∷ []) ≡ lineBy b r x
+  pub line-seven : Short ≡ false → {m : Largest} → m ≡ mostOf b (headOnly h)
+      → spaced (h .serial ∷ h .code ∷ h .account ∷ x .refusal ∷ x .given ∷ m .refusal ∷ m .amount ∷ []) ≡ lineBy explained b h x
   unfolding pick
-  line-seven e h =
-      ap (λ (m : Largest). spaced (r .serial ∷ r .code ∷ r .account ∷ x .refusal ∷ x .given ∷ m .refusal ∷ m .amount ∷ [])) h
-      ∙ rw (two-more (eqb (x .refusal) 0) (eqb (ones (r .named)) 1) e)
+  line-seven e q =
+      ap (λ (m : Largest). spaced (h .serial ∷ h .code ∷ h .account ∷ x .refusal ∷ x .given ∷ m .refusal ∷ m .amount ∷ [])) q
+      ∙ rw (two-more explained (eqb (x .refusal) 0) (eqb (ones (h .named)) 1) e)

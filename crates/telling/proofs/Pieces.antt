@@ -20,7 +20,7 @@ use Rattle.desk.specs.Steps.{stepOf}
 use Rattle.records.specs.Runs.{Ran, stopped, onward, runOf, ranOf}
 use Rattle.records.proofs.Stops.{run-stops}
 use Rattle.records.proofs.NumbersPut.{ran-sound}
-use Rattle.explaining.specs.Told.{telling, toldOf}
+use Rattle.telling.specs.Told.{telling, toldOf}
 
 module _ (tell : Book → Record → List ℕ) where
   -- nothing is told where no record stands
