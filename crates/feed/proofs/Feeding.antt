@@ -41,7 +41,7 @@ pub record Feeding (printing explained : Bool) (b : Book) (space : List ℕ) (bo
   pub within : rest ≤ 16454
   pub is : standing space book rest read done ≡ after b turns
   pub told : printed ≡ printedBy printing (lineTold explained) b turns
-  pub few : printed ≤ 20480 * read
+  pub few : printed ≤ 16384 * read
 
 no-line : (t : Bool) → 0 ≡ length (pick {A = List ℕ} t [] [])
 unfolding pick
@@ -235,7 +235,7 @@ module _ {printing explained : Bool} {b : Book} {space : List ℕ} {book : Book}
             ∙ day;
       }
 
-  pub turn-fed : (count : ℕ) → Shown count → count ≤ 20480 → 0 < r .read → (next : List ℕ) (left : ℕ) → length next ≡ 16454 → left ≡ held - r .place → take left next ≡ take left (drop (r .place) filled)
+  pub turn-fed : (count : ℕ) → Shown count → count ≤ 16384 → 0 < r .read → (next : List ℕ) (left : ℕ) → length next ≡ 16454 → left ≡ held - r .place → take left next ≡ take left (drop (r .place) filled)
       → Feeding printing explained b next (r .book) left (read + r .read) (done + r .done) (printed + count)
   unfolding after
   turn-fed count told most some next left n l t = record {

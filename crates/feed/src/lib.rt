@@ -24,7 +24,7 @@ mod turn;
 pub const MILLION: u64 = 1_000_000;
 
 // The lines of a turn stand here.
-const ROOM: usize = 20_480;
+const ROOM: usize = 16_384;
 
 // What a whole day file came to, with how many bytes of lines were printed, or that a read or a write failed.
 pub struct Day {

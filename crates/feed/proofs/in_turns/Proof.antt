@@ -31,7 +31,7 @@ abbrev Inv-loop : tie.InvT-loop
 Inv-loop program printing explained space₀ text₀ words sort₀ live₀ tm₀ amounts₀ needs₀ accounts₀ was kept₀ modes₀ excess₀ at₀ rest₀ read₀ done₀ printed₀ ended₀ space text sort live tm amounts needs accounts kept modes excess at rest read done printed ended =
     Feeding printing explained (bookAt at₀ (marksFrom sort₀ live₀ tm₀) amounts₀ was modes₀ needs₀ accounts₀) space (bookAt at (marksFrom sort live tm) amounts was modes needs accounts) rest read done printed
     × Going at was (lentOf (marksFrom sort live tm) amounts kept modes needs accounts excess)
-    × (length text ≡ 20480)
+    × (length text ≡ 16384)
 
 abbrev μ-loop : tie.MeasureT-loop
 μ-loop program printing explained space₀ text₀ words sort₀ live₀ tm₀ amounts₀ needs₀ accounts₀ was kept₀ modes₀ excess₀ at₀ rest₀ read₀ done₀ printed₀ ended₀ space text sort live tm amounts needs accounts kept modes excess at rest read done printed ended =
@@ -108,7 +108,7 @@ piece c =
 abbrev room : tie.After-carry-on Inv-loop μ-loop → List ℕ
 room c = c .carry-on .last .1 .1 .1 .1 .1 .1 .1 .1 .1 .1 .1 .1 .1 .1 .1 .1 .0
 
-text-size : (c : tie.After-carry-on Inv-loop μ-loop) → length (room c) ≡ 20480
+text-size : (c : tie.After-carry-on Inv-loop μ-loop) → length (room c) ≡ 16384
 text-size c = puts-length (c .carry-on .ensures .1 .1) ∙ turn (filled c) .loop .inv .2
 
 text-within : (c : tie.After-carry-on Inv-loop μ-loop) → c .carry-on .result .text ≤ length (room c)
@@ -118,7 +118,7 @@ text-within c = omega (arith, c .carry-on .ensures .1 .1 .within, puts-length (c
 handed-over : (w : tie.After-write-output Inv-loop μ-loop) → (let c = carried w in length (take (c .carry-on .result .text) (room c)) ≡ c .carry-on .result .text)
 handed-over w = let c = carried w in length-take-le _ _ (text-within c)
 
-few-written : (w : tie.After-write-output Inv-loop μ-loop) → w .write-output .result .count ≤ 20480
+few-written : (w : tie.After-write-output Inv-loop μ-loop) → w .write-output .result .count ≤ 16384
 few-written w = let c = carried w in omega (arith, w .write-output .ensures .0, handed-over w, text-within c, text-size c)
 
 -- what was printed of it, where no call failed
@@ -146,7 +146,7 @@ loop-holds c =
     let h = sound-enters (t .count) (t .serial) (marksOf t) (t .amounts) (t .modes) (t .needs) (t .next) (t .numbers) (s .pre) (z .before .before .sizes .ensures) (z .before .size .ensures) (z .size2 .ensures) _ (e .enter .ensures) in (
       nothing-read (s .args .printing) (s .args .explained) (first e) _ (sound← _ (h .sound)) (sym (filling z .before .before .blank .ensures)),
       h,
-      length-replicate {A = ℕ} 20480 0,
+      length-replicate {A = ℕ} 16384 0,
     )
 
 slice-aggregate-refill : tie.Need-slice-aggregate-refill Inv-loop μ-loop
