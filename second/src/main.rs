@@ -16,9 +16,11 @@ mod desk;
 mod difference;
 mod explain;
 mod files;
+mod holdings;
 mod holds;
 mod kinds;
 mod looks;
+mod losses;
 mod made;
 mod make;
 mod margins;
@@ -55,8 +57,11 @@ second standings [FROM] < DAYFILE        the closing line, then every account's 
 second needs [FROM] < DAYFILE            the closing line, then every account's need
 second explain [FROM] < DAYFILE          as day, and behind each refused record with one amount 0 and
                                          the largest amount that would have passed, or a refusal and 0
-second closeouts LOSSFILE [FROM] < DAYFILE
-                                         the closing line, then what each loss is paid from
+second holdings [FROM] < DAYFILE         the closing line, the next serial and number, then what every
+                                         account has received, allocated and pledged, its margin and use
+second closeouts [--lines] LOSSES [FROM] < DAYFILE
+                                         the closing line, then what each loss is paid from; LOSSES: eight
+                                         bytes a row held, or with --lines a text: NUMBER AMOUNT
                                          FROM: a book file to start from, - for a fresh book
                                          TO: where to keep the book after the day
 second take_over FROM TO                 the book of FROM taken over to the new rule, kept as TO:
@@ -89,8 +94,10 @@ second compare [--day P] [--standings P] [--closeouts P] [--needs P] [--explain 
                                          --standings, on two orders of N pairs of counters' files
 second bundle --days N --seed S > BUNDLE many small days in one file
 second bundled < BUNDLE > ANSWERS        the answers to all of them
-second write < TEXT > DAYFILE            a day file from its readable form
-second read < DAYFILE > TEXT             and back
+second write [TEXT [FROM]] > DAYFILE     a day file from its readable form, of standard input if no
+                                         TEXT is named, numbered from the next serial of FROM's book
+                                         or from 0; or `write: line 3: 33, no account`
+second read [FROM] < DAYFILE > TEXT      and back
 second write-statement < TEXT > STATEMENT a statement from its readable form, a line a record:
                                          ACCOUNT RECEIVED RETAINED PLACED HELD LODGED, or raw HEX
 second read-statement < STATEMENT > TEXT and back
@@ -138,6 +145,7 @@ fn main() -> ExitCode {
         "standings" => programs::standings(&arguments[1..], &day_file),
         "needs" => programs::needs(&arguments[1..], &day_file),
         "explain" => programs::explain(&arguments[1..], &day_file),
+        "holdings" => programs::holdings(&arguments[1..], &day_file),
         "closeouts" => programs::closeouts(&arguments[1..], &day_file),
         "margins" => desk::lines::margins(&arguments[1..], &|| input(desk::lines::MOST as u64 + 1)),
         "take_over" => programs::take_over(&arguments[1..]),
@@ -151,12 +159,12 @@ fn main() -> ExitCode {
         "calls" => all_input().map(|input| calls::answered(&input)),
         "bundle" => bundle::bundle(&words),
         "bundled" => all_input().and_then(|input| bundle::bundled(&input)),
-        "write" => all_input().and_then(|input| text::write(&input)),
+        "write" => programs::write(&arguments[1..], &all_input),
         "write-statement" => all_input().and_then(|input| statement::text::write(&input)),
         "read-statement" => all_input().map(|input| statement::text::read(&input).into_bytes()),
         "write-calls" => all_input().and_then(|input| story::write(&input)),
         "read-calls" => all_input().map(|input| story::read(&input).into_bytes()),
-        "read" => all_input().map(|input| text::read(&input).into_bytes()),
+        "read" => programs::read(&arguments[1..], &all_input),
         _ => Err(usage()),
     };
     finish(output)
