@@ -41,11 +41,11 @@
 //!     bytes HEX                     bytes as they stand, for what is no call
 //!     cut N                         takes the last N bytes off again
 //!
-//! RECORD is a line as `second write` takes it: `margin 3 60000`, with `serial
-//! N` ahead of it for another serial than the book's, or `raw HEX`; or all of
-//! it: `values SERIAL CODE MARK ACCOUNT` and six amounts. PIECE is any number
-//! of such lines and of `zeros N`, with `;` between them; nothing is an empty
-//! piece. Serials run on from the book's.
+//! RECORD is a line as `second write` takes it, but good or not: `margin 3
+//! 60000`, with `serial N` ahead of it for another serial than the book's, or
+//! `raw HEX`; or all of it: `values SERIAL CODE MARK ACCOUNT` and six amounts.
+//! PIECE is any number of such lines and of `zeros N`, with `;` between them;
+//! nothing is an empty piece. Serials run on from the book's.
 
 mod book;
 mod desk;

@@ -30,6 +30,7 @@ mod shorts;
 mod soundness;
 mod statements;
 mod stories;
+mod texts;
 
 use crate::book::Book;
 use crate::rule::Rule;
