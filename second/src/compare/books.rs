@@ -230,6 +230,8 @@ impl Night<'_> {
 
     pub fn as_text(&mut self, path: &Path, serial: u16, piece: &[u8]) -> Result<(), String> {
         let made = self.made_with(piece);
+        let programs = [self.programs.read, self.programs.write];
+        self.met.runs += programs.iter().flatten().count() as u64;
         texts::there_and_back(self.programs, &made, Some(path), serial)
     }
 
@@ -258,6 +260,7 @@ impl Night<'_> {
                 start: handed_over(book),
                 aimed: book,
             };
+            self.met.runs += 1;
             lines::one(self.programs, program, run, &mut self.met.lines)?;
         }
         Ok(())

@@ -6,7 +6,7 @@ use crate::losses::{self, Loss};
 use crate::{print, Output};
 use std::ffi::OsString;
 use std::fs::File;
-use std::io::{self, Read};
+use std::io::Read;
 
 enum Losses {
     Bytes(Vec<u8>),
@@ -44,9 +44,7 @@ const BYTES_MOST: usize = 8 * MOST_ACCOUNTS + 1;
 fn bytes_of(path: &OsString, most: usize) -> Output {
     let mut bytes = Vec::new();
     File::open(path)
-        .and_then(|file: File| -> io::Result<usize> {
-            file.take(most as u64).read_to_end(&mut bytes)
-        })
+        .and_then(|file| file.take(most as u64).read_to_end(&mut bytes))
         .map_err(|error| {
             let path = path.to_string_lossy();
             format!("{}: {path}: {error}", print::CANNOT_READ)
