@@ -31,19 +31,25 @@ pub struct BadLine {
     pub fault: Fault,
 }
 
-/// How a line is read, with the running serial.
-type Reading = fn(&[u8], u16) -> Result<Vec<u8>, Fault>;
-
 /// Text to a day file's bytes, numbered from this serial.
 pub fn write(text: &[u8], serial: u16) -> Result<Vec<u8>, BadLine> {
-    written(text, serial, |line, running| match line.len() {
-        0..=LINE_MOST => line_bytes(line, running),
-        _ => Err(Fault::TooLong),
+    write_within(text, serial, LINE_MOST)
+}
+
+/// The same with another room for a line.
+pub fn write_within(text: &[u8], serial: u16, room: usize) -> Result<Vec<u8>, BadLine> {
+    written(text, serial, |line, running| match line.len() > room {
+        true => Err(Fault::TooLong),
+        false => line_bytes(line, running),
     })
 }
 
-/// The same with another way to read a line.
-pub fn written(text: &[u8], serial: u16, reading: Reading) -> Result<Vec<u8>, BadLine> {
+/// The same with another way to read a line at the running serial.
+pub fn written(
+    text: &[u8],
+    serial: u16,
+    reading: impl Fn(&[u8], u16) -> Result<Vec<u8>, Fault>,
+) -> Result<Vec<u8>, BadLine> {
     let mut out = Vec::new();
     let mut running = serial;
     for (place, line) in text.split(|&byte| byte == b'\n').enumerate() {

@@ -64,11 +64,11 @@ fn one_text(programs: &Programs, program: &str, seed: u64, met: &mut Met) -> Res
 /// A line over 4,096 bytes may be within another program's room.
 fn has_more_room(own: &Written, text: &[u8], serial: Option<u16>, got: &Output) -> bool {
     let is_long = matches!(own, Err(bad) if bad.fault == Fault::TooLong);
+    let written = |room: usize| text::write_within(text, serial.unwrap_or(0), room);
     is_long
-        && is_same(
-            &text::written(text, serial.unwrap_or(0), text::line_bytes),
-            got,
-        )
+        && [65_536, usize::MAX]
+            .iter()
+            .any(|&room| is_same(&written(room), got))
 }
 
 /// The same bytes, or the same line told with the same fault.
