@@ -5,11 +5,14 @@ mod archives;
 mod books;
 mod calls;
 mod explains;
+mod froms;
+pub mod lines;
 mod margins;
 mod merges;
 mod orders;
 mod refused;
 mod statements;
+mod texts;
 
 use crate::book::Book;
 use crate::child::{ask, Pace};
@@ -17,6 +20,7 @@ use crate::closeout::close_out_bytes;
 use crate::day::Closing;
 use crate::dayfile::{Next, Reader};
 use crate::difference::settle;
+use crate::holdings;
 use crate::made::Made;
 use crate::make::{losses, make, MILLION_KIND, NO_LIMIT, ROUND};
 use crate::options::Options;
@@ -28,12 +32,16 @@ use crate::tally::Tally;
 use std::fs;
 use std::path::{Path, PathBuf};
 
-const VALUED: [&str; 19] = [
+const VALUED: [&str; 23] = [
     "--day",
     "--standings",
     "--closeouts",
     "--needs",
     "--explain",
+    "--holdings",
+    "--write",
+    "--read",
+    "--text-runs",
     "--take-over",
     "--archive",
     "--margins",
@@ -64,6 +72,9 @@ pub struct Programs<'a> {
     closeouts: Option<&'a str>,
     needs: Option<&'a str>,
     explain: Option<&'a str>,
+    holdings: Option<&'a str>,
+    write: Option<&'a str>,
+    read: Option<&'a str>,
     take_over: Option<&'a str>,
     archive: Option<&'a str>,
     margins: Option<&'a str>,
@@ -76,9 +87,16 @@ pub struct Programs<'a> {
 impl Programs<'_> {
     fn reads_days(&self) -> bool {
         let shows = self.standings.or(self.closeouts).or(self.needs);
-        let shows = shows.or(self.explain);
+        let shows = shows.or(self.explain).or(self.holdings);
         let books = self.take_over.or(self.archive);
-        self.day.or(shows).or(books).is_some()
+        let texts = self.write.or(self.read);
+        self.day.or(shows).or(books).or(texts).is_some()
+    }
+
+    /// Those that show the book as it is at the end.
+    fn shows_books(&self) -> bool {
+        let shows = self.standings.or(self.needs).or(self.holdings);
+        shows.is_some()
     }
 
     /// Those that take something else than a day.
@@ -98,6 +116,9 @@ pub fn compare(words: &[String]) -> Result<String, String> {
         closeouts: options.value("--closeouts"),
         needs: options.value("--needs"),
         explain: options.value("--explain"),
+        holdings: options.value("--holdings"),
+        write: options.value("--write"),
+        read: options.value("--read"),
         take_over: options.value("--take-over"),
         archive: options.value("--archive"),
         margins: options.value("--margins"),
@@ -108,7 +129,7 @@ pub fn compare(words: &[String]) -> Result<String, String> {
     };
     if !programs.reads_days() && !programs.reads_others() {
         return Err(
-            "compare: name a program with --day, --standings, --closeouts, --needs, --explain, --take-over, --archive, --margins, --merge, --statements or --calls"
+            "compare: name a program with --day, --standings, --closeouts, --needs, --explain, --holdings, --write, --read, --take-over, --archive, --margins, --merge, --statements or --calls"
                 .to_string(),
         );
     }
@@ -116,7 +137,9 @@ pub fn compare(words: &[String]) -> Result<String, String> {
     let lines = all(&options, &programs);
     // A day file kept for a difference leaves the losses with it.
     if lines.is_ok() {
-        let _ = fs::remove_file(programs.folder.join("losses"));
+        for name in ["losses", "lines"] {
+            let _ = fs::remove_file(programs.folder.join(name));
+        }
     }
     let _ = fs::remove_dir(&programs.folder);
     Ok(lines?.join("\n"))
@@ -130,19 +153,10 @@ fn all(options: &Options, programs: &Programs) -> Result<Vec<String>, String> {
     let asked = ["--days", "--millions", "--books"];
     let asks_days = asked.iter().any(|name| options.has(name));
     if programs.reads_days() && (asks_days || programs.merge.is_none()) {
-        let tally = all_days(options, programs)?;
-        lines.push(tally.summary());
-        if programs.explain.is_some() {
-            lines.push(tally.explained.line());
-        }
-        let many = options.number("--books", 0)?;
-        if many > 0 {
-            let met = books::all_books(options, programs, many)?;
-            lines.push(met.line());
-            if programs.archive.is_some() {
-                lines.push(met.archives.line());
-            }
-        }
+        lines.extend(days_and_books(options, programs)?);
+    }
+    if let Some(program) = programs.write {
+        lines.push(texts::all_texts(options, programs, program)?.line());
     }
     if let Some(program) = programs.margins {
         lines.push(margins::all_runs(options, programs, program)?.line());
@@ -157,6 +171,29 @@ fn all(options: &Options, programs: &Programs) -> Result<Vec<String>, String> {
     }
     if let Some(program) = programs.calls {
         lines.extend(calls::all_inputs(options, programs, program)?.lines());
+    }
+    Ok(lines)
+}
+
+fn days_and_books(options: &Options, programs: &Programs) -> Result<Vec<String>, String> {
+    let tally = all_days(options, programs)?;
+    let mut lines = vec![tally.summary()];
+    if programs.explain.is_some() {
+        lines.push(tally.explained.line());
+    }
+    if programs.closeouts.is_some() {
+        lines.push(tally.lines.line());
+    }
+    let many = options.number("--books", 0)?;
+    if many > 0 {
+        let met = books::all_books(options, programs, many)?;
+        lines.push(met.line());
+        if programs.closeouts.is_some() {
+            lines.push(met.lines.line());
+        }
+        if programs.archive.is_some() {
+            lines.push(met.archives.line());
+        }
     }
     Ok(lines)
 }
@@ -187,19 +224,25 @@ fn all_days(options: &Options, programs: &Programs) -> Result<Tally, String> {
         };
         one_day(programs, &made, &mut tally)?;
     }
-    // A whole round has a day of every kind, and so meets whatever days are
-    // made for.
-    let mut missed = tally.missed();
-    if programs.closeouts.is_some() {
-        missed.extend(tally.missed_closed());
-    }
-    if programs.explain.is_some() {
-        missed.extend(tally.explained.missed());
-    }
+    let missed = missed_by_days(programs, &tally);
     if days >= ROUND.len() as u64 && !missed.is_empty() {
         return Err(format!("not met: {}", missed.join(", ")));
     }
     Ok(tally)
+}
+
+/// A whole round has a day of every kind, and so meets whatever days are made
+/// for.
+fn missed_by_days(programs: &Programs, tally: &Tally) -> Vec<String> {
+    let mut missed = tally.missed();
+    if programs.closeouts.is_some() {
+        missed.extend(tally.missed_closed());
+        missed.extend(tally.lines.missed());
+    }
+    if programs.explain.is_some() {
+        missed.extend(tally.explained.missed());
+    }
+    missed
 }
 
 fn one_day(programs: &Programs, made: &Made, tally: &mut Tally) -> Result<(), String> {
@@ -211,7 +254,8 @@ fn one_day(programs: &Programs, made: &Made, tally: &mut Tally) -> Result<(), St
     if let Some(program) = programs.explain {
         explains::one_day(programs, program, made, tally)?;
     }
-    if programs.standings.or(programs.needs).is_some() {
+    texts::there_and_back(programs, made, None, 0)?;
+    if programs.shows_books() {
         for records in own.stops {
             let stopped = Made {
                 bytes: beginning(&made.bytes, records).to_vec(),
@@ -227,6 +271,13 @@ fn one_day(programs: &Programs, made: &Made, tally: &mut Tally) -> Result<(), St
         for seed in losses::seeds(made.kind, made.seed) {
             let losses = losses_for(&own.book, seed);
             one_close_out(programs, program, made, &own.book, &losses, tally)?;
+            let run = lines::Run {
+                made,
+                from: None,
+                start: Book::fresh(),
+                aimed: &own.book,
+            };
+            lines::one(programs, program, run, &mut tally.lines)?;
         }
     }
     Ok(())
@@ -237,9 +288,10 @@ type Shown = fn(&[u8]) -> Vec<u8>;
 
 /// The programs that show the book as it is at the end.
 fn one_book(programs: &Programs, made: &Made) -> Result<(), String> {
-    let shown: [(&str, Option<&str>, Shown); 2] = [
+    let shown: [(&str, Option<&str>, Shown); 3] = [
         ("standings", programs.standings, print::standings),
         ("needs", programs.needs, print::needs),
+        ("holdings", programs.holdings, holdings::holdings),
     ];
     for (name, program, own) in shown {
         if let Some(program) = program {

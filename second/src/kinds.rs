@@ -3,14 +3,14 @@
 use std::collections::BTreeMap;
 
 pub struct Kinds {
-    all: &'static [&'static str],
+    all: Vec<&'static str>,
     met: BTreeMap<&'static str, u64>,
 }
 
 impl Kinds {
-    pub fn of(all: &'static [&'static str]) -> Kinds {
+    pub fn of(all: &[&'static str]) -> Kinds {
         Kinds {
-            all,
+            all: all.to_vec(),
             met: BTreeMap::new(),
         }
     }

@@ -16,9 +16,11 @@ mod desk;
 mod difference;
 mod explain;
 mod files;
+mod holdings;
 mod holds;
 mod kinds;
 mod looks;
+mod losses;
 mod made;
 mod make;
 mod margins;
@@ -55,8 +57,11 @@ second standings [FROM] < DAYFILE        the closing line, then every account's 
 second needs [FROM] < DAYFILE            the closing line, then every account's need
 second explain [FROM] < DAYFILE          as day, and behind each refused record with one amount 0 and
                                          the largest amount that would have passed, or a refusal and 0
-second closeouts LOSSFILE [FROM] < DAYFILE
-                                         the closing line, then what each loss is paid from
+second holdings [FROM] < DAYFILE         the closing line, the next serial and number, then what every
+                                         account has received, allocated and pledged, its margin and use
+second closeouts [--lines] LOSSES [FROM] < DAYFILE
+                                         the closing line, then what each loss is paid from; LOSSES: eight
+                                         bytes a row held, or with --lines a text: NUMBER AMOUNT
                                          FROM: a book file to start from, - for a fresh book
                                          TO: where to keep the book after the day
 second take_over FROM TO                 the book of FROM taken over to the new rule, kept as TO:
@@ -77,20 +82,25 @@ second make KIND SEED > DAYFILE          a made-up day: busy hostile bent bounds
                                          openings retire shared spent warned wavering
                                          moved moving held withheld mixed haircut
                                          tens valued short wanting falling million
-second losses SEED < DAYFILE > LOSSFILE  made-up losses for the book at that day's end
+second losses [--lines] SEED < DAYFILE > LOSSES
+                                         made-up losses for the book at that day's end
 second make-calls SEED > CALLS           made-up calls
+second make-text SEED > TEXT             a made-up text of a day file
 second compare [--day P] [--standings P] [--closeouts P] [--needs P] [--explain P]
+               [--holdings P] [--write P] [--read P]
                [--take-over P] [--archive P] [--margins P] [--merge P] [--statements P] [--calls P]
                [--days N] [--seed S] [--millions K] [--books N] [--trickle]
-               [--margin-runs N] [--merges N] [--statement-runs N] [--call-inputs N]
+               [--text-runs N] [--margin-runs N] [--merges N] [--statement-runs N] [--call-inputs N]
                                          other programs against this one: on made-up days, on N days
-                                         in two pieces with book files, on N inputs of made-up calls,
-                                         on N mergings, on N statements; with --merge, --day and
-                                         --standings, on two orders of N pairs of counters' files
+                                         in two pieces with book files, on N made-up texts, on N inputs
+                                         of made-up calls, on N mergings, on N statements; with --merge,
+                                         --day and --standings, on two orders of N pairs of counters' files
 second bundle --days N --seed S > BUNDLE many small days in one file
 second bundled < BUNDLE > ANSWERS        the answers to all of them
-second write < TEXT > DAYFILE            a day file from its readable form
-second read < DAYFILE > TEXT             and back
+second write [TEXT [FROM]] > DAYFILE     a day file from its readable form, of standard input if no
+                                         TEXT is named, numbered from the next serial of FROM's book
+                                         or from 0; or `write: line 3: 33, no account`
+second read [FROM] < DAYFILE > TEXT      and back
 second write-statement < TEXT > STATEMENT a statement from its readable form, a line a record:
                                          ACCOUNT RECEIVED RETAINED PLACED HELD LODGED, or raw HEX
 second read-statement < STATEMENT > TEXT and back
@@ -112,8 +122,8 @@ Calls, each handed the book as it is then:
 Other bytes:
   bytes HEX   cut N   # a comment
 WORD: number sort live tm received.KIND allocated.KIND pledged margin mode need, KIND one of cash deposits
-guarantees securities. RECORD: as `second write` takes it, or `values SERIAL CODE MARK ACCOUNT` and
-six amounts. PIECE: records, `raw HEX` and `zeros N` with ; between them, or nothing.
+guarantees securities. RECORD: as `second write` takes it, good or not, or `values SERIAL CODE MARK
+ACCOUNT` and six amounts. PIECE: records, `raw HEX` and `zeros N` with ; between them, or nothing.
 ";
 
 /// A million records hold at most this much; one byte more makes it `long`.
@@ -133,33 +143,38 @@ fn main() -> ExitCode {
         .skip(1)
         .map(|word| word.to_string_lossy().into_owned())
         .collect();
-    let output = match command {
+    finish(output(command, &arguments, &words))
+}
+
+fn output(command: &str, arguments: &[OsString], words: &[String]) -> Output {
+    match command {
         "day" => programs::day(&arguments[1..], &day_file),
         "standings" => programs::standings(&arguments[1..], &day_file),
         "needs" => programs::needs(&arguments[1..], &day_file),
         "explain" => programs::explain(&arguments[1..], &day_file),
+        "holdings" => programs::holdings(&arguments[1..], &day_file),
         "closeouts" => programs::closeouts(&arguments[1..], &day_file),
         "margins" => desk::lines::margins(&arguments[1..], &|| input(desk::lines::MOST as u64 + 1)),
         "take_over" => programs::take_over(&arguments[1..]),
         "archive" => programs::archive(&arguments[1..]),
         "merge" => programs::merge(&arguments[1..]),
         "statements" => programs::statements(&arguments[1..], &all_input),
-        "make" => make_command(&words),
-        "make-calls" => make_calls_command(&words),
-        "losses" => losses_command(&words),
-        "compare" => compare::compare(&words).map(|line| (line + "\n").into_bytes()),
+        "make" => make_command(words),
+        "make-calls" => made_with("make-calls", words, |seed| make::asked::make(seed).bytes),
+        "make-text" => made_with("make-text", words, |seed| make::texts::make(seed).bytes()),
+        "losses" => losses_command(words),
+        "compare" => compare::compare(words).map(|line| (line + "\n").into_bytes()),
         "calls" => all_input().map(|input| calls::answered(&input)),
-        "bundle" => bundle::bundle(&words),
+        "bundle" => bundle::bundle(words),
         "bundled" => all_input().and_then(|input| bundle::bundled(&input)),
-        "write" => all_input().and_then(|input| text::write(&input)),
+        "write" => programs::write(&arguments[1..], &all_input),
         "write-statement" => all_input().and_then(|input| statement::text::write(&input)),
         "read-statement" => all_input().map(|input| statement::text::read(&input).into_bytes()),
         "write-calls" => all_input().and_then(|input| story::write(&input)),
         "read-calls" => all_input().map(|input| story::read(&input).into_bytes()),
-        "read" => all_input().map(|input| text::read(&input).into_bytes()),
+        "read" => programs::read(&arguments[1..], &all_input),
         _ => Err(usage()),
-    };
-    finish(output)
+    }
 }
 
 fn finish(output: Output) -> ExitCode {
@@ -211,18 +226,23 @@ fn make_command(words: &[String]) -> Output {
     Ok(make::make(kind, seed(number)?, make::NO_LIMIT))
 }
 
-fn make_calls_command(words: &[String]) -> Output {
+fn made_with(command: &str, words: &[String], make: fn(u64) -> Vec<u8>) -> Output {
     match words {
-        [number] => Ok(make::asked::make(seed(number)?).bytes),
-        _ => Err("make-calls: a seed is expected".to_string()),
+        [number] => Ok(make(seed(number)?)),
+        _ => Err(format!("{command}: a seed is expected")),
     }
 }
 
 fn losses_command(words: &[String]) -> Output {
-    let seed = match words {
-        [number] => seed(number)?,
+    let (as_lines, number) = match words {
+        [number] => (false, number),
+        [first, number] if first == "--lines" => (true, number),
         _ => return Err("losses: a seed is expected".to_string()),
     };
+    let seed = seed(number)?;
     let (book, _) = day::run_fresh(&day_file()?);
-    Ok(make::losses::make(&book, seed))
+    Ok(match as_lines {
+        true => make::loss_lines::make(&book, seed, seed).1,
+        false => make::losses::make(&book, seed),
+    })
 }

@@ -3,10 +3,12 @@
 pub mod asked;
 mod bend;
 mod deemed;
+pub mod froms;
 mod haircut;
 mod held;
 mod lengths;
 mod lives;
+pub mod loss_lines;
 pub mod losses;
 mod maker;
 pub mod merges;
@@ -17,6 +19,7 @@ pub mod refused;
 pub mod sheets;
 mod short;
 mod steer;
+pub mod texts;
 mod uses;
 mod warned;
 

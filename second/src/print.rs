@@ -3,8 +3,10 @@
 
 use crate::book::{Book, Sort, Standing};
 use crate::carry::Answer;
-use crate::closeout::{close_out_bytes, CloseOut};
+use crate::closeout::{close_out, close_out_bytes, CloseOut};
 use crate::day::{run, Closing, Day, MILLION};
+use crate::losses::{by_rows, Loss};
+use crate::refusal::Refusal;
 
 /// How the line begins that stands on standard error in place of the output.
 pub const CANNOT_READ: &str = "closeouts: cannot read the file of losses";
@@ -121,11 +123,17 @@ pub fn sort_word(sort: Sort) -> &'static str {
     }
 }
 
-fn push_standing(out: &mut Vec<u8>, book: &Book, account: usize, standing: &Standing) {
+/// Number, sort, state and TM.
+pub fn account_words(book: &Book, account: usize) -> String {
     let row = &book.rows[account];
     let (sort, tm) = (sort_word(row.sort), book.tm_number(account));
     let number = book.number(account);
     let state = if row.live { "live" } else { "retired" };
+    format!("{number} {sort} {state} {tm}")
+}
+
+fn push_standing(out: &mut Vec<u8>, book: &Book, account: usize, standing: &Standing) {
+    let account = account_words(book, account);
     let Standing {
         collateral,
         need,
@@ -137,7 +145,7 @@ fn push_standing(out: &mut Vec<u8>, book: &Book, account: usize, standing: &Stan
     } = *standing;
     let mode = mode.word();
     let figures = format!("{collateral} {need} {blocked} {deemed} {free} {mode} {shortfall}");
-    out.extend_from_slice(format!("{number} {sort} {state} {tm} {figures}\n").as_bytes());
+    out.extend_from_slice(format!("{account} {figures}\n").as_bytes());
 }
 
 /// The lines of `standings` without the closing line.
@@ -150,7 +158,7 @@ pub fn standing_lines(book: &Book) -> Vec<u8> {
 }
 
 /// The closing line after a day over this book, and the book then.
-fn closed(mut book: Book, piece: &[u8]) -> (Vec<u8>, Book) {
+pub fn closed(mut book: Book, piece: &[u8]) -> (Vec<u8>, Book) {
     let day = run(&mut book, piece, MILLION, |_, _| {});
     let mut out = Vec::new();
     push_closing(&mut out, &day);
@@ -183,8 +191,21 @@ pub fn needs(piece: &[u8]) -> Vec<u8> {
 
 /// The output of `closeouts`, once the file of losses is read.
 pub fn closeouts_over(book: Book, piece: &[u8], losses: &[u8]) -> Vec<u8> {
+    closed_out(book, piece, |book| close_out_bytes(book, losses))
+}
+
+/// The same with losses by account's number.
+pub fn closeouts_of(book: Book, piece: &[u8], losses: &[Loss]) -> Vec<u8> {
+    closed_out(book, piece, |book| close_out(book, by_rows(book, losses)?))
+}
+
+fn closed_out(
+    book: Book,
+    piece: &[u8],
+    close: impl Fn(&Book) -> Result<CloseOut, Refusal>,
+) -> Vec<u8> {
     let (mut out, book) = closed(book, piece);
-    match close_out_bytes(&book, losses) {
+    match close(&book) {
         Ok(answer) => push_close_out(&mut out, &book, &answer),
         Err(refusal) => out.extend_from_slice(format!("refused {}\n", refusal as u8).as_bytes()),
     }

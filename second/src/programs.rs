@@ -1,24 +1,27 @@
-//! The programs `day`, `standings`, `needs`, `explain` and `closeouts`: over a fresh
-//! book, or over the one that FROM holds. A FROM that can't be read, or is no
-//! book, is told and nothing is printed; over one that isn't sound the day
-//! stays unread. And `take_over` and `archive`, from one book file to another,
-//! `merge`, from two day files to one, and `statements`, over a book.
+//! The programs `day`, `standings`, `needs`, `holdings`, `explain` and
+//! `closeouts`: over a fresh book, or over the one that FROM holds. A FROM that
+//! can't be read, or is no book, is told and nothing is printed; over one that
+//! isn't sound the day stays unread. And `take_over` and `archive`, from one book
+//! file to another, `merge`, from two day files to one, `write` and `read`, from
+//! text to a day file and back, and `statements`, over a book.
 
 mod archive;
+mod closeouts;
 mod merge;
 mod statements;
+mod texts;
 
-use crate::book::{Book, MOST_ACCOUNTS};
+use crate::book::Book;
 use crate::seen::Seen;
 use crate::table::Table;
-use crate::{bookfile, explain, files, print, put_out, usage, Output};
+use crate::{bookfile, explain, files, holdings, print, put_out, usage, Output};
 pub use archive::{archive, with_lines};
+pub use closeouts::closeouts;
 pub use merge::{merge, MOST as MERGE_MOST};
 pub use statements::statements;
 use std::ffi::OsString;
-use std::fs::File;
-use std::io::{self, Read};
 use std::path::Path;
+pub use texts::{read, write};
 
 /// How the day file is read, if it comes to that.
 type Reading<'a> = &'a dyn Fn() -> Output;
@@ -29,6 +32,18 @@ fn start(program: &str, from: Option<&OsString>) -> Result<Option<Book>, String>
         Some(path) if path != "-" => Ok(table_of(program, path)?.book()),
         _ => Ok(Some(Book::fresh())),
     }
+}
+
+/// The serial to number from, 0 without a book; nothing else of it is looked at.
+fn next_serial(program: &str, from: Option<&OsString>) -> Result<u16, String> {
+    match from {
+        Some(path) if path != "-" => Ok(table_of(program, path)?.serial),
+        _ => Ok(0),
+    }
+}
+
+fn too_many(program: &str) -> String {
+    format!("{program}: too many words")
 }
 
 fn table_of(program: &str, path: &OsString) -> Result<Table, String> {
@@ -128,7 +143,7 @@ fn shown(
     text: fn(Book, &[u8]) -> Vec<u8>,
 ) -> Output {
     if words.len() > 1 {
-        return Err(usage());
+        return Err(too_many(program));
     }
     match start(program, words.first())? {
         Some(book) => Ok(text(book, &day_file()?)),
@@ -148,27 +163,6 @@ pub fn explain(words: &[OsString], day_file: Reading) -> Output {
     shown("explain", words, day_file, explain::over)
 }
 
-/// Where the losses can't be read, that is told and the day stays unread.
-pub fn closeouts(words: &[OsString], day_file: Reading) -> Output {
-    let cannot = print::CANNOT_READ;
-    let path = words
-        .first()
-        .ok_or_else(|| format!("{cannot}: none is named"))?;
-    if words.len() > 2 {
-        return Err(usage());
-    }
-    let losses = losses_file(path)
-        .map_err(|error| format!("{cannot}: {}: {error}", path.to_string_lossy()))?;
-    match start("closeouts", words.get(1))? {
-        Some(book) => Ok(print::closeouts_over(book, &day_file()?, &losses)),
-        None => Ok([print::UNSOUND, print::UNSOUND_CLOSE_OUT].concat()),
-    }
-}
-
-/// One byte past the most that any book could want is refusal 15 already.
-fn losses_file(path: &OsString) -> io::Result<Vec<u8>> {
-    let mut bytes = Vec::new();
-    let most = 8 * MOST_ACCOUNTS as u64 + 1;
-    File::open(path)?.take(most).read_to_end(&mut bytes)?;
-    Ok(bytes)
+pub fn holdings(words: &[OsString], day_file: Reading) -> Output {
+    shown("holdings", words, day_file, holdings::over)
 }

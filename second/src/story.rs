@@ -41,11 +41,11 @@
 //!     bytes HEX                     bytes as they stand, for what is no call
 //!     cut N                         takes the last N bytes off again
 //!
-//! RECORD is a line as `second write` takes it: `margin 3 60000`, with `serial
-//! N` ahead of it for another serial than the book's, or `raw HEX`; or all of
-//! it: `values SERIAL CODE MARK ACCOUNT` and six amounts. PIECE is any number
-//! of such lines and of `zeros N`, with `;` between them; nothing is an empty
-//! piece. Serials run on from the book's.
+//! RECORD is a line as `second write` takes it, but good or not: `margin 3
+//! 60000`, with `serial N` ahead of it for another serial than the book's, or
+//! `raw HEX`; or all of it: `values SERIAL CODE MARK ACCOUNT` and six amounts.
+//! PIECE is any number of such lines and of `zeros N`, with `;` between them;
+//! nothing is an empty piece. Serials run on from the book's.
 
 mod book;
 mod desk;
@@ -58,7 +58,7 @@ use crate::dayfile::{Next, Reader, Values};
 use crate::rule::Rule;
 use crate::statement;
 use crate::table::{Table, MODE, NEED, NUMBER, WORDS};
-use crate::text::{hex_bytes, line_bytes, moved_on, parsed};
+use crate::text::{any_bytes, hex_bytes, moved_on, parsed};
 use book::Written;
 pub use read::{read, short};
 
@@ -157,7 +157,7 @@ impl Story {
         if let ["values", numbers @ ..] = words.as_slice() {
             return values(numbers);
         }
-        let bytes = line_bytes(said, self.book.serial())?;
+        let bytes = line_of(said, self.book.serial())?;
         let mut reader = Reader::new(&bytes);
         match (reader.next(), reader.left()) {
             (Next::Record(record), []) => Ok(record.values()),
@@ -176,7 +176,7 @@ impl Story {
                     values(numbers)?.lay(&mut bytes);
                     bytes
                 }
-                _ => line_bytes(part, running)?,
+                _ => line_of(part, running)?,
             };
             running = moved_on(running, &bytes);
             piece.extend(bytes);
@@ -221,6 +221,11 @@ impl Story {
         };
         Ok(call)
     }
+}
+
+fn line_of(said: &str, running: u16) -> Result<Vec<u8>, String> {
+    let bytes = any_bytes(said.as_bytes(), running);
+    bytes.map_err(|fault| format!("`{}`: {}", said.trim(), fault.words()))
 }
 
 /// What stands behind the first word.

@@ -3,6 +3,7 @@
 use crate::book::{Book, Sort};
 use crate::carry::Answer;
 use crate::closeout::CloseOut;
+use crate::compare::lines;
 use crate::explain;
 use crate::holds;
 use crate::looks::{self, KINDS};
@@ -30,6 +31,8 @@ pub struct Tally {
     pub shorts: shorts::Met,
     /// Close-outs under a shortfall, by kind.
     pub closed: [u64; CLOSED.len()],
+    /// Close-outs with losses as lines.
+    pub lines: lines::Met,
     /// What was explained, where that was asked for.
     pub explained: explain::Met,
     /// How often a day was stopped on the way to ask for standings and needs.

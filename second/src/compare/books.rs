@@ -1,12 +1,13 @@
 //! Programs that start from a book file and leave one, against this one: days
 //! in two pieces with a night between them, and books that are taken over.
 
-use super::{archives, between_records, Programs};
+use super::{archives, between_records, lines, texts, Programs};
 use crate::book::Book;
 use crate::bookfile;
 use crate::child::{ask, ask_held, Pace};
 use crate::difference::settle;
 use crate::explain;
+use crate::holdings;
 use crate::made::Made;
 use crate::make::asked::{any_sound, to_take_over, unsound, with_steps};
 use crate::make::{losses, make, refused, ROUND};
@@ -31,6 +32,7 @@ pub struct Met {
     /// Taken over, and not.
     over: [u64; 2],
     pub archives: archives::Met,
+    pub lines: lines::Met,
 }
 
 impl Met {
@@ -93,7 +95,7 @@ pub fn all_books(options: &Options, programs: &Programs, many: u64) -> Result<Me
         night.all(place)?;
         met.days += 1;
     }
-    for name in ["book", "to", "losses", "archive"] {
+    for name in ["book", "to", "losses", "lines", "archive"] {
         let _ = fs::remove_file(programs.folder.join(name));
     }
     let missed = met.missed(programs);
@@ -152,10 +154,7 @@ impl Night<'_> {
         piece: &[u8],
         want: &[u8],
     ) -> Result<(), String> {
-        let made = Made {
-            bytes: piece.to_vec(),
-            ..self.made
-        };
+        let made = self.made_with(piece);
         self.met.runs += 1;
         let got = ask(program, words, piece, Pace::Whole);
         settle(&self.programs.folder, &made, name, want, got)
@@ -221,6 +220,29 @@ impl Night<'_> {
             let want = explain::over(handed_over(book), piece);
             self.settled("explain from a book", program, &[path], piece, &want)?;
         }
+        if let Some(program) = self.programs.holdings {
+            let want = holdings::over(handed_over(book), piece);
+            self.settled("holdings from a book", program, &[path], piece, &want)?;
+        }
+        self.as_text(path, book.serial, piece)?;
+        self.closed_out(book, path, piece)
+    }
+
+    pub fn as_text(&mut self, path: &Path, serial: u16, piece: &[u8]) -> Result<(), String> {
+        let made = self.made_with(piece);
+        let programs = [self.programs.read, self.programs.write];
+        self.met.runs += programs.iter().flatten().count() as u64;
+        texts::there_and_back(self.programs, &made, Some(path), serial)
+    }
+
+    fn made_with(&self, piece: &[u8]) -> Made {
+        Made {
+            bytes: piece.to_vec(),
+            ..self.made
+        }
+    }
+
+    fn closed_out(&mut self, book: &Book, path: &Path, piece: &[u8]) -> Result<(), String> {
         if let Some(program) = self.programs.closeouts {
             let losses = losses::make(book, self.rng.next());
             let file = self.put("losses", &losses)?;
@@ -232,6 +254,14 @@ impl Night<'_> {
                 piece,
                 &want,
             )?;
+            let run = lines::Run {
+                made: &self.made_with(piece),
+                from: Some(path),
+                start: handed_over(book),
+                aimed: book,
+            };
+            self.met.runs += 1;
+            lines::one(self.programs, program, run, &mut self.met.lines)?;
         }
         Ok(())
     }

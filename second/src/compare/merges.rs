@@ -3,9 +3,9 @@
 
 mod met;
 
-use super::Programs;
+use super::{froms, Programs};
 use crate::child::{ask, Pace};
-use crate::make::merges::{make, whole_round, From, Merging};
+use crate::make::merges::{make, whole_round, Merging};
 use crate::merge::records;
 use crate::options::Options;
 use crate::programs::merge;
@@ -72,14 +72,7 @@ fn laid_down(merging: &Merging, folder: &Path) -> io::Result<Vec<PathBuf>> {
             }
         }
     }
-    match &merging.from {
-        From::Nowhere => {}
-        From::Dash => words.push(PathBuf::from("-")),
-        From::File(bytes) => {
-            words.push(folder.join("book"));
-            fs::write(folder.join("book"), bytes)?;
-        }
-    }
+    words.extend(froms::laid_down(&merging.from, folder)?);
     Ok(words)
 }
 

@@ -31,25 +31,30 @@ impl Night<'_> {
         let losses = self.put("losses", &vec![0; 8 * table.held()])?;
         let archive = self.put("archive", b"as it was")?;
         let closed = [print::UNSOUND, print::UNSOUND_CLOSE_OUT].concat();
-        for (name, program, words) in self.runs([&book, &to, &losses, &archive]) {
+        let lines = self.put("lines", b"0 5")?;
+        for (name, program, words) in self.runs([&book, &to, &losses, &archive, &lines]) {
             let want = match name {
-                "closeouts" => &closed,
+                "closeouts" | "closeouts --lines" => &closed,
                 "archive" => &b"1 0\n"[..],
-                // It judges by the old rule.
-                "take_over" => continue,
+                // It judges by the old rule; a serial alone asks for no soundness.
+                "take_over" | "write" | "read" => continue,
                 _ => print::UNSOUND,
             };
             let got = ask_held(program, &words);
             let what = format!("{name} from a book that isn't sound");
             settle(&self.programs.folder, &self.made, &what, want, got)?;
         }
+        let made = self.made.bytes.clone();
+        self.as_text(&book, table.serial, &made)?;
         self.met.unsound += 1;
         self.untouched(&to)?;
         self.untouched(&archive)
     }
 
     /// The programs there are, each with its words.
-    fn runs<'p>(&self, [book, to, losses, archive]: [&'p Path; 4]) -> Vec<Run<'_, 'p>> {
+    fn runs<'p>(&self, files: [&'p Path; 5]) -> Vec<Run<'_, 'p>> {
+        let [book, to, losses, archive, lines] = files;
+        let as_lines = vec![Path::new("--lines"), lines, book];
         let all = [
             ("archive", self.programs.archive, vec![book, to, archive]),
             ("take_over", self.programs.take_over, vec![book, to]),
@@ -57,7 +62,11 @@ impl Night<'_> {
             ("standings", self.programs.standings, vec![book]),
             ("needs", self.programs.needs, vec![book]),
             ("explain", self.programs.explain, vec![book]),
+            ("holdings", self.programs.holdings, vec![book]),
+            ("read", self.programs.read, vec![book]),
+            ("write", self.programs.write, vec![lines, book]),
             ("closeouts", self.programs.closeouts, vec![losses, book]),
+            ("closeouts --lines", self.programs.closeouts, as_lines),
         ];
         all.into_iter()
             .filter_map(|(name, program, words)| Some((name, program?, words)))
@@ -84,7 +93,8 @@ impl Night<'_> {
         let to = self.put("to", b"as it was")?;
         let losses = self.put("losses", &[0; 8])?;
         let archive = self.put("archive", b"as it was")?;
-        for (name, program, words) in self.runs([&book, &to, &losses, &archive]) {
+        let lines = self.put("lines", b"0 5")?;
+        for (name, program, words) in self.runs([&book, &to, &losses, &archive, &lines]) {
             let got = ask(program, &words, &self.made.bytes, Pace::Whole);
             let silent = got.as_ref().map_or(false, |got| got.stderr.is_empty());
             let what = format!("{name} from what is no book");

@@ -1,24 +1,16 @@
 //! Made-up mergings: two counters' files, and a book to number them from.
 
-use super::asked::{any_sound, good_record, unsound};
+use super::asked::good_record;
+use super::froms::{From, Held};
 use crate::book::CEILING;
-use crate::bookfile::{self, Version};
 use crate::dayfile::*;
 use crate::programs::MERGE_MOST;
 use crate::rng::Rng;
-use crate::rule::Rule;
-use crate::table::{Fault, Table};
 
 /// Files of A and B, None for one that isn't there, and FROM.
 pub struct Merging {
     pub files: [Option<Vec<u8>>; 2],
     pub from: From,
-}
-
-pub enum From {
-    Nowhere,
-    Dash,
-    File(Vec<u8>),
 }
 
 /// Where the first record at fault stands.
@@ -274,17 +266,12 @@ fn from(start: Start, [a, b]: [u64; 2], rng: &mut Rng) -> From {
         _ => rng.below(65_536),
     };
     let serial = 0u16.wrapping_sub(left as u16);
-    let with_serial = |table: Table| Table { serial, ..table };
-    let bytes = match start {
-        Start::Nowhere => return From::Nowhere,
-        Start::Dash => return From::Dash,
-        Start::Unsound => {
-            let fault = rng.pick(&Fault::all(Rule::New));
-            bookfile::bytes(&with_serial(unsound(fault, Rule::New, rng)))
-        }
-        Start::First => bookfile::bytes_as(&with_serial(any_sound(rng)), Version::One),
-        Start::NoBook => bookfile::bytes(&Table::fresh())[1..].to_vec(),
-        _ => bookfile::bytes(&with_serial(any_sound(rng))),
-    };
-    From::File(bytes)
+    match start {
+        Start::Nowhere => From::Nowhere,
+        Start::Dash => From::Dash,
+        Start::Unsound => From::file(Held::Unsound, serial, rng),
+        Start::First => From::file(Held::First, serial, rng),
+        Start::NoBook => From::file(Held::NoBook, serial, rng),
+        _ => From::file(Held::Sound, serial, rng),
+    }
 }

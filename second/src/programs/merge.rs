@@ -1,6 +1,6 @@
 //! The program `merge`, K14: two counters' day files become one.
 
-use super::table_of;
+use super::next_serial;
 use crate::merge::merged;
 use crate::Output;
 use std::ffi::OsString;
@@ -11,8 +11,8 @@ use std::io::Read;
 pub const MOST: usize = 1_048_576;
 
 /// Numbered from the next serial of the book in FROM, "from 0 where no FROM is
-/// named or it is `-`"; nothing else of it is looked at. Files are read A first,
-/// then B, then FROM, and refusals come after that.
+/// named or it is `-`". Files are read A first, then B, then FROM, and refusals
+/// come after that.
 pub fn merge(words: &[OsString]) -> Output {
     let (names, from) = match words {
         [a, b] => ([a, b], None),
@@ -20,10 +20,7 @@ pub fn merge(words: &[OsString]) -> Output {
         _ => return Err("merge: two day files, and a book if wanted, are expected".to_string()),
     };
     let (a, b) = (counters_file(names[0])?, counters_file(names[1])?);
-    let serial = match from {
-        Some(path) if path != "-" => table_of("merge", path)?.serial,
-        _ => 0,
-    };
+    let serial = next_serial("merge", from)?;
     merged([&a, &b], serial).map_err(|fault| {
         let name = names[fault.file].to_string_lossy();
         let (refusal, record) = (fault.refusal as u8, fault.record);

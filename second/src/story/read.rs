@@ -7,7 +7,7 @@ use crate::calls::Calls;
 use crate::desk::lines::side_word;
 use crate::desk::{Position, PRODUCTS};
 use crate::statement;
-use crate::text::{hex, read_from};
+use crate::text::{self, hex};
 
 /// A book and the version that it stands in.
 type Standing = (Table, Version);
@@ -140,7 +140,7 @@ fn position_words(positions: &[Position]) -> String {
 }
 
 fn piece_words(piece: &[u8], serial: u16) -> String {
-    joined(&read_from(piece, serial))
+    joined(&text::read(piece, serial))
 }
 
 /// Lines with `;` between them.

@@ -344,7 +344,7 @@ fn most() {
     assert_eq!(answer("most revalue 0 1"), "0 10000000000000");
     assert_eq!(start("most margin 2 1"), "0 1800");
     assert_eq!(
-        start("most serial 0 margin 1 18446744073709551615"),
+        start("most values 0 10 32 1 0 0 0 0 0 18446744073709551615"),
         "0 1500"
     );
     assert_eq!(start("most release 2 cash 0"), "0 300");

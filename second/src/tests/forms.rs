@@ -2,9 +2,15 @@
 
 use super::*;
 use crate::make::{make, NO_LIMIT, ROUND};
+use crate::text::{BadLine, Fault, LINE_MOST};
 
-fn error(said: &str) -> String {
-    text::write(said.as_bytes()).unwrap_err()
+fn written(said: &str) -> Vec<u8> {
+    text::write(said.as_bytes(), 0).unwrap()
+}
+
+/// The number of the fault of one line, or 0.
+fn fault(line: &[u8]) -> u8 {
+    text::write(line, 0).map_or_else(|bad| bad.fault as u8, |_| 0)
 }
 
 #[test]
@@ -18,70 +24,162 @@ allocate 2 cash 1
 release 2 cash 1
 pledge 0 5
 unpledge 0 5
-margin 65535 18446744073709551615
+margin 65535 10000000000000
 retire 2
 serial 3 retire 2
 margin 2 0
+revalue 2 0
+revise 2 0
+tm 5
+cp 65535
 raw 0E0100000000
 ";
-    assert_eq!(text::read(&piece(said)), said);
+    assert_eq!(text::read(&written(said), 0), said);
 }
 
 #[test]
-fn loose_ways_of_saying_it() {
-    let loose = "# a day\n\n  tm # the first\nreceive 1 securities 4 cash 7\r\nraw 0e 00 0002 0000";
+fn other_ways_of_saying_it() {
+    let loose = "# a day\n\n  tm # the first\nreceive1cash7securities004\r
+\traw0e 00 0002 0000# no code\ncp 000\nserial0000000000000003retire9";
     assert_eq!(
-        text::read(&piece(loose)),
-        "tm\nreceive 1 cash 7 securities 4\nraw 0E0000020000\n"
+        text::read(&written(loose), 0),
+        "tm\nreceive 1 cash 7 securities 4\nraw 0E0000020000\ncp\nserial 3 retire 9\n"
     );
-    assert_eq!(piece("serial 0 tm\ntm"), piece("tm\nserial 1 tm"));
+    assert_eq!(written("serial 0 tm\ntm"), written("tm\nserial 1 tm"));
+    assert_eq!(written("raw 0A\nraw ff"), [0x0A, 0xFF]);
 }
 
-/// A raw record that bears the running serial moves it on, as in the book.
+/// A raw line that bears the running serial moves it on, as in the book.
 #[test]
 fn running_serial() {
-    let said = "raw 0E0000000000\ntm\nserial 9 tm\ntm\n";
-    let bytes = piece(said);
-    assert_eq!(refusals_of(&bytes), [4, 0, 3, 0]);
-    assert_eq!(text::read(&bytes), said);
+    let said = "raw 0E0000000000\ntm\nserial 9 tm\ntm\nraw 01000003\ntm";
+    let bytes = written(said);
+    assert_eq!(refusals_of(&bytes[..24]), [4, 0, 3, 0]);
+    assert_eq!(bytes[bytes.len() - 4..], [0, 4, 0, 0]);
+    let bytes = text::write(b"tm\ntm\nserial 65534 tm", 65_535).unwrap();
+    assert_eq!(bytes, written("serial 65535 tm\ntm\nserial 65534 tm"));
+    assert_eq!(text::read(&bytes, 65_535), "tm\ntm\nserial 65534 tm\n");
+    assert_eq!(
+        text::read(&bytes, 0),
+        "serial 65535 tm\ntm\nserial 65534 tm\n"
+    );
+}
+
+/// A record that isn't good has its bytes alone.
+#[test]
+fn bad_records() {
+    let bytes = piece("pledge 3 0\nmargin 3 10000000000001\nretire 3");
+    let said = "raw 0810000000030000000000000000\nraw 0A2000010003000009184E72A001\nretire 3\n";
+    assert_eq!(text::read(&bytes, 0), said);
+    assert_eq!(
+        text::read(&bytes[..33], 0),
+        said.replace("retire 3", "raw 0B00000200")
+    );
+    assert_eq!(written(said), bytes);
+}
+
+#[test]
+fn faults_by_number() {
+    for (number, lines) in [
+        (
+            4,
+            vec![
+                "rent 5",
+                "5",
+                "TM",
+                "tmx",
+                "serial 4",
+                "serial 1 raw 00",
+                "serial 1 serial 2 tm",
+                "rawAB",
+                "-",
+            ],
+        ),
+        (
+            5,
+            vec![
+                "receive 0",
+                "tm cash 1",
+                "retire 0 cash 1",
+                "pledge 0 cash 1 2",
+            ],
+        ),
+        (
+            6,
+            vec![
+                "receive 0 cash",
+                "receive 0 cash x 1",
+                "pledge 0",
+                "pledge 0 0",
+                "pledge 0 +1",
+                "margin 0 10000000000001",
+                "receive 0 cash 1 deposits 0",
+                "margin 0 00000000000000001",
+                "pledge 0 cash 1",
+                "tm cash",
+            ],
+        ),
+        (
+            30,
+            vec![
+                "tm 0 0",
+                "tm x",
+                "margin 0 1 2",
+                "receive 0 gold 1",
+                "receive 0 1",
+                "receive 0 cash 1 cash 2",
+                "receive 0 deposits 1 cash 2",
+                "receive 0 cash 0 1",
+                "raw 012",
+                "raw 01 2 3",
+                "raw 01x",
+                "tm\u{b}",
+            ],
+        ),
+        (
+            31,
+            vec![
+                "serial",
+                "serial x tm",
+                "serial 65536 tm",
+                "serial 00000000000000001 tm",
+            ],
+        ),
+        (32, vec!["raw", "raw 0", "raw 0 1", "raw x0", "raw # 00"]),
+        (
+            33,
+            vec![
+                "client",
+                "retire x",
+                "client 65536",
+                "receive cash 1",
+                "tm 65536",
+                "cp 00000000000000000",
+            ],
+        ),
+    ] {
+        for line in lines {
+            assert_eq!(fault(line.as_bytes()), number, "{line}");
+        }
+    }
+    assert_eq!(fault(b"\xFF"), 4);
+    assert_eq!(fault(b"tm \x00"), 30);
+}
+
+#[test]
+fn lengths_of_lines() {
+    let padded = |length: usize| format!("{:<length$}", "tm").into_bytes();
+    assert_eq!(fault(&padded(LINE_MOST)), 0);
+    assert_eq!(fault(&padded(LINE_MOST + 1)), 34);
+    let raw = |many: usize| format!("raw {}", "00".repeat(many)).into_bytes();
+    assert_eq!([1, 69, 70, 71].map(|many| fault(&raw(many))), [0, 0, 0, 30]);
 }
 
 #[test]
 fn errors_name_the_line() {
-    for (line, said) in [
-        ("", "unknown word `rent`\nrent 5"),
-        ("account", "`x` is no account\nretire x"),
-        ("plus", "`+1` is no amount\npledge 0 +1"),
-        ("serial", "`65536` is no serial\nserial 65536 tm"),
-        (
-            "serial alone",
-            "a record is missing after the serial\nserial 4",
-        ),
-        ("twice", "`cash` stands twice\nreceive 0 cash 1 cash 2"),
-        ("kind", "unknown kind `gold`\nreceive 0 gold 1"),
-        ("no kind", "no kind is named\nreceive 0"),
-        ("half", "the amount of `cash` is missing\nreceive 0 cash"),
-        ("missing", "an account number is missing\nclient"),
-        ("more", "nothing more is expected after `tm`: `0`\ntm 0"),
-        ("amounts", "one amount is expected\nmargin 0 1 2"),
-        (
-            "odd",
-            "raw needs two hexadecimal digits for each byte\nraw 123",
-        ),
-        ("raw", "unknown word `raw`\nserial 1 raw 00"),
-        ("digits", "raw needs hexadecimal digits\nraw 0x"),
-    ] {
-        let (want, bad) = said.split_once('\n').unwrap();
-        assert_eq!(
-            error(&format!("tm\n{bad}\ntm")),
-            format!("line 2: {want}"),
-            "{line}"
-        );
-    }
-    assert_eq!(
-        text::write(b"tm\n\xFF").unwrap_err(),
-        "line 2: not plain text"
-    );
+    let bad = text::write(b"tm\n\nclient\nrent", 0).unwrap_err();
+    let fault = Fault::NoAccount;
+    assert_eq!(bad, BadLine { line: 3, fault });
 }
 
 #[test]
@@ -89,8 +187,9 @@ fn made_days_come_back() {
     for kind in ROUND {
         for seed in 0..120 {
             let bytes = make(kind, seed, NO_LIMIT);
-            let said = text::read(&bytes);
-            assert!(piece(&said) == bytes, "kind {} seed {seed}", kind.0);
+            let said = text::read(&bytes, seed as u16);
+            let back = text::write(said.as_bytes(), seed as u16);
+            assert!(back == Ok(bytes), "kind {} seed {seed}", kind.0);
         }
     }
 }

@@ -12,7 +12,7 @@ use std::ffi::OsString;
 use std::fs;
 
 fn told(files: [&[u8]; 2], serial: u16) -> Result<String, Fault> {
-    merged(files, serial).map(|bytes| text::read_from(&bytes, serial))
+    merged(files, serial).map(|bytes| text::read(&bytes, serial))
 }
 
 fn fault(file: usize, refusal: Refusal, record: usize) -> Result<String, Fault> {

@@ -15,7 +15,9 @@ mod figures;
 mod figures_of_clients;
 mod forms;
 mod haircut;
+mod holdings;
 mod holds;
+mod losses;
 mod margins;
 mod merge;
 mod modes;
@@ -28,14 +30,15 @@ mod shorts;
 mod soundness;
 mod statements;
 mod stories;
+mod texts;
 
 use crate::book::Book;
 use crate::rule::Rule;
 use crate::{day, print, text};
 
-/// A day from its readable form.
+/// A day from its readable form; its words may say bad records too.
 fn piece(said: &str) -> Vec<u8> {
-    text::write(said.as_bytes()).unwrap()
+    text::written(said.as_bytes(), 0, text::any_bytes).unwrap()
 }
 
 fn book_after(said: &str) -> Book {

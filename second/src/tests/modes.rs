@@ -19,7 +19,7 @@ fn mode(said: &str, account: usize) -> Mode {
 
 /// Annexure 5 in paise: the CM, TM-1 (account 1) with Client-1 to Client-3
 /// (2 to 4), TM-2 (5) with Client-4 and Client-5 (6, 7).
-const ANNEXURE_5: &str = "
+pub(super) const ANNEXURE_5: &str = "
 tm\nclient 1\nclient 1\nclient 1\ntm\nclient 5\nclient 5
 pledge 0 120000\npledge 1 50000\npledge 2 80000\npledge 3 50000\npledge 4 40000
 pledge 5 50000\npledge 6 100000\npledge 7 100000

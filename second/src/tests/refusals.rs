@@ -50,7 +50,7 @@ serial 3 retire 9\nserial 4 unpledge 0 1\nserial 5 margin 0 1\nserial 6 tm";
 fn serial_goes_round() {
     let mut said = "retire 0\n".repeat(65_535);
     said += "serial 65535 tm\nserial 65536 tm";
-    assert!(text::write(said.as_bytes()).is_err());
+    assert!(text::write(said.as_bytes(), 0).is_err());
     let said = said.replace("serial 65536", "serial 0");
     let list = refusals(&said);
     assert_eq!(list.len(), 65_537);
@@ -109,7 +109,7 @@ fn six_range() {
             (1, 0),
             (CEILING, 0),
             (CEILING + 1, 6),
-            (u64::MAX, 6),
+            (9_999_999_999_999_999, 6),
         ] {
             assert_eq!(
                 last(&format!("{word} {amount}")),
@@ -118,6 +118,7 @@ fn six_range() {
             );
         }
     }
+    assert_eq!(last("raw 0401 0000 0000 FFFFFFFFFFFFFFFF"), 6);
     assert_eq!(last("margin 0 0"), 0);
     assert_eq!(last(&format!("margin 0 {}", CEILING + 1)), 6);
     assert_eq!(last(&format!("pledge 0 {CEILING}\nmargin 0 {CEILING}")), 0);

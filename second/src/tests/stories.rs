@@ -36,7 +36,7 @@ carry_out_next 5
 carry_out_next 18446744073709551615 tm ; retire 5 ; raw 0100
 day 0 serial 7 receive 0 cash 1 securities 2
 read_at 0 tm
-write pledge 0 0 room 70
+write pledge 0 5 room 70
 fresh
 close_out room 4 losses 0 18446744073709551615
 close_out room 0 losses

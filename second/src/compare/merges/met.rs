@@ -1,10 +1,10 @@
 //! What made-up mergings have met, told from their files as they are.
 
 use crate::book::CEILING;
-use crate::bookfile::{self, Version};
+use crate::compare::froms;
 use crate::dayfile::{Next, Reader, Values, MARGIN};
 use crate::kinds::Kinds;
-use crate::make::merges::{From, Merging};
+use crate::make::merges::Merging;
 use crate::merge::records;
 use crate::programs::MERGE_MOST;
 use crate::refusal::Refusal;
@@ -81,7 +81,7 @@ impl Met {
         if !count_lengths(files, a.is_err(), kinds) {
             return;
         }
-        let serial = match serial_of(&merging.from, kinds) {
+        let serial = match froms::serial_of(&merging.from, kinds) {
             Some(serial) => serial,
             None => return count_no_book(is_bad, kinds),
         };
@@ -121,26 +121,6 @@ fn count_lengths(files: [&[u8]; 2], a_is_bad: bool, kinds: &mut Kinds) -> bool {
     kinds.count_if("B empty", is_empty[1]);
     kinds.count_if("both empty", is_empty == [true; 2]);
     true
-}
-
-/// The serial to number from; None for what is no book.
-fn serial_of(from: &From, kinds: &mut Kinds) -> Option<u16> {
-    let bytes = match from {
-        From::Nowhere => {
-            kinds.count("no FROM");
-            return Some(0);
-        }
-        From::Dash => {
-            kinds.count("FROM -");
-            return Some(0);
-        }
-        From::File(bytes) => bytes,
-    };
-    let table = bookfile::table(bytes)?;
-    kinds.count_if("FROM not sound", !table.is_sound());
-    let is_first = bookfile::version(bytes) == Some(Version::One);
-    kinds.count_if("FROM of version 1", is_first);
-    Some(table.serial)
 }
 
 fn count_no_book(is_bad: bool, kinds: &mut Kinds) {
