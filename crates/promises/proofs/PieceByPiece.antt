@@ -39,12 +39,13 @@ lines-are-told = lines-told
 pub on-the-way : (b : Book) → Sound b → (turns : List Turn) → (let s = after b turns in (s .read ≤ 1_000_000) × (s .done ≤ s .read) × Sound (s .book))
 on-the-way b h turns = (read-so-far b turns, done-so-far b turns, sound-so-far b h turns)
 
--- A turn that is the last, since it took all of a piece that is shorter than its space or the million is full, ends the day of all bytes that came, with as many bytes printed as its lines have, explained or not ..
+-- A turn that is the last, since it took all of a piece that is shorter than its space or the million is full, ends the day of all bytes that came, with as many bytes printed as its lines have ..
 pub the-last-turn-ends-the-day : (printing : Bool) (b : Book) (before : List Turn) (t : Turn) (short : Bool)
     → (let s = after b before in stopsAt (turnOf s t .closing) short (leb 1_000_000 (s .read + turnOf s t .read)) ≡ true)
     → dayBy (printedBy printing (lineTold false) b (t ∷ before)) (after b before) t ≡ wholeDay printing b (cameBy (t ∷ before))
 the-last-turn-ends-the-day = day-of-turns
 
+-- .. and likewise the day of which lines are explained ..
 pub the-last-turn-ends-the-explained-day : (b : Book) (before : List Turn) (t : Turn) (short : Bool)
     → (let s = after b before in stopsAt (turnOf s t .closing) short (leb 1_000_000 (s .read + turnOf s t .read)) ≡ true)
     → dayBy (printedBy true (lineTold true) b (t ∷ before)) (after b before) t ≡ explainedDay b (cameBy (t ∷ before))
