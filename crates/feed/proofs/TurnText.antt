@@ -5,6 +5,7 @@ use mathlib.Core.Path.{_≡_, refl, sym, ap, _∙_}
 use Prim.Native.Nat.{ℕ, zero, suc, _≤_, _<_, min}
 use native.Mathlib.Nat.{zero-add}
 use native.Mathlib.Omega.{arith}
+use lib.ListN.{length}
 use Rattle.sums.proofs.Choices.{pick-yes, pick-no}
 use Rattle.rows.specs.declared.Book.{Book}
 use Rattle.records.specs.declared.Closing.{Closing}
@@ -53,3 +54,6 @@ module _ (explained : Bool) (s : List ℕ) (b : Book) where
 
   pub no-text : {printing : Bool} → printing ≡ false → (n : ℕ) → [] ≡ turnText printing explained s n b
   no-text {printing} h n = sym (pick-no printing _ _ h)
+
+  pub no-length : {printing : Bool} → printing ≡ false → (n : ℕ) → length (turnText printing explained s n b) ≡ 0
+  no-length h n = ap length (sym (no-text h n))

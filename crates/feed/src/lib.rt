@@ -12,7 +12,6 @@ use steps::At;
 use steps::entry::enter;
 use steps::entry::leave;
 pub use streams::Moved;
-use streams::standard::write_output;
 pub use table::Table;
 use turn::stops;
 
@@ -65,7 +64,7 @@ fn unsound(t: Table) -> Day
 }
 
 // The turns over a sound book. The end of a piece is no cut: the rest of it stays, and the next piece is read behind it. Only a piece that doesn't fill the
-// space is the last one. Nothing else of this crate prints.
+// space is the last one.
 fn in_turns(program: &[u8], printing: bool, explained: bool, t: Table) -> Day
     requires { ⌜ Sound (turnedBack t) ⌝ }
     ensures { λ d. ⌜ CameWith (toldText printing explained (turnedBack t)) (turnedBack t) d ⌝ }
@@ -125,7 +124,7 @@ fn in_turns(program: &[u8], printing: bool, explained: bool, t: Table) -> Day
         let word = went.closing;
         let stands = went.at;
         let n = told.text;
-        let put = write_output(program, &text[..n]);
+        let put = turn::hand_over(program, printing, &text, n);
         if got.failed | put.failed {
             return no_day();
         }

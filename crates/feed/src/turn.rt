@@ -1,6 +1,8 @@
-// One turn of the day file: the records of the bytes held, and where that is asked for their lines. Nothing is read or written here.
+// One turn of the day file: the records of the bytes held, and where that is asked for their lines, handed over for printing.
+ghost use mathlib.Core.Bool.{false};
 ghost use mathlib.Core.Path.{_≡_};
 ghost use Prim.Native.Nat.{_+_, _≤_, _<_, min};
+ghost use lib.Dec.{ltb};
 ghost use lib.ListN.{length};
 ghost use Rattle.sums.specs.Choice.{pick};
 ghost use Rattle.steps.specs.Lent.{lent, before, after};
@@ -14,6 +16,8 @@ ghost use Rattle.feed.specs.Inner.{stopsAt, turnTakes, turnText};
 use records::Closing;
 use records::go;
 use steps::At;
+use streams::Moved;
+use streams::standard::write_output;
 use telling::Told;
 use telling::tell;
 
@@ -97,4 +101,18 @@ pub(crate) fn carry_on(
         false,
     );
     Told { went, text: 0 }
+}
+
+// Prints a turn's text from the room's start. Nothing else of this crate prints; where nothing is to be printed there is no text.
+pub(crate) fn hand_over(program: &[u8], printing: bool, text: &[u8], n: usize) -> Moved
+    requires { ⌜ (n ≤ length (now text)) × (printing ≡ false → n ≡ 0) ⌝ }
+    ensures { λ m. ⌜ (m .count ≤ n) × (m .failed ≡ ltb (m .count) n) ⌝ }
+{
+    if !printing {
+        return Moved {
+            failed: false,
+            count: 0,
+        };
+    }
+    write_output(program, &text[..n])
 }

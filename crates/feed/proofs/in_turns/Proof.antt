@@ -21,7 +21,7 @@ use Rattle.text.proofs.Puts.{puts-length, puts-at-start}
 use Rattle.records.proofs.NumbersPut.{ran-sound}
 use Rattle.streams.proofs.Taken.{all-taken}
 use Rattle.feed.specs.Inner.{turnTakes}
-use Rattle.feed.proofs.TurnText.{takes-some}
+use Rattle.feed.proofs.TurnText.{takes-some, no-length}
 use Rattle.feed.proofs.Feeding.{Feeding, Piece, Shown, came-over, nothing-read, no-day-came, read-upto, last-turn-came, turn-fed, turn-reads-some, place-within, read-within, done-within}
 use Rattle.feed.proofs.in_turns.Statement.{statement}
 use Rattle.feed.proofs.in_turns.Tie as tie
@@ -56,10 +56,10 @@ turn f = f .before .before
 abbrev filled : tie.After-carry-on Inv-loop μ-loop → tie.After-refill Inv-loop μ-loop
 filled c = c .before .before .before .before .before .before .before .before .before .before .before .before .before .before .before .before
 
-abbrev carried : tie.After-write-output Inv-loop μ-loop → tie.After-carry-on Inv-loop μ-loop
+abbrev carried : tie.After-hand-over Inv-loop μ-loop → tie.After-carry-on Inv-loop μ-loop
 carried w = w .before .before .before .before .before
 
-abbrev written : tie.After-stops Inv-loop μ-loop → tie.After-write-output Inv-loop μ-loop
+abbrev written : tie.After-stops Inv-loop μ-loop → tie.After-hand-over Inv-loop μ-loop
 written s = s .before .before .before .before .before .before .before
 
 abbrev judged : tie.After-to-front Inv-loop μ-loop → tie.After-stops Inv-loop μ-loop
@@ -114,21 +114,17 @@ text-size c = puts-length (c .carry-on .ensures .1 .1) ∙ turn (filled c) .loop
 text-within : (c : tie.After-carry-on Inv-loop μ-loop) → c .carry-on .result .text ≤ length (room c)
 text-within c = omega (arith, c .carry-on .ensures .1 .1 .within, puts-length (c .carry-on .ensures .1 .1))
 
--- how long what is handed over is
-handed-over : (w : tie.After-write-output Inv-loop μ-loop) → (let c = carried w in length (take (c .carry-on .result .text) (room c)) ≡ c .carry-on .result .text)
-handed-over w = let c = carried w in length-take-le _ _ (text-within c)
-
-few-written : (w : tie.After-write-output Inv-loop μ-loop) → w .write-output .result .count ≤ 16384
-few-written w = let c = carried w in omega (arith, w .write-output .ensures .0, handed-over w, text-within c, text-size c)
+few-written : (w : tie.After-hand-over Inv-loop μ-loop) → w .hand-over .result .count ≤ 16384
+few-written w = let c = carried w in omega (arith, w .hand-over .ensures .0, text-within c, text-size c)
 
 -- what was printed of it, where no call failed
-shown : (s : tie.After-stops Inv-loop μ-loop) → Shown (piece (carried (written s))) (written s .write-output .result .count)
+shown : (s : tie.After-stops Inv-loop μ-loop) → Shown (piece (carried (written s))) (written s .hand-over .result .count)
 shown s =
     let w = written s in
-    let p = w .write-output in
+    let p = w .hand-over in
     let c = carried w in
     let none = or-fails (filled c .refill .result .failed) (p .result .failed) (s .before .before .before .before .if1 .left) .1 in
-    all-taken (p .result) _ (p .ensures .0) (p .ensures .1) none ∙ handed-over w ∙ puts-at-start (c .carry-on .ensures .1 .1) .0
+    all-taken (p .result) _ (p .ensures .0) (p .ensures .1) none ∙ puts-at-start (c .carry-on .ensures .1 .1) .0
 
 enter-requires : tie.Need-enter-requires Inv-loop μ-loop
 enter-requires c κs =
@@ -177,11 +173,13 @@ carry-on-requires c κs =
     let l = turn (c .before .before .before .before .before .before .before .before .before .before .before .before .before .before .before) in
     (l .loop .inv .1, filling (sized (entered (l .before))) .fill .ensures, omega (arith, l .loop .inv .2), omega arith)
 
-array-share-prefix-text : tie.Need-array-share-prefix-text Inv-loop μ-loop
-array-share-prefix-text c = text-within (c .before .before .before)
+slice-aggregate-hand-over : tie.Need-slice-aggregate-hand-over Inv-loop μ-loop
+slice-aggregate-hand-over c = sym (text-size (c .before .before .before .before))
 
-slice-aggregate-write-output : tie.Need-slice-aggregate-write-output Inv-loop μ-loop
-slice-aggregate-write-output c = sym (length-take-le _ _ (text-within (c .before .before .before .before)))
+hand-over-requires : tie.Need-hand-over-requires Inv-loop μ-loop
+hand-over-requires c κs =
+    let t = c .before .before .before .before in
+    (text-within t, λ e. puts-at-start (t .carry-on .ensures .1 .1) .0 ∙ no-length _ _ _ e _)
 
 returns : tie.Need-returns Inv-loop μ-loop
 returns c =
@@ -239,6 +237,6 @@ in-turns-spec =
     (tie.spec Inv-loop μ-loop (λ c κs. search needs) (λ c κs. length-replicate {A = ℕ} 1000 0) (λ c κs. search needs)
     (λ c κs. search needs) (λ c κs. search needs) enter-requires loop-holds slice-aggregate-refill refill-requires
     add-held array-share-prefix-space slice-aggregate-carry-on sub-carry-on slice-aggregate-carry-on-2 carry-on-requires
-    array-share-prefix-text slice-aggregate-write-output (λ c κs. search needs) (λ c κs. search needs) returns add-read
+    slice-aggregate-hand-over hand-over-requires (λ c κs. search needs) returns add-read
     add-done add-printed (λ c κs. search needs) slice-aggregate-to-front to-front-requires loop-less loop-again
     (λ c κs. search needs) returns-2)
