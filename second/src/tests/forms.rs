@@ -78,92 +78,48 @@ fn bad_records() {
     assert_eq!(written(said), bytes);
 }
 
+/// A fault and lines with it, `|` between them.
+const FAULTS: &str = "\
+4 rent 5|5|TM|tmx|rawab|serial 5|serial 5 raw 00|serial 5 serial 6 tm|-|handbackhandb 3
+5 receive 3 gold 5|receive 3 5|receive 3|tm cash 5|pledge 3 cash 5 6|tm cash 5 6|pledge 3 cash 5
+5 tm cash|retire 3 cash 0 x|receive 3 cashx 5|receive 3 x
+6 pledge 3 0 x|receive 3 cash|pledge 3|pledge 3 0|pledge 3 +1|receive 3 cash x 1
+6 margin 3 10000000000001|margin 3 00000000000000001|receive 3 cash 1 deposits 0|receive 3 cash 0 1
+30 retire 2 5|receive 2 securities 5 cash 1|tm 65536|tm x|tmX|tm 0 0|margin 3 1 2|tm\u{b}
+30 tm 65536 cash 5|cp 00000000000000000|receive 3 cash 1 cash 2|raw 012|raw 01 2 3|raw 01x
+31 serial|serial x tm|serialX|serial 65536 tm|serial 00000000000000001 tm
+32 raw|raw 0|raw 0 1|raw x0|rawX|raw # 00
+33 client|retire x|client 65536|receive cash 1|clientX";
+
 #[test]
 fn faults_by_number() {
-    for (number, lines) in [
-        (
-            4,
-            vec![
-                "rent 5",
-                "5",
-                "TM",
-                "tmx",
-                "serial 4",
-                "serial 1 raw 00",
-                "serial 1 serial 2 tm",
-                "rawAB",
-                "-",
-            ],
-        ),
-        (
-            5,
-            vec![
-                "receive 0",
-                "tm cash 1",
-                "retire 0 cash 1",
-                "pledge 0 cash 1 2",
-            ],
-        ),
-        (
-            6,
-            vec![
-                "receive 0 cash",
-                "receive 0 cash x 1",
-                "pledge 0",
-                "pledge 0 0",
-                "pledge 0 +1",
-                "margin 0 10000000000001",
-                "receive 0 cash 1 deposits 0",
-                "margin 0 00000000000000001",
-                "pledge 0 cash 1",
-                "tm cash",
-            ],
-        ),
-        (
-            30,
-            vec![
-                "tm 0 0",
-                "tm x",
-                "margin 0 1 2",
-                "receive 0 gold 1",
-                "receive 0 1",
-                "receive 0 cash 1 cash 2",
-                "receive 0 deposits 1 cash 2",
-                "receive 0 cash 0 1",
-                "raw 012",
-                "raw 01 2 3",
-                "raw 01x",
-                "tm\u{b}",
-            ],
-        ),
-        (
-            31,
-            vec![
-                "serial",
-                "serial x tm",
-                "serial 65536 tm",
-                "serial 00000000000000001 tm",
-            ],
-        ),
-        (32, vec!["raw", "raw 0", "raw 0 1", "raw x0", "raw # 00"]),
-        (
-            33,
-            vec![
-                "client",
-                "retire x",
-                "client 65536",
-                "receive cash 1",
-                "tm 65536",
-                "cp 00000000000000000",
-            ],
-        ),
-    ] {
-        for line in lines {
-            assert_eq!(fault(line.as_bytes()), number, "{line}");
+    for row in FAULTS.lines() {
+        let (number, lines) = row.split_once(' ').unwrap();
+        for line in lines.split('|') {
+            assert_eq!(fault(line.as_bytes()).to_string(), number, "{line}");
         }
     }
     assert_eq!(fault(b"\xFF"), 4);
     assert_eq!(fault(b"tm \x00"), 30);
+}
+
+/// A capital ends a word.
+#[test]
+fn small_letters() {
+    assert_eq!(written("rawAB\nrawE0 ff"), [0xAB, 0xE0, 0xFF]);
+    assert_eq!(written("serial5tm6"), written("serial 5 tm 6"));
+}
+
+/// Stories may say bad records in words, but whole ones.
+#[test]
+fn records_that_are_no_good_ones() {
+    let said = |line: &str| text::any_bytes(line.as_bytes(), 0);
+    assert_eq!(said("retire 3 deposits 0").unwrap().len(), 14);
+    assert_eq!(said("pledge 3 cash 5 0").unwrap().len(), 22);
+    for line in ["pledge 3", "tm cash", "margin 3 00000000000000000"] {
+        assert_eq!(said(line), Err(Fault::Amount), "{line}");
+    }
+    assert_eq!(said("pledge 3 0 x"), Err(Fault::More));
 }
 
 #[test]

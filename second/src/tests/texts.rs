@@ -11,6 +11,7 @@ use crate::make::texts::{all, make, whole_round};
 use crate::programs;
 use crate::rng::Rng;
 use crate::table::{Table, LIVE};
+use std::collections::BTreeSet;
 use std::ffi::OsString;
 
 /// Every way of saying every kind, dressed in many ways.
@@ -35,6 +36,13 @@ fn every_fault_has_a_kind() {
     faults.dedup();
     faults.retain(|&fault| fault != 0);
     assert_eq!(faults, [4, 5, 6, 30, 31, 32, 33, 34]);
+}
+
+/// Two kinds of one name would be met as one.
+#[test]
+fn every_kind_has_its_name() {
+    let kinds: BTreeSet<&str> = all().iter().map(|case| case.kind).collect();
+    assert_eq!(kinds.len(), all().len());
 }
 
 /// Over a whole round each kind decides a text at least once.

@@ -7,8 +7,12 @@ use crate::refusal::Refusal;
 
 type Said = Result<Vec<u8>, Fault>;
 
-/// The bytes of a line. A record that reads whole is judged by document 01's
-/// 4, 5, 6.
+/// An amount that is missing or has too many digits "counts as out of range".
+/// No number of 16 digits is this one.
+const NO_AMOUNT: u64 = u64::MAX;
+
+/// The bytes of a line. "What was read so far is judged as a record by document
+/// 01's 4, 5, 6."
 pub fn line_bytes(line: &[u8], running: u16) -> Said {
     bytes_if(line, running, |record| match record.fault() {
         None => Ok(()),
@@ -18,9 +22,12 @@ pub fn line_bytes(line: &[u8], running: u16) -> Said {
 }
 
 /// The same for stories and tests, where words also say records that are no
-/// good ones.
+/// good ones, if every amount is there.
 pub fn any_bytes(line: &[u8], running: u16) -> Said {
-    bytes_if(line, running, |_| Ok(()))
+    bytes_if(line, running, |record| {
+        let is_whole = !record.amounts.contains(&NO_AMOUNT);
+        is_whole.then_some(()).ok_or(Fault::Amount)
+    })
 }
 
 fn bytes_if(line: &[u8], running: u16, judge: fn(&Values) -> Result<(), Fault>) -> Said {
@@ -37,6 +44,7 @@ fn bytes_if(line: &[u8], running: u16, judge: fn(&Values) -> Result<(), Fault>) 
     };
     let record = record(&mut scan, serial)?;
     judge(&record)?;
+    nothing_more(&mut scan)?;
     let mut bytes = Vec::new();
     record.lay(&mut bytes);
     Ok(bytes)
@@ -59,8 +67,8 @@ fn nothing_more(scan: &mut Scan) -> Result<(), Fault> {
     scan.is_at_end().then_some(()).ok_or(Fault::More)
 }
 
-/// The first thing that is missing or wrong decides. Kinds are read of every
-/// word; whether they suit it is judged once nothing more comes.
+/// "The four kinds are tried in order after every word, each present or not, then
+/// N where the code names pledged or margin."
 fn record(scan: &mut Scan, serial: u16) -> Result<Values, Fault> {
     let word = scan.word();
     let place = CODE_WORDS.iter().position(|known| known.as_bytes() == word);
@@ -73,28 +81,32 @@ fn record(scan: &mut Scan, serial: u16) -> Result<Values, Fault> {
     };
     for (kind, word) in KIND_WORDS.iter().enumerate() {
         if scan.takes(word) {
-            put_amount(&mut record, kind, scan)?;
+            put_amount(&mut record, kind, scan);
         }
     }
     match code {
-        PLEDGE | UNPLEDGE | REVALUE => put_amount(&mut record, PLEDGED, scan)?,
-        SET_MARGIN | REVISE => put_amount(&mut record, MARGIN, scan)?,
+        PLEDGE | UNPLEDGE | REVALUE => put_amount(&mut record, PLEDGED, scan),
+        SET_MARGIN | REVISE => put_amount(&mut record, MARGIN, scan),
         _ => {}
     }
-    nothing_more(scan)?;
     Ok(record)
 }
 
-/// "With `tm` and `cp` it may be left out: 0."
+/// With `tm` and `cp` a number that is no account "counts as left out": it isn't
+/// passed, so it is something more in the line.
 fn account(scan: &mut Scan, code: u8) -> Result<u16, Fault> {
-    if matches!(code, OPEN_TM | OPEN_CP) && !scan.has_digits() {
-        return Ok(0);
+    let before = *scan;
+    match (scan.short(), code) {
+        (Some(account), _) => Ok(account),
+        (None, OPEN_TM | OPEN_CP) => {
+            *scan = before;
+            Ok(0)
+        }
+        _ => Err(Fault::NoAccount),
     }
-    scan.short().ok_or(Fault::NoAccount)
 }
 
-fn put_amount(record: &mut Values, bit: usize, scan: &mut Scan) -> Result<(), Fault> {
-    record.amounts[bit] = scan.number().ok_or(Fault::Amount)?;
+fn put_amount(record: &mut Values, bit: usize, scan: &mut Scan) {
+    record.amounts[bit] = scan.number().unwrap_or(NO_AMOUNT);
     record.mark |= 1 << bit;
-    Ok(())
 }

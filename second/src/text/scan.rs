@@ -3,6 +3,7 @@
 /// "A number is 1 to 16 decimal digits, zeros in front allowed."
 const MOST_DIGITS: usize = 16;
 
+#[derive(Clone, Copy)]
 pub struct Scan<'a> {
     left: &'a [u8],
 }
@@ -36,24 +37,21 @@ impl<'a> Scan<'a> {
         &left[..end.unwrap_or(left.len())]
     }
 
-    /// All letters that come next; nothing where none does.
+    /// All small letters that come next; nothing where none does. That more than
+    /// 12 are no word needs no look: no word of the form is as long.
     pub fn word(&mut self) -> &'a [u8] {
-        let word = self.run(u8::is_ascii_alphabetic);
+        let word = self.run(u8::is_ascii_lowercase);
         self.left = &self.left[word.len()..];
         word
     }
 
     /// Passes this word, if it is what comes next.
     pub fn takes(&mut self, word: &str) -> bool {
-        let is_next = self.run(u8::is_ascii_alphabetic) == word.as_bytes();
+        let is_next = self.run(u8::is_ascii_lowercase) == word.as_bytes();
         if is_next {
             self.left = &self.left[word.len()..];
         }
         is_next
-    }
-
-    pub fn has_digits(&mut self) -> bool {
-        !self.run(u8::is_ascii_digit).is_empty()
     }
 
     /// All digits that come next; None where they are none or too many.

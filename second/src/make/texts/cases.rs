@@ -41,6 +41,7 @@ const CASES: &str = "\
 0 raw of 1 byte: raw {1}
 0 raw of 69 bytes: raw {69}
 0 raw of 70 bytes: raw {70}
+0 raw without a blank: rawAB|rawFF{3}|raw0e 00|rawC0 {69}
 0 raw of any bytes: raw {3}|raw {4}|raw {6}|raw {14}{7}
 0 raw with the running serial: raw {2}^{2}|raw {2} ^ {10}|raw {2}^
 0 raw of a bad record: raw 0810 ^ 0003 0000000000000000|raw 0e00^0000|raw 0B01 ^ {2} {8}
@@ -49,38 +50,50 @@ const CASES: &str = "\
 0 an empty line: |
 0 blanks alone:  |  \t\r |\r|\t
 4 another word: rent @|receiver @ cash $|t|raws 00|seria 5 tm|cash $
-4 capitals: TM|Client @|Raw 00|SERIAL % tm
-4 letters behind a word: tmx|tmX|rawAB|pledgex @ $|serialtm
+4 capitals: TM|Client @|Raw 00|SERIAL % tm|serial % TM
+4 small letters behind a word: tmx|rawab|rawaB|pledgex @ $|serialtm
+4 12 letters: receivehandb @ cash $|rawrawrawraw 00|serialserial % tm|tmtmtmtmtmtm
+4 13 letters: receivehandba @ cash $|rawrawrawrawr 00|serialserials % tm|abcdefghijklmABC
 4 no word: 5|-|$ tm|\0|\u{b}tm|\u{e9}|*
 4 no word after a serial: serial %|serial % 5|serial % -|serial % rent @
 4 raw or serial after a serial: serial % raw 00|serial % serial % tm
 5 kinds missing: receive @|handback @|serial % allocate @|release @
 5 kinds of another word: tm cash $|client @ deposits $|pledge @ cash $ $|retire @ cash 0
-6 a kind's amount missing: receive @ cash|release @ cash deposits $|tm cash|handback @ guarantees x
-6 an amount missing: pledge @|unpledge @ x|margin @|revalue @ -1|revise @ +1|pledge @ cash $
+5 another word's kinds without an amount: tm cash|cp @ securities x|pledge @ cash $|pledge @ cash|revise @ deposits x
+5 another word's kinds with a bad amount: retire @ cash 00000000000000000|margin @ cash 0 10000000000001
+5 another word's kinds and more: tm cash $ $|client @ cash $ x|pledge @ cash $ $ $|retire @ deposits cash $
+5 another kind alone: receive @ gold $|release @ cashx $|allocate @ CASH $|handback @ x|receive @ -
+5 13 letters for a kind: receive @ cashcashcashc $|release @ securitiesabc $
+5 an amount without its kind: receive @ $|handback @ 0|release @ $ cash $|allocate @ 00000000000000000
+6 a kind's amount missing: receive @ cash|release @ cash deposits $|handback @ guarantees x
+6 a capital for an amount: receive @ cashX $|pledge @ X|release @ cash $ securitiesX
+6 an amount missing: pledge @|unpledge @ x|margin @|revalue @ -1|revise @ +1
 6 an amount of 0: pledge @ 0|unpledge @ 000|receive @ cash 0|release @ cash $ securities 0
 6 a paisa above the ceiling: margin @ 10000000000001|receive @ deposits 10000000000001
 6 16 digits above the ceiling: margin @ 9999999999999999|receive @ cash 1000000000000000
 6 17 digits of an amount: margin @ 00000000000000000|receive @ cash 12345678901234567
+6 a bad amount and more: pledge @ 0 x|receive @ cash 0 5|receive @ deposits 0 cash $|revise @ x 5
 30 more behind a record: tm 0 0|tm x|cp @ -|margin @ $ $|retire @ $|tm \0|retire @ \u{c}
-30 more beside another fault: pledge @ 0 x|receive @ cash 0 5|receive @ x|tm cash $ $
+30 a capital behind a word: tmX|cpCASH 5|tmX 5|serial % tmTM|retire @ X
+30 account 65536 where none need be: tm 65536|cp 65536|tm 9999999999999999|cp 65536 cash $
+30 17 digits where no account need be: tm 00000000000000000|cp 12345678901234567 5
 30 a fraction: margin @ 5.5|pledge @ 1,000|retire 5.0
-30 another kind: receive @ gold $|allocate @ cash $ gold $|release @ cashx $
-30 an amount without its kind: receive @ $|handback @ cash $ $
+30 another kind behind one: allocate @ cash $ gold $|receive @ cash $ securitiesabc $|release @ cash $ X
+30 a kind behind an amount: pledge @ $ cash $|margin @ 0 cash 0|revise @ $ cash
+30 an amount without its kind behind one: handback @ cash $ $|release @ securities $ 0
 30 kinds out of order: receive @ deposits $ cash $|release @ cash $ securities $ deposits $
 30 a kind twice: receive @ cash $ cash $|handback @ cash $ securities $ securities $
 30 raw of 71 bytes: raw {71}|raw {70} {1}
 30 odd digits: raw {1}0|raw {69}7|raw {70}1|raw 12 3 4
 30 more behind bytes: raw {1}x|raw {6} -|raw {70} g0|raw {2} tm
-31 no serial: serial|serial tm|serial x|serial -1 tm|serial # 5
+31 no serial: serial|serialX|serial tm|serial x|serial -1 tm|serial # 5
 31 serial 65536: serial 65536 tm|serial 65536|serial 9999999999999999 tm
 31 17 digits of a serial: serial 00000000000000001 tm|serial 12345678901234567 rent
-32 no bytes: raw|raw # 00|raw x|raw g0|raw -
+32 no bytes: raw|raw # 00|raw x|raw g0|raw -|rawX|rawG0
 32 one digit: raw 0|raw 7 7|raw 5x
-33 no account: client|receive cash $|pledge x $|margin -1 5|serial % retire|revise
+33 no account: client|clientX 5|receive cash $|pledge x $|margin -1 5|serial % retire|revise
 33 account 65536: client 65536|pledge 65536 $|receive 9999999999999999 cash $
-33 17 digits of an account: client 00000000000000001|margin 12345678901234567 0
-33 account 65536 where none need be: tm 65536|cp 65536|tm 00000000000000000";
+33 17 digits of an account: client 00000000000000001|margin 12345678901234567 0";
 
 const LONG: [(u8, &str, usize); 4] = [
     (0, "a line of 4,095 bytes", LINE_MOST - 1),
