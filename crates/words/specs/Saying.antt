@@ -4,7 +4,6 @@ use mathlib.Core.List.{List}
 use Prim.Native.Nat.{ℕ, _+_, _*_}
 use lib.Dec.{leb, eqb}
 use Rattle.sums.specs.Choice.{pick, unlessRefused}
-use Rattle.dayfile.specs.declared.Record.{Record}
 use Rattle.dayfile.specs.Records.{faultOf}
 use Rattle.dayfile.specs.Taking.{markOf}
 use Rattle.words.specs.declared.Got.{Got}
