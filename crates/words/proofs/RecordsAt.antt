@@ -1,10 +1,11 @@
 -- The record at a place of a day file.
-use mathlib.Core.List.{List, [], _∷_}
+use mathlib.Core.Bool.{Bool, true, false, _||_}
+use mathlib.Core.List.{List, [], _∷_, _++_, append-nil}
 use mathlib.Core.Path.{_≡_, refl, sym, ap, _∙_}
 use Prim.Native.Nat.{ℕ, zero, suc, _+_, _-_, _≤_, _<_}
 use native.Mathlib.Omega.{arith}
 use lib.ListN.{length, take, drop, length-drop, drop-of-length-le}
-use lib.Seq.{drop-drop, take-all}
+use lib.Seq.{drop-drop, take-all, length-take-le, take-append-le, drop-append-le}
 use Rattle.numbers.specs.Bytes.{Bytes}
 use Rattle.numbers.proofs.Numbers.{bytes-drop}
 use Rattle.dayfile.specs.declared.Record.{Record}
@@ -12,7 +13,7 @@ use Rattle.dayfile.specs.declared.Found.{Found}
 use Rattle.dayfile.specs.declared.Found.the-variants.{End as NoBytes, Cut as TooFew, Whole}
 use Rattle.dayfile.specs.Reading.{foundAt}
 use Rattle.dayfile.proofs.Places.{next-least, next-within, end-at, at-end}
-use Rattle.dayfile.proofs.Growing.{further, found-further}
+use Rattle.dayfile.proofs.Growing.{further, found-further, found-longer}
 use Rattle.words.specs.declared.piece.End.{End}
 use Rattle.words.specs.Texts.{recordsBy, recordsTo, recordsOf}
 use Rattle.words.specs.Pieces.{isWhole}
@@ -50,6 +51,34 @@ pub records-cut : (s : List ℕ) → foundAt s 0 ≡ TooFew → recordsOf s ≡ 
 unfolding recordsTo recordsBy
 records-cut [] f = absurd (let e = at-end [] 0 (omega arith) in let z : _≡_ {A = ℕ} 0 1 = cc in omega arith)
 records-cut (b ∷ s) f = rw f
+
+last-one : (last : Bool) → (last || false) ≡ true → last ≡ true
+last-one true e = refl
+last-one false e = e
+
+-- it stays the first where more follows
+pub records-stay : (last : Bool) (more : List ℕ) → (last ≡ true → more ≡ []) → (t x : List ℕ) (xs : List (List ℕ)) → recordsOf t ≡ x ∷ xs → (last || isWhole (foundAt x 0)) ≡ true
+    → (recordsOf (t ++ more) ≡ x ∷ recordsOf (drop (length x) t ++ more)) × (recordsOf (drop (length x) t) ≡ xs)
+records-stay last more m t x xs e r = by (foundAt t 0) refl
+  where
+    at-last : last ≡ true → (recordsOf (drop (length x) t) ≡ xs) → (recordsOf (t ++ more) ≡ x ∷ recordsOf (drop (length x) t ++ more)) × (recordsOf (drop (length x) t) ≡ xs)
+    at-last u f = (rw (m u, append-nil t, append-nil (drop (length x) t), f) e, f)
+
+    by : (f : Found) → foundAt t 0 ≡ f → (recordsOf (t ++ more) ≡ x ∷ recordsOf (drop (length x) t ++ more)) × (recordsOf (drop (length x) t) ≡ xs)
+    by NoBytes f = absurd (let z : recordsOf t ≡ [] = no-record t 0 (end-at t 0 f) in let c : _≡_ {A = ℕ} 0 1 = cc in omega arith)
+    by TooFew f =
+        let c = records-cut t f in
+        let ex : x ≡ t = cc in
+        let exs : xs ≡ [] = cc in
+        at-last (last-one last (rw (ex, f) at r)) (rw (ex, exs) (no-record t (length t) (omega arith)))
+    by (Whole q n) f =
+        let c = records-whole t f in
+        let ex : x ≡ take n t = cc in
+        let exs : recordsOf (drop n t) ≡ xs = cc in
+        let w = next-within t 0 f in
+        let k : length x ≡ n = ap length ex ∙ length-take-le n t w in
+        let g = records-whole (t ++ more) (found-longer t more 0 q n f) in
+        rw k (g ∙ rw (take-append-le n t more w, drop-append-le n t more w, ← ex), exs)
 
 -- ---- at a place
 
