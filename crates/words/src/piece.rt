@@ -66,8 +66,8 @@ fn line_into(line: &[u8], running: u16, room: &mut [u8], at: usize) -> Step
     }
 }
 
-// Puts the bytes that the lines of a piece of text mean at a room's start: of as many lines as the room surely holds, 70 bytes for each, up to the first that says nothing. A line without its newline
-// is taken only where the piece is the text's last.
+// Puts the bytes that the lines of a piece of text mean at a room's start: of as many lines as the room surely holds, 70
+// bytes for each, up to the first that says nothing. A line without its newline is taken only where the piece is the last.
 pub fn bytes_of_text(text: &[u8], last: bool, running: u16, room: &mut [u8]) -> Taken
     ensures { λ r. ⌜ r ≡ toldOf (bytesTaken last (length (now (room .entry))) running (now (text .entry))) ⌝ }
     ensures { λ _. ⌜ now (room .exit) ≡ atStart (bytesTaken last (length (now (room .entry))) running (now (text .entry)) .bytes) (now (room .entry)) ⌝ }
@@ -138,7 +138,8 @@ fn record_into(bytes: &[u8], running: u16, room: &mut [u8], at: usize) -> Step
     Step::Puts(after, next)
 }
 
-// Puts the lines of the records of a piece of a day file at a room's start: of as many records as the room surely holds, 205 bytes for each. A cut end is taken only where the piece is the file's last.
+// Puts the lines of the records of a piece of a day file at a room's start: of as many records as the room surely holds,
+// 205 bytes for each. A cut end is taken only where the piece is the last.
 pub fn text_of_bytes(bytes: &[u8], last: bool, running: u16, room: &mut [u8]) -> Taken
     ensures { λ r. ⌜ r ≡ toldOf (textTaken last (length (now (room .entry))) running (now (bytes .entry))) ⌝ }
     ensures { λ _. ⌜ now (room .exit) ≡ atStart (textTaken last (length (now (room .entry))) running (now (bytes .entry)) .bytes) (now (room .entry)) ⌝ }
