@@ -14,6 +14,7 @@ pub mod Needs
 pub mod ExtremeLoss
 pub mod Obligations
 pub mod WouldHavePassed
+pub mod InWords
 pub mod OneResult
 pub mod SystemAside
 pub mod Quick
