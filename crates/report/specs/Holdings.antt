@@ -29,8 +29,8 @@ bytesIn (letter then rest) = code letter ∷ bytesIn rest
 unfoldable pub usedAt : View → ℕ → ℕ
 usedAt v i = pick (hasMode v i) (useOf v i) (10 * v .margin i)
 
--- a use in percent of the collateral, with one decimal, rounded down: ten times the use is 100 percent of so many collaterals. Nothing used is 0 of any
--- collateral; otherwise there is no percent of none
+-- how many tenths of a percent of the collateral are used, rounded down: use is in tenths, so that ten collaterals are 100 percent. Nothing used is 0 of any
+-- collateral; what is used of none is no percent
 unfoldable pub percentOf : ℕ → ℕ → Percent
 percentOf used collateral = pick (eqb used 0) (Tenths 0) (pick (eqb collateral 0) Without (Tenths (100 * used / collateral)))
 
