@@ -278,6 +278,10 @@ of-exposure-lists-exposures κs a x y u v p q = (one-result (p .0) (q .0), ap (�
 pub of-report-standings-text : OneResultOnly report.standings_text.ended report.standings_text.Reads.Learnt
 of-report-standings-text κs a x y u v p q = (one-result (p .0) (q .0), ap (λ room. (tt, (room, tt))) (one-result (p .1) (q .1)))
 
+-- how long the lines of all rows held are, and the room with them
+pub of-report-holdings-text : OneResultOnly report.holdings_text.ended report.holdings_text.Reads.Learnt
+of-report-holdings-text κs a x y u v p q = (one-result (p .0) (q .0), ap (λ room. (tt, (room, tt))) (one-result (p .1) (q .1)))
+
 -- how long the needs' lines are, and the room with them
 pub of-report-needs-text : OneResultOnly report.needs_text.ended report.needs_text.Reads.Learnt
 of-report-needs-text κs a x y u v p q = (one-result (p .0) (q .0), ap (λ room. (tt, (room, tt))) (one-result (p .1) (q .1)))

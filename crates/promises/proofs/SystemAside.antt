@@ -69,6 +69,13 @@ pub of-report-standings :
     (x .count ≡ y .count → x ≡ y) × (x .failed ≡ false → y .failed ≡ false → x ≡ y)
 of-report-standings κs a x y e p q = as-taken x y _ p q
 
+-- of the lines of all rows held
+pub of-report-holdings :
+    (κs : Lfts 1) (a : Args report.holdings.signature κs) (x y : Res report.holdings.signature κs) (e : AtExit report.holdings.ended κs)
+    (p : report.holdings.Reads.Learnt κs a x e) (q : report.holdings.Reads.Learnt κs a y e) →
+    (x .count ≡ y .count → x ≡ y) × (x .failed ≡ false → y .failed ≡ false → x ≡ y)
+of-report-holdings κs a x y e p q = as-taken x y _ p q
+
 -- of the needs' lines
 pub of-report-needs :
     (κs : Lfts 1) (a : Args report.needs.signature κs) (x y : Res report.needs.signature κs) (e : AtExit report.needs.ended κs)

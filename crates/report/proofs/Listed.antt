@@ -8,6 +8,7 @@ use lib.ListN.{length, getD}
 use native.Mathlib.Omega.{arith}
 use borrow.Author.Tests.{lt-ltb}
 use Rattle.sums.specs.Choice.{pick}
+use Rattle.rows.specs.declared.Row.{Row}
 use Rattle.rows.specs.declared.Book.{Book}
 use Rattle.book.specs.declared.Figures.{Figures}
 use Rattle.rows.specs.View.{need, blocked, deemed, free}
@@ -23,12 +24,15 @@ use Rattle.book.specs.Facts.{Sound}
 use Rattle.book.proofs.SoundTest.{sound→}
 use Rattle.book.proofs.RowTests.{sound-ranged}
 use Rattle.book.proofs.StandingRefusals.{unsound-refused, dead-refused, live-answered, standing-by, shown}
-use Rattle.report.specs.Reports.{accounts, standingLines, standingsText}
-use Rattle.report.specs.Inner.{figuresBy, figuresFrom, Tested}
+use Rattle.report.specs.Reports.{accounts, lineAt, linesOf, standingsText}
+use Rattle.report.specs.declared.listing.Sheet.{Sheet}
+use Rattle.report.specs.declared.listing.Sheet.the-variants.{Standings, Holdings}
+use Rattle.report.specs.Holdings.{holdingAt}
+use Rattle.report.specs.Inner.{figuresBy, figuresFrom, Tested, Beside, Shown, lineBy, lineOf}
 
-pub every-account : (b : Book) → Sound b → standingsText b ≡ standingLines b (b .count)
+pub every-account : (b : Book) → Sound b → standingsText b ≡ linesOf (lineAt b) (b .count)
 unfolding standingsText
-every-account b s = let e : accounts (b .count) ≡ b .count = omega (arith, s .most) in ap (standingLines b) e
+every-account b s = let e : accounts (b .count) ≡ b .count = omega (arith, s .most) in ap (linesOf (lineAt b)) e
 
 module _ (b : Book) (ok : soundB b ≡ true) (i : ℕ) (held : i < b .count) where
   -- the number of a row held names that row
@@ -71,8 +75,23 @@ tested-standing b true needs h i l =
     ap (λ (f : Figures). pick (rowAt b i .live) f (noFigures 7)) (from-need b (sound→ b (h .is)) i _ (h .each refl i l))
     ∙ sym (figures-of-row b (h .is) i (omega (arith, h .held refl)))
 
--- and each row's amounts in range
-pub tested-range : (t : Table) (sound : Bool) (needs : List ℕ) → Tested (turnedBack t) sound needs → (i : ℕ) → i < length needs → sound ≡ true → InRange (rowIn (marksOf t) (t .amounts) i)
-tested-range t sound needs h i l e =
-    let s = sound→ (turnedBack t) (h .is ∙ e) in
-    subst InRange (row-in (marksOf t) (t .amounts) i (omega (arith, s .most, h .held e))) (sound-ranged _ s .ranges i (omega (arith, h .held e)))
+-- each row's amounts in range
+sound-range : (t : Table) → soundB (turnedBack t) ≡ true → (i : ℕ) → i < t .count → InRange (rowIn (marksOf t) (t .amounts) i)
+sound-range t e i l =
+    let s = sound→ (turnedBack t) e in
+    subst InRange (row-in (marksOf t) (t .amounts) i (omega (arith, s .most))) (sound-ranged _ s .ranges i l)
+
+module _ (t : Table) (sound : Bool) (list : List ℕ) where
+  -- what a row's line asks of it
+  pub row-shown : (sheet : Sheet) → Beside sheet (turnedBack t) sound list → (i : ℕ) → i < length list
+      → Shown sheet sound (rowIn (marksOf t) (t .amounts) i) (getD list i 0)
+  row-shown Standings h i l = λ e. sound-range t (h .is ∙ e) i (omega (arith, h .held e))
+  row-shown Holdings h i l = (sound-range t (h .is) i (omega (arith, h .held)), h .most i l)
+
+  -- by what the list has beside it, it is the line of the row at place i
+  pub line-is : (sheet : Sheet) → Beside sheet (turnedBack t) sound list → (i : ℕ) {number tm : ℕ} {r : Row} → i < length list → i < 256
+      → number ≡ getD (t .numbers) i 0 → r ≡ rowIn (marksOf t) (t .amounts) i → tm ≡ getD (t .numbers) (r .tm) 0
+      → lineBy sheet number r tm sound (getD list i 0) (getD (t .modes) i false) (eqb i 0) ≡ lineOf sheet (turnedBack t) i
+  unfolding lineAt holdingAt
+  line-is Standings h i l k n r m = let e = row-in (marksOf t) (t .amounts) i k in let q = tested-standing (turnedBack t) sound list h i l in cc
+  line-is Holdings h i l k n r m = let e = row-in (marksOf t) (t .amounts) i k in let q = h .each i l in cc

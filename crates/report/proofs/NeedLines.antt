@@ -15,12 +15,12 @@ use Rattle.book.specs.Sound.{soundB}
 use Rattle.book.specs.NeedsListed.{needsRefusal, needsRoom, allNeeds}
 use Rattle.book.proofs.SoundTest.{sound→}
 use Rattle.book.proofs.NeedsAnswers.{needs-unsound, needs-given}
-use Rattle.report.specs.Reports.{accounts, needLines, needsText}
+use Rattle.report.specs.Reports.{accounts, linesOf, needLines, needsText}
 use Rattle.report.specs.Inner.{Tested}
 
 -- the same needs give the same lines
 lines-as : (numbers f g : ℕ → ℕ) (n : ℕ) → ((i : ℕ) → i < n → f i ≡ g i) → needLines numbers f n ≡ needLines numbers g n
-unfolding needLines
+unfolding linesOf
 lines-as numbers f g zero h = refl
 lines-as numbers f g (suc n) h = let e = lines-as numbers f g n (λ i l. h i (omega arith)) in let q = h n (omega arith) in rw (e, q)
 

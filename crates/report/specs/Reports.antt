@@ -1,5 +1,5 @@
--- What the programs `standings`, `needs` and `closeouts` print behind the closing line, byte by byte. Document 01 has none of them;
--- their lines are laid down in docs/DECISIONS.md, 29.
+-- What the programs `standings`, `needs` and `closeouts` print behind the closing line, byte by byte (`holdings`: Holdings.antt). Document 01 has none of
+-- them; their lines are laid down in docs/DECISIONS.md, 29.
 use mathlib.Core.Bool.{Bool, true, false}
 use mathlib.Core.List.{List, [], _∷_, _++_}
 use Prim.Native.Nat.{ℕ, zero, suc, _+_, _*_, _/_, min}
@@ -29,39 +29,40 @@ abbrev pub modeWord : Bool → List ℕ
 modeWord true = 111 ∷ 110 ∷ []  -- o n
 modeWord false = 111 ∷ 102 ∷ 102 ∷ []  -- o f f
 
--- its TM's number or 0, the five figures
-abbrev pub numbersOf : ℕ → Figures → List ℕ
-numbersOf tm f = tm ∷ f .collateral ∷ f .need ∷ f .blocked ∷ f .deemed ∷ f .free ∷ []
+-- what an account's line begins with: number, `cm`/`tm`/`client`/`cp`, `live`/`retired`, its TM or 0
+unfoldable pub lineFront : ℕ → Row → ℕ → List ℕ
+lineFront number row tm =
+    followed number space ++ (andSpace (sortWord (row .sort)) ++ (andSpace (stateWord (row .live)) ++ followed tm space))
 
--- a line per account: number, `cm`/`tm`/`client`/`cp`, `live`/`retired`, its TM or 0, the five figures, `on`/`off`;
--- document 02, K8: the shortfall "is shown in a standing of account 0", behind them as one more number
+-- the lines of the first n rows, in rising number
+unfoldable pub linesOf : (ℕ → List ℕ) → ℕ → List ℕ
+linesOf line zero = []
+linesOf line (suc n) = linesOf line n ++ line n
+
+-- the five figures
+abbrev pub fiveOf : Figures → List ℕ
+fiveOf f = f .collateral ∷ f .need ∷ f .blocked ∷ f .deemed ∷ f .free ∷ []
+
+-- a line per account: the five figures, `on`/`off`; document 02, K8: the shortfall "is shown in a standing of account 0", behind them as one more number
 unfoldable pub standingLine : ℕ → Row → ℕ → Figures → List ℕ
 standingLine number row tm f =
-    followed number space
-    ++ (andSpace (sortWord (row .sort))
-    ++ (andSpace (stateWord (row .live)) ++ (andSpaces (numbersOf tm f) ++ (andSpace (modeWord (f .mode)) ++ followed (f .shortfall) newline))))
+    lineFront number row tm ++ (andSpaces (fiveOf f) ++ (andSpace (modeWord (f .mode)) ++ followed (f .shortfall) newline))
 
 -- document 02, K11: the line of the row at place i, by its number and its TM's; the TM word of a row that is no client is 0, as is the number there
 unfoldable pub lineAt : Book → ℕ → List ℕ
 lineAt b i = standingLine (numberAt b i) (rowAt b i) (numberAt b (rowAt b i .tm)) (standingOf b (numberAt b i))
 
--- the lines of the first n rows, in rising number
-unfoldable pub standingLines : Book → ℕ → List ℕ
-standingLines b zero = []
-standingLines b (suc n) = standingLines b n ++ lineAt b n
-
 -- `standings`: the closing line, then a line per account
 unfoldable pub standingsText : Book → List ℕ
-standingsText b = standingLines b (accounts (b .count))
+standingsText b = linesOf (lineAt b) (accounts (b .count))
 
 -- a line per account: number, need
 abbrev pub needLine : ℕ → ℕ → List ℕ
 needLine number n = spaced (number ∷ n ∷ [])
 
--- the lines of the first n rows, in rising number: each one's number and need
-unfoldable pub needLines : (ℕ → ℕ) → (ℕ → ℕ) → ℕ → List ℕ
-needLines numbers needs zero = []
-needLines numbers needs (suc n) = needLines numbers needs n ++ needLine (numbers n) (needs n)
+-- of the first n rows: each one's number and need
+abbrev pub needLines : (ℕ → ℕ) → (ℕ → ℕ) → ℕ → List ℕ
+needLines numbers needs n = linesOf (λ i. needLine (numbers i) (needs i)) n
 
 -- document 02, K3: "all needs in one list"; `needs`: the closing line, then a line per account. A book that is not sound has no line
 unfoldable pub needsText : Book → List ℕ
@@ -72,10 +73,9 @@ unfoldable pub lossLine : List ℕ → List ℕ → List ℕ → ℕ → List �
 lossLine numbers losses amounts i =
     spaced (getD numbers i 0 ∷ getD losses i 0 ∷ getD amounts (4 * i) 0 ∷ getD amounts (4 * i + 1) 0 ∷ getD amounts (4 * i + 2) 0 ∷ getD amounts (4 * i + 3) 0 ∷ [])
 
--- the lines of the first n rows, in rising number
-unfoldable pub lossLines : List ℕ → List ℕ → List ℕ → ℕ → List ℕ
-lossLines numbers losses amounts zero = []
-lossLines numbers losses amounts (suc n) = lossLines numbers losses amounts n ++ lossLine numbers losses amounts n
+-- of the first n rows
+abbrev pub lossLines : List ℕ → List ℕ → List ℕ → ℕ → List ℕ
+lossLines numbers losses amounts n = linesOf (lossLine numbers losses amounts) n
 
 -- each account that has a loss and four amounts
 abbrev pub listed : List ℕ → List ℕ → ℕ

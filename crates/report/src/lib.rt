@@ -7,6 +7,7 @@ ghost use Rattle.lines.specs.Lines.{closingLineOf};
 ghost use Rattle.sums.specs.Room.{atStart};
 ghost use Rattle.table.specs.Words.{turnedBack};
 ghost use Rattle.report.specs.Reports.{accounts as Reports·accounts, standingsText, needsText, closeOutText};
+ghost use Rattle.report.specs.Holdings.{holdingsText};
 ghost use Rattle.report.specs.Inner.{Tested};
 pub use records::Closing;
 use rows::needs::zeros;
@@ -14,6 +15,8 @@ pub use streams::Moved;
 use streams::standard::write_output;
 pub use table::Table;
 
+mod holding;
+mod listing;
 mod loss;
 mod need;
 mod standing;
@@ -66,6 +69,14 @@ pub fn standings_text(t: Table, room: &mut [u8; 65536]) -> usize
     standing::put_standings(room, t, n)
 }
 
+// The lines of all rows held, with what the book has of each and its use: how long they are, and the lines in the room.
+pub fn holdings_text(t: Table, room: &mut [u8; 65536]) -> usize
+    ensures { λ n. ⌜ n ≡ length (holdingsText (turnedBack t)) ⌝ }
+    ensures { λ _. ⌜ now (room .exit) ≡ atStart (holdingsText (turnedBack t)) (now (room .entry)) ⌝ }
+{
+    holding::put_holdings(room, t)
+}
+
 // The lines of all accounts' needs: how long they are, and the lines in the room.
 pub fn needs_text(t: Table, room: &mut [u8; 65536]) -> usize
     ensures { λ n. ⌜ n ≡ length (needsText (turnedBack t)) ⌝ }
@@ -108,6 +119,16 @@ pub fn standings(program: &[u8], t: Table) -> Moved
 {
     let mut room = [0u8; 65536];
     let n = standings_text(t, &mut room);
+    write_output(program, &room[..n])
+}
+
+// Prints the lines of all rows held for the program named.
+pub fn holdings(program: &[u8], t: Table) -> Moved
+    ensures { λ m. ⌜ m .count ≤ length (holdingsText (turnedBack t)) ⌝ }
+    ensures { λ m. ⌜ m .failed ≡ ltb (m .count) (length (holdingsText (turnedBack t))) ⌝ }
+{
+    let mut room = [0u8; 65536];
+    let n = holdings_text(t, &mut room);
     write_output(program, &room[..n])
 }
 

@@ -6,7 +6,7 @@ use native.Mathlib.Numerals.{add-one}
 use native.Mathlib.Omega.{arith}
 use Rattle.text.specs.Inner.{Puts}
 use Rattle.text.proofs.Puts.{puts-none, and-then, puts-length}
-use Rattle.report.specs.Reports.{lossLine, lossLines}
+use Rattle.report.specs.Reports.{lossLine, lossLines, linesOf}
 use Rattle.report.proofs.loss.put_losses.Statement.{statement}
 use Rattle.report.proofs.loss.put_losses.Tie as tie
 
@@ -17,14 +17,14 @@ abbrev μ-loop : tie.MeasureT-loop
 μ-loop room₀ n numbers losses amounts at₀ i₀ room at i = n - i
 
 loop-holds : tie.Need-loop-holds Inv-loop μ-loop
-unfolding lossLines
+unfolding linesOf
 loop-holds c = (puts-none _ _ (omega arith) (omega arith), omega arith, omega arith)
 
 put-six-requires : tie.Need-put-six-requires Inv-loop μ-loop
 put-six-requires c κs = omega (arith, puts-length (c .before .before .before .before .before .before .before .before .loop .inv .0))
 
 loop-again : tie.Need-loop-again Inv-loop μ-loop
-unfolding lossLines lossLine
+unfolding linesOf lossLine
 loop-again c =
     let p = c .before .before in
     let n = p .before .before .before .before .before .before .before in

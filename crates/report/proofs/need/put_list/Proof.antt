@@ -7,7 +7,7 @@ use native.Mathlib.Omega.{arith}
 use lib.ListN.{length, getD}
 use Rattle.text.specs.Inner.{Puts}
 use Rattle.text.proofs.Puts.{puts-none, and-then, puts-length, puts-as}
-use Rattle.report.specs.Reports.{needLine, needLines}
+use Rattle.report.specs.Reports.{needLine, needLines, linesOf}
 use Rattle.report.proofs.need.put_list.Statement.{statement}
 use Rattle.report.proofs.need.put_list.Tie as tie
 
@@ -28,14 +28,14 @@ abbrev put : tie.After-slice-known2 Inv-loop μ-loop → tie.After-put-spaced In
 put c = c .before .before
 
 loop-holds : tie.Need-loop-holds Inv-loop μ-loop
-unfolding needLines
+unfolding linesOf
 loop-holds c = (puts-none _ _ (omega arith) (omega arith), omega arith, omega arith)
 
 put-spaced-requires : tie.Need-put-spaced-requires Inv-loop μ-loop
 put-spaced-requires c κs = omega (arith, puts-length (round (named c) .loop .inv .0))
 
 loop-again : tie.Need-loop-again Inv-loop μ-loop
-unfolding needLines
+unfolding linesOf
 loop-again c =
     let n = named (put c .before) in
     let l = round n .loop in

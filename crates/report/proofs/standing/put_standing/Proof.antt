@@ -12,18 +12,14 @@ returns c =
     let f = c .before .before in
     let m = f .before .before .before .before in
     let n = m .before .before .before .before in
-    let s = n .before .before .before .before in
-    let k = s .before .before .before .before in
-    let i = k .before .before .before .before .before in (
-      and-then _ _ (i .put-number .ensures .0)
-          (and-then _ _ (k .put-sort .ensures .0)
-          (and-then _ _ (s .put-state .ensures .0)
-          (and-then _ _ (n .put-numbers .ensures .0) (and-then _ _ (m .put-mode .ensures .0) (f .put-number2 .ensures .0))))),
+    let i = n .before .before .before .before in (
+      and-then _ _ (i .put-front .ensures .0)
+          (and-then _ _ (n .put-five .ensures .0) (and-then _ _ (m .put-mode .ensures .0) (f .put-number .ensures .0))),
       omega arith,
     )
 
 pub put-standing-spec : {M : Type 1} → statement M
 put-standing-spec =
     tie.close
-    (tie.spec (λ c κs. search needs) (λ c. search needs) (λ c κs. search needs) (λ c κs. search needs)
-    (λ c κs. search needs) (λ c κs. search needs) (λ c κs. search needs) (λ c. search needs) returns)
+    (tie.spec (λ c κs. search needs) (λ c κs. search needs) (λ c κs. search needs) (λ c κs. search needs) (λ c. search needs)
+    returns)

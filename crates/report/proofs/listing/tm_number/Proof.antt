@@ -1,10 +1,10 @@
--- `report::standing::tm_number` meets its contract: beyond the 256 there is 0.
+-- `report::listing::tm_number` meets its contract: beyond the 256 there is 0.
 use borrow.Author.Needs.{needs}
 use mathlib.Core.Path.{_≡_, sym}
 use native.Mathlib.Omega.{arith}
 use lib.ListN.{length, List·getD-eq-default}
-use Rattle.report.proofs.standing.tm_number.Statement.{statement}
-use Rattle.report.proofs.standing.tm_number.Tie as tie
+use Rattle.report.proofs.listing.tm_number.Statement.{statement}
+use Rattle.report.proofs.listing.tm_number.Tie as tie
 
 returns-2 : tie.Need-returns-2
 returns-2 c =

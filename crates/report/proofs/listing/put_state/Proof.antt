@@ -1,8 +1,8 @@
--- `report::standing::put_state` meets its contract.
+-- `report::listing::put_state` meets its contract.
 use borrow.Author.Needs.{needs}
 use native.Mathlib.Omega.{arith}
-use Rattle.report.proofs.standing.put_state.Statement.{statement}
-use Rattle.report.proofs.standing.put_state.Tie as tie
+use Rattle.report.proofs.listing.put_state.Statement.{statement}
+use Rattle.report.proofs.listing.put_state.Tie as tie
 
 returns : tie.Need-returns
 returns c = (rw (c .before .before .before .before .before .if1 .taken) (c .before .before .put-text .ensures), omega (arith, c .before .before .put-text .ensures .next))
