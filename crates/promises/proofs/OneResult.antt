@@ -215,32 +215,32 @@ of-lines-closing-line κs a x y u v p q = (one-result (p .0) (q .0), ap (λ room
 -- ---- words
 
 -- what a line says
-pub of-words-line-says : OneResultOnly words.say.line_says.ended words.say.line_says.Reads.Learnt
-of-words-line-says κs a x y u v p q = (one-result p q, refl)
+pub of-words-say-line-says : OneResultOnly words.say.line_says.ended words.say.line_says.Reads.Learnt
+of-words-say-line-says κs a x y u v p q = (one-result p q, refl)
 
 -- the running serial after a line's bytes
-pub of-words-moved : OneResultOnly words.serial.moved.ended words.serial.moved.Reads.Learnt
-of-words-moved κs a x y u v p q = (one-result p q, refl)
+pub of-words-serial-moved : OneResultOnly words.serial.moved.ended words.serial.moved.Reads.Learnt
+of-words-serial-moved κs a x y u v p q = (one-result p q, refl)
 
 -- how many bytes a line means, or its fault, and the room with them
-pub of-words-bytes-of-line : OneResultOnly words.one.bytes_of_line.ended words.one.bytes_of_line.Reads.Learnt
-of-words-bytes-of-line κs a x y u v p q = (one-result (p .0) (q .0), ap (λ room. (tt, (tt, (room, tt)))) (one-result (p .1) (q .1)))
+pub of-words-one-bytes-of-line : OneResultOnly words.one.bytes_of_line.ended words.one.bytes_of_line.Reads.Learnt
+of-words-one-bytes-of-line κs a x y u v p q = (one-result (p .0) (q .0), ap (λ room. (tt, (tt, (room, tt)))) (one-result (p .1) (q .1)))
 
 -- how long a record's line is, or the refusal, and the room with it
-pub of-words-write-line : OneResultOnly words.one.write_line.ended words.one.write_line.Reads.Learnt
-of-words-write-line κs a x y u v p q = (one-result (p .0) (q .0), ap (λ room. (tt, (tt, (room, tt)))) (one-result (p .1) (q .1)))
+pub of-words-one-write-line : OneResultOnly words.one.write_line.ended words.one.write_line.Reads.Learnt
+of-words-one-write-line κs a x y u v p q = (one-result (p .0) (q .0), ap (λ room. (tt, (tt, (room, tt)))) (one-result (p .1) (q .1)))
 
 -- the same of bytes in hexadecimal
-pub of-words-write-raw : OneResultOnly words.one.write_raw.ended words.one.write_raw.Reads.Learnt
-of-words-write-raw κs a x y u v p q = (one-result (p .0) (q .0), ap (λ room. (tt, (room, tt))) (one-result (p .1) (q .1)))
+pub of-words-one-write-raw : OneResultOnly words.one.write_raw.ended words.one.write_raw.Reads.Learnt
+of-words-one-write-raw κs a x y u v p q = (one-result (p .0) (q .0), ap (λ room. (tt, (room, tt))) (one-result (p .1) (q .1)))
 
 -- what is taken of a piece of text, and the room with the bytes that it means
-pub of-words-bytes-of-text : OneResultOnly words.piece.bytes_of_text.ended words.piece.bytes_of_text.Reads.Learnt
-of-words-bytes-of-text κs a x y u v p q = (one-result (p .0) (q .0), ap (λ room. (tt, (tt, (tt, (room, tt))))) (one-result (p .1) (q .1)))
+pub of-words-piece-bytes-of-text : OneResultOnly words.piece.bytes_of_text.ended words.piece.bytes_of_text.Reads.Learnt
+of-words-piece-bytes-of-text κs a x y u v p q = (one-result (p .0) (q .0), ap (λ room. (tt, (tt, (tt, (room, tt))))) (one-result (p .1) (q .1)))
 
 -- what is taken of a piece of a day file, and the room with its lines
-pub of-words-text-of-bytes : OneResultOnly words.piece.text_of_bytes.ended words.piece.text_of_bytes.Reads.Learnt
-of-words-text-of-bytes κs a x y u v p q = (one-result (p .0) (q .0), ap (λ room. (tt, (tt, (tt, (room, tt))))) (one-result (p .1) (q .1)))
+pub of-words-piece-text-of-bytes : OneResultOnly words.piece.text_of_bytes.ended words.piece.text_of_bytes.Reads.Learnt
+of-words-piece-text-of-bytes κs a x y u v p q = (one-result (p .0) (q .0), ap (λ room. (tt, (tt, (tt, (room, tt))))) (one-result (p .1) (q .1)))
 
 -- ---- closeout
 
