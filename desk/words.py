@@ -122,6 +122,8 @@ def _opening(word: str, rest: list[str], accounts: Accounts, at: int) -> str:
 
 
 def _kinds(word: str, rest: list[str]) -> str:
+    if len(rest) == 1 and rest[0].lower() not in KINDS:
+        rest = ["cash", *rest]
     said: dict[str, str] = {}
     for place in range(0, len(rest), 2):
         kind = rest[place].lower()

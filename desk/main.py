@@ -1,0 +1,82 @@
+"""The command line."""
+
+import argparse
+import gc
+import os
+import sys
+
+from desk import answers, commands
+from desk.output import note
+from desk.stops import FAILED, Stop
+
+ABOUT = """\
+One command for the desk: names and rupees in front of the proved programs. Status: 0 all carried out,
+1 something refused, 2 input that says nothing (nothing done), 3 a failure of files or programs (nothing lost)."""
+
+
+def _parser() -> argparse.ArgumentParser:
+    parser = argparse.ArgumentParser(prog="loft", description=ABOUT, formatter_class=argparse.RawDescriptionHelpFormatter)
+    every = parser.add_subparsers(title="commands", metavar="COMMAND", required=True)
+    _carrying(every)
+    _asking(every)
+    return parser
+
+
+def _command(every: "argparse._SubParsersAction[argparse.ArgumentParser]", name: str, run: object, about: str) -> argparse.ArgumentParser:
+    command = every.add_parser(name, help=about, description=about)
+    command.set_defaults(run=run)
+    if name != "refusal":
+        command.add_argument("desk", metavar="DESK", help="the desk's folder")
+    return command
+
+
+def _carrying(every: "argparse._SubParsersAction[argparse.ArgumentParser]") -> None:
+    init = _command(every, "init", commands.init, "make a desk with a fresh book")
+    init.add_argument("--book", metavar="FILE", help="begin with this book file in the place of a fresh one")
+    init.add_argument("--old-rule", action="store_true", help="the book file is from before K7: take it over")
+    check = _command(every, "check", commands.check, "what would happen, line by line; nothing is saved")
+    check.add_argument("file", metavar="FILE", nargs="+", help="text, .csv or .day")
+    check.add_argument("--json", action="store_true", help="for another program")
+    post = _command(every, "post", commands.post, "the same, carried out")
+    post.add_argument("file", metavar="FILE", nargs="+", help="text, .csv or .day")
+    post.add_argument("--all", action="store_true", help="carry out nothing unless every record passes")
+    post.add_argument("--again", action="store_true", help="post a file that was posted before")
+    _command(every, "archive", commands.archive, "move retired accounts out of the book")
+
+
+def _asking(every: "argparse._SubParsersAction[argparse.ArgumentParser]") -> None:
+    show = _command(every, "show", answers.show, "how the desk stands, or one account")
+    show.add_argument("account", metavar="ACCOUNT", nargs="?", help="a name or a number")
+    show.add_argument("--json", action="store_true", help="for another program")
+    register = _command(every, "register", answers.registered, "what was done to an account, from the trail")
+    register.add_argument("account", metavar="ACCOUNT", help="a name or a number")
+    register.add_argument("--refused", action="store_true", help="list what was refused too")
+    needs = _command(every, "needs", answers.needs, "every account's need")
+    needs.add_argument("--json", action="store_true", help="for another program")
+    _command(every, "verify", answers.verify, "replay the trail from the first book")
+    refusal = _command(every, "refusal", answers.refusal, "a refusal in words")
+    refusal.add_argument("number", metavar="N", type=int)
+
+
+def main() -> int:
+    """Runs a command and gives its status."""
+    gc.disable()
+    args = _parser().parse_args()
+    try:
+        status = args.run(args)
+        sys.stdout.flush()
+    except Stop as stop:
+        sys.stdout.flush()
+        note(stop.lines)
+        status = stop.status
+    except BrokenPipeError:
+        os.dup2(os.open(os.devnull, os.O_WRONLY), sys.stdout.fileno())
+        status = FAILED
+    except OSError as error:
+        note([f"{error.strerror or error}{f': {error.filename}' if error.filename else ''}; nothing is lost"])
+        os.dup2(os.open(os.devnull, os.O_WRONLY), sys.stdout.fileno())
+        status = FAILED
+    except KeyboardInterrupt:
+        note(["stopped; nothing is lost"])
+        status = FAILED
+    return status
