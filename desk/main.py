@@ -5,7 +5,7 @@ import gc
 import os
 import sys
 
-from desk import answers, commands
+from desk import answers, asking, commands
 from desk.output import note
 from desk.stops import FAILED, Stop
 
@@ -53,9 +53,27 @@ def _asking(every: "argparse._SubParsersAction[argparse.ArgumentParser]") -> Non
     register.add_argument("--refused", action="store_true", help="list what was refused too")
     needs = _command(every, "needs", answers.needs, "every account's need")
     needs.add_argument("--json", action="store_true", help="for another program")
+    closeout = _command(every, "closeout", asking.closeout, "who pays a loss")
+    closeout.add_argument("losses", metavar="LOSSES", help="lines of an account and its loss")
+    closeout.add_argument("--json", action="store_true", help="for another program")
+    _programs(every)
     _command(every, "verify", answers.verify, "replay the trail from the first book")
     refusal = _command(every, "refusal", answers.refusal, "a refusal in words")
     refusal.add_argument("number", metavar="N", type=int)
+
+
+def _programs(every: "argparse._SubParsersAction[argparse.ArgumentParser]") -> None:
+    margin = _command(every, "margin", asking.margin, "a client's margin from its positions, as a line to post")
+    margin.add_argument("account", metavar="ACCOUNT", help="a name or a number")
+    margin.add_argument("initial", metavar="INITIAL", help="the initial margin, in rupees")
+    margin.add_argument("positions", metavar="FILE", help="lines such as: USDINR futures 1,00,000.00")
+    statement = _command(every, "statement", asking.statement, "brokers' statements held against the book, a line each")
+    statement.add_argument(
+        "word", metavar="WORD", nargs="+", help="TM FILE.., or files and folders whose statements are named by their TM: TM-1.statement"
+    )
+    merge = _command(every, "merge", asking.merge, "two counters' files as one text, to be posted")
+    merge.add_argument("a", metavar="A", help="text, .csv or .day")
+    merge.add_argument("b", metavar="B", help="text, .csv or .day")
 
 
 def main() -> int:
