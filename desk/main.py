@@ -5,7 +5,7 @@ import gc
 import os
 import sys
 
-from desk import answers, asking, commands
+from desk import answers, asking, commands, paging
 from desk.output import note
 from desk.stops import FAILED, Stop
 
@@ -71,6 +71,9 @@ def _programs(every: "argparse._SubParsersAction[argparse.ArgumentParser]") -> N
     statement.add_argument(
         "word", metavar="WORD", nargs="+", help="TM FILE.., or files and folders whose statements are named by their TM: TM-1.statement"
     )
+    page = _command(every, "page", paging.page, "one page to look at or print")
+    page.add_argument("out", metavar="OUT.html")
+    page.add_argument("--losses", metavar="FILE", help="show the close-out with these losses too")
     merge = _command(every, "merge", asking.merge, "two counters' files as one text, to be posted")
     merge.add_argument("a", metavar="A", help="text, .csv or .day")
     merge.add_argument("b", metavar="B", help="text, .csv or .day")

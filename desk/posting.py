@@ -29,6 +29,7 @@ def commit(desk: Desk, last: Posting, done: Carried, refused: int) -> Posting:
         "text": done.text.encode(),
         "day": done.day,
         "out": done.out,
+        "explained": "".join(answer + "\n" for answer in done.answers).encode(),
         "names.csv": naming.written(done.names).encode(),
     }
     put(desk, posting, kept, book)

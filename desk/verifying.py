@@ -87,7 +87,8 @@ def _carried(desk: Desk, scratch: Scratch, posting: Posting, book: Path) -> byte
     before = Names({number: name for number, name in after.pairs().items() if str(number) not in posting.opened})
     done = carried(scratch, book, before, made(posting.file, posting.kind, kept["came"]))
     carry_out(scratch, book, done)
-    for name, came_out in {"text": done.text.encode(), "day": done.day, "out": done.out}.items():
+    explained = "".join(answer + "\n" for answer in done.answers).encode()
+    for name, came_out in {"text": done.text.encode(), "day": done.day, "out": done.out, "explained": explained}.items():
         if came_out != kept[name]:
             raise Differs(posting.number, f"{name} comes out otherwise")
     if done.names.pairs() != after.pairs():
