@@ -52,11 +52,10 @@ def grouped(whole: str) -> str:
     """Digits with a comma before the last three, and before each two ahead of them."""
     if len(whole) <= 3:
         return whole
-    head, tail = whole[:-3], whole[-3:]
-    first = len(head) % 2
-    parts = [head[:first]] if first else []
-    parts += [head[place : place + 2] for place in range(first, len(head), 2)]
-    return ",".join([*parts, tail])
+    head, said = whole[:-3], whole[-3:]
+    while len(head) > 2:
+        head, said = head[:-2], f"{head[-2:]},{said}"
+    return f"{head},{said}"
 
 
 def _is_grouped(whole: str) -> bool:

@@ -156,7 +156,7 @@ def _numbered(scratch: Scratch, book: Path, names: Names, given: Input) -> tuple
     if given.kind != "day":
         done = carried(scratch, book, names, given)
         carry_out(scratch, book, done)
-        return done.day, done.book, done.names, done.opened
+        return done.day.read_bytes(), done.book, done.names, done.opened
     day = _merged(scratch, scratch.file("day", given.came), scratch.file("day", b""), book, [given.file, ""])
     after = scratch.place("book")
     scratch.programs.run("day", book, after, given=scratch.file("day", day))

@@ -1,17 +1,19 @@
 """What would become of a file: it is written as bytes, read back and compared, then carried out on a copy of the book."""
 
 import re
+from collections.abc import Sequence
 from dataclasses import dataclass, field
+from functools import cached_property
 from pathlib import Path
 
-from desk import figures, records
+from desk import figures, readback, whole
 from desk.inputs import Input
 from desk.names import Names
 from desk.programs import ProgramFailed
 from desk.scratch import Scratch
-from desk.spread import spread
+from desk.spread import aside, even, spread
 from desk.stops import Failed, SaysNothing
-from desk.translation import new_names, opened_before, text_of
+from desk.translation import WORTH_IT, new_names, opened_before, text_of
 from desk.words import Accounts, clerk_line, without_comment
 
 _TOLD = re.compile(r"write: line (\d+): \d+, (.*)")
@@ -19,48 +21,86 @@ _TOLD = re.compile(r"write: line (\d+): \d+, (.*)")
 
 @dataclass
 class Carried:
-    """A file and its answers, a line of `explain` for each record."""
+    """A file, the programs' text and bytes of it, and `explain`'s answers."""
 
     input: Input
-    text: str
-    day: bytes
-    at: list[int]
-    shown: list[str]
-    answers: list[str]
     names: Names
+    text: bytes
+    day: Path
+    explained: bytes
+    records: int
+    refused: int
+    at: Sequence[int]
+    words: list[str] | None
     opened: dict[int, str] = field(default_factory=dict)
     out: bytes = b""
     book: Path = Path()
 
-    def refused(self) -> int:
-        """How many records are refused."""
-        return sum(answer.split(" ", 4)[3] != "0" for answer in self.answers)
+    @property
+    def shown(self) -> list[str]:
+        """The clerk's words for each record; of a long file they are its lines."""
+        return self.input.lines if self.words is None else self.words
+
+    @cached_property
+    def answers(self) -> list[str]:
+        """A line for each record."""
+        return self.explained.decode().split("\n")[:-1]
+
+
+@dataclass
+class _Asked:
+    """What `write`, `read` and `explain` make of a text."""
+
+    text: bytes
+    day: Path
+    explained: bytes
+    records: int
+    done: int
 
 
 def carried(scratch: Scratch, book: Path, names: Names, given: Input) -> Carried:
     """The answers to a file's records over a book; nothing is saved."""
     if given.kind == "day":
         return _of_bytes(scratch, book, names, given)
-    return _of_lines(scratch, book, names, given)
+    return _of_whole(scratch, book, names, given) or _of_lines(scratch, book, names, given)
 
 
 def carry_out(scratch: Scratch, book: Path, done: Carried) -> None:
     """The same by `day`, with the book after it; it must answer as `explain` did."""
     done.book = scratch.place("book")
-    done.out = scratch.programs.run("day", book, done.book, given=scratch.file("day", done.day))
-    lines = done.out.decode().split("\n")
-    if not all(answer == line or answer.startswith(line + " ") for answer, line in zip(done.answers, lines)):
+    done.out = scratch.programs.run("day", book, done.book, given=done.day, into=scratch.place("out"))
+    if done.out.count(b"\n") != done.records + 1:
         raise Failed("day and explain don't answer alike; nothing was done")
+    if not done.out.startswith(done.explained):
+        lines = done.out.decode().split("\n")
+        if not all(answer == line or answer.startswith(line + " ") for answer, line in zip(done.answers, lines)):
+            raise Failed("day and explain don't answer alike; nothing was done")
 
 
 def _of_bytes(scratch: Scratch, book: Path, names: Names, given: Input) -> Carried:
-    path = scratch.file("day", given.came)
-    text, said = scratch.programs.run_both(["read", book], ["explain", book], path)
-    answers = _answers(said, given.file)
-    lines = text.decode().split("\n")[:-1]
-    pieces = spread(lambda start, end: [clerk_line(line, names) for line in lines[start:end]], len(lines))
-    shown = [line for piece in pieces for line in piece]
-    return Carried(given, text.decode(), given.came, list(range(len(lines))), shown, answers, names)
+    asked = _explained(scratch, book, scratch.file("day", given.came), given.file)
+    lines = asked.text.decode().split("\n")[:-1]
+    work = spread(lambda start, end: [clerk_line(line, names) for line in lines[start:end]], even(len(lines), WORTH_IT))
+    shown = [line for piece in work for line in piece]
+    return _made(given, names, asked, range(len(lines)), shown)
+
+
+def _of_whole(scratch: Scratch, book: Path, names: Names, given: Input) -> Carried | None:
+    """A long file in the common form; none where it isn't one."""
+    data = given.plain
+    if not whole.is_worth_it(data):
+        return None
+    grouped = aside(lambda: whole.is_grouped(data))
+    asked = None
+    try:
+        text = whole.text_of(data, names)
+        if text is not None:
+            asked = _explained(scratch, book, _written(scratch, book, text), given.file)
+    except (ProgramFailed, SaysNothing):
+        pass
+    if not grouped() or asked is None or asked.text != text:
+        return None
+    return _made(given, names, asked, range(asked.records), None)
 
 
 def _of_lines(scratch: Scratch, book: Path, names: Names, given: Input) -> Carried:
@@ -72,24 +112,28 @@ def _of_lines(scratch: Scratch, book: Path, names: Names, given: Input) -> Carri
         opened = {name: (at, foretold[at]) for at, name in naming.items()}
         text = text_of(given.lines, Accounts(names, opened), given.file)
         at = [place for place, line in enumerate(text) if line]
-        day, answers = _asked(scratch, book, given.file, text, at)
-        came_out = {at: _given(answers[_record(text, at)]) for at in naming}
+        asked = _asked(scratch, book, given.file, text, at)
+        answers = asked.explained.decode().split("\n")
+        came_out = {at: int(answers[_record(text, at)].split()[4]) or None for at in naming}
         if came_out == foretold:
             break
         foretold = _nearer(foretold, came_out)
-    after, new = names.copy(), {number: naming[at] for at, number in foretold.items() if number}
-    for number, name in new.items():
-        after.add(number, name)
-    shown = [without_comment(given.lines[place]) for place in at]
-    return Carried(given, "\n".join(text) + "\n", day, at, shown, answers, after, new)
+    done = _made(given, names.copy(), asked, at, [without_comment(given.lines[place]) for place in at])
+    done.opened = {number: naming[at] for at, number in foretold.items() if number}
+    for number, name in done.opened.items():
+        done.names.add(number, name)
+    return done
+
+
+def _made(given: Input, names: Names, asked: _Asked, at: Sequence[int], shown: list[str] | None) -> Carried:
+    if len(at) != asked.records:
+        raise Failed(f"{given.file}: the programs see another number of records than there are lines; nothing is done")
+    refused = asked.records - asked.done
+    return Carried(given, names, asked.text, asked.day, asked.explained, asked.records, refused, at, shown)
 
 
 def _record(text: list[str], at: int) -> int:
     return sum(map(bool, text[:at]))
-
-
-def _given(answer: str) -> int | None:
-    return int(answer.split()[4]) or None
 
 
 def _nearer(foretold: dict[int, int | None], came_out: dict[int, int | None]) -> dict[int, int | None]:
@@ -98,64 +142,46 @@ def _nearer(foretold: dict[int, int | None], came_out: dict[int, int | None]) ->
     return {at: came_out[at] if at <= first else came_out[at] or foretold[at] for at in foretold}
 
 
-def _asked(scratch: Scratch, book: Path, file: str, text: list[str], at: list[int]) -> tuple[bytes, list[str]]:
-    """The day file of a text, and the answers to its records."""
-    programs = scratch.programs
+def _asked(scratch: Scratch, book: Path, file: str, text: list[str], at: list[int]) -> _Asked:
+    """A text's records asked of; what `read` gives back must say the same."""
+    said = "".join(line + "\n" for line in text).encode()
     try:
-        day = programs.run("write", scratch.file("text", ("\n".join(text) + "\n").encode()), book)
+        day = _written(scratch, book, said)
     except ProgramFailed as failed:
         told = _TOLD.fullmatch(failed.told)
         if told is None:
             raise
         raise SaysNothing(f"{file}, line {told[1]}: {told[2]}") from None
-    back, said = programs.run_both(["read", book], ["explain", book], scratch.file("day", day))
-    wanted = text if len(at) == len(text) else [text[place] for place in at]
-    if ("\n".join(wanted) + "\n" if wanted else "").encode() != back:
-        _compared(wanted, at, back.decode().split("\n")[:-1], figures.holdings(scratch, book).serial, file)
-    return day, _answers(said, file)
+    asked = _explained(scratch, book, day, file)
+    wanted = [text[place] for place in at]
+    back = asked.text.decode().split("\n")[:-1]
+    if wanted != back:
+        readback.compare(wanted, at, back, figures.holdings(scratch, book).serial, file)
+    asked.text = said
+    return asked
 
 
-def _compared(wanted: list[str], at: list[int], back: list[str], serial: int, file: str) -> None:
-    """What was handed to `write` and what `read` gives, line by line: they may differ in how a record is said, not in which."""
-    for place, line in enumerate(wanted):
-        line, own = _one_form(line, serial)
-        if line is None:
-            if place + 1 < len(wanted):
-                raise SaysNothing(f"{file}, line {at[place] + 1}: these bytes aren't one whole record")
-            return
-        if place >= len(back) or line != back[place]:
-            raise Failed(f"{file}, line {at[place] + 1}: write and read don't agree; nothing was done")
-        serial = (serial + 1) % 65_536 if own == serial else serial
-    if len(back) != len(wanted):
-        raise Failed(f"{file}: write and read don't agree; nothing was done")
+def _written(scratch: Scratch, book: Path, text: bytes) -> Path:
+    day = scratch.place("day")
+    scratch.programs.run("write", scratch.file("text", text), book, into=day)
+    return day
 
 
-def _one_form(line: str, serial: int) -> tuple[str | None, int]:
-    """A line as `read` writes it, and its serial; none where its bytes are no whole record."""
-    words = line.split(" ", 2)
-    own = serial
-    if words[0] == "raw":
-        record = bytes.fromhex(words[1])
-        if not records.is_whole(record):
-            return None, serial
-        own, line = records.serial(record), records.words(record)
-        if line.startswith("raw"):
-            return line, own
-    elif words[0] == "serial":
-        own, line = int(words[1]), words[2]
-    return (line if own == serial else f"serial {own} {line}"), own
-
-
-def _answers(said: bytes, file: str) -> list[str]:
-    """The records' lines; the closing line must be `end`."""
-    lines = said.decode().split("\n")
-    closing = lines[-2].split()[0] if len(lines) > 1 else ""
-    if closing == "cut":
-        raise SaysNothing(f"{file} ends within a record (2): it is cut short; nothing is done")
-    if closing == "long":
-        raise SaysNothing(f"{file} has more than a million records; nothing is done")
-    if closing == "1":
-        raise Failed("the book isn't sound (1); nothing is done")
-    if closing != "end":
+def _explained(scratch: Scratch, book: Path, day: Path, file: str) -> _Asked:
+    """`read` and `explain` side by side; the closing line must be `end`."""
+    run = scratch.programs.run
+    text, said = scratch.programs.both(
+        lambda: run("read", book, given=day, into=scratch.place("read")),
+        lambda: run("explain", book, given=day, into=scratch.place("explained")),
+    )
+    last = said.rfind(b"\n", 0, len(said) - 1) + 1
+    closing = said[last:].decode().split()
+    if not closing or closing[0] not in ("end", "cut", "long", "1"):
         raise Failed("explain ended without its closing line; nothing is done")
-    return lines[:-2]
+    if closing[0] == "1":
+        raise Failed("the book isn't sound (1); nothing is done")
+    if closing[0] == "cut":
+        raise SaysNothing(f"{file} ends within a record (2): it is cut short; nothing is done")
+    if closing[0] == "long":
+        raise SaysNothing(f"{file} has more than a million records; nothing is done")
+    return _Asked(text, day, said[:last], int(closing[1]), int(closing[2]))

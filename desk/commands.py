@@ -12,7 +12,7 @@ from desk.files import locked, make_folder, sha256
 from desk.folder import Desk, State
 from desk.inputs import Input
 from desk.names import CM_NAME, Names
-from desk.output import note, say
+from desk.output import note, say, say_all
 from desk.posting import commit, following, not_twice, now, put
 from desk.scratch import Scratch
 from desk.stops import ALL_DONE, REFUSED, Failed, SaysNothing
@@ -81,21 +81,20 @@ def check(args: argparse.Namespace) -> int:
         state = Desk(args.desk).state()
         note(state.told)
         chain = _chain(scratch, state, [inputs.read(file) for file in args.file], saving=False)
-    refused = [done.refused() for done in chain]
     if args.json:
         files = [{"file": done.input.file, "records": telling.as_json(done)} for done in chain]
         say(json.dumps({"unit": "paise", "saved": False, "files": files}, indent=1) + "\n")
     else:
-        for done, count in zip(chain, refused):
+        for done in chain:
             _tell(done, len(chain) > 1)
-            say(telling.summary(done, count, None) + "\n")
-    return REFUSED if any(refused) else ALL_DONE
+            say(telling.summary(done, None))
+    return REFUSED if any(done.refused for done in chain) else ALL_DONE
 
 
 def _tell(done: Carried, with_name: bool) -> None:
     if with_name:
         say(f"{done.input.file}:\n")
-    say(telling.lines(done))
+    say_all(telling.lines(done))
 
 
 def post(args: argparse.Namespace) -> int:
@@ -107,18 +106,18 @@ def post(args: argparse.Namespace) -> int:
         if not args.again:
             not_twice(desk, files)
         chain = _chain(scratch, state, files, saving=True)
-        refused = [done.refused() for done in chain]
-        if args.all and any(refused):
+        refused = any(done.refused for done in chain)
+        if args.all and refused:
             for done in chain:
                 _tell(done, len(chain) > 1)
             say("Something is refused, so nothing is carried out (--all).\n")
             return REFUSED
         last = state.last
-        for done, count in zip(chain, refused):
-            last = commit(desk, last, done, count)
+        for done in chain:
+            last = commit(desk, last, done)
             _tell(done, len(chain) > 1)
-            say(telling.summary(done, count, last.number) + "\n")
-    return REFUSED if any(refused) else ALL_DONE
+            say(telling.summary(done, last.number))
+    return REFUSED if refused else ALL_DONE
 
 
 def archive(args: argparse.Namespace) -> int:

@@ -6,7 +6,7 @@ from pathlib import Path
 
 from desk import amounts
 from desk.amounts import BadAmount
-from desk.inputs import lines_of, text_of
+from desk.inputs import text_of
 from desk.names import Names
 from desk.stops import SaysNothing
 from desk.words import BadLine, tokens
@@ -38,7 +38,7 @@ def read(file: str, names: Names) -> dict[int, int]:
 
 def _words(text: str, file: str) -> list[tuple[int, list[str]]]:
     rows = []
-    for at, line in enumerate(lines_of(text)):
+    for at, line in enumerate(text.split("\n")):
         try:
             words = tokens(line)
         except BadLine as bad:

@@ -8,6 +8,13 @@ def say(text: str) -> None:
     sys.stdout.write(text)
 
 
+def say_all(pieces: list[bytes]) -> None:
+    """Prints long pieces."""
+    sys.stdout.flush()
+    for piece in pieces:
+        sys.stdout.buffer.write(piece)
+
+
 def note(lines: list[str]) -> None:
     """Tells on standard error what is no part of the answer."""
     for line in lines:

@@ -17,19 +17,19 @@ def now() -> str:
     return datetime.datetime.now().astimezone().isoformat(timespec="seconds")
 
 
-def commit(desk: Desk, last: Posting, done: Carried, refused: int) -> Posting:
+def commit(desk: Desk, last: Posting, done: Carried) -> Posting:
     """Posts a file that was carried out on a copy of the book."""
     book = done.book.read_bytes()
     posting = following(last, done.input.kind, os.path.basename(done.input.file), sha256(book))
-    posting.records = len(done.answers)
-    posting.carried_out = posting.records - refused
+    posting.records = done.records
+    posting.carried_out = done.records - done.refused
     posting.opened = {str(number): name for number, name in done.opened.items()}
     kept = {
         "came": done.input.came,
-        "text": done.text.encode(),
-        "day": done.day,
+        "text": done.text,
+        "day": done.day.read_bytes(),
         "out": done.out,
-        "explained": "".join(answer + "\n" for answer in done.answers).encode(),
+        "explained": done.explained,
         "names.csv": naming.written(done.names).encode(),
     }
     put(desk, posting, kept, book)

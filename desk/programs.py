@@ -7,14 +7,18 @@ import os
 import platform
 import subprocess
 import sys
+from collections.abc import Callable
 from concurrent.futures import ThreadPoolExecutor
 from pathlib import Path
+from typing import TypeVar
 
 from desk.stops import Failed
 
 TOP = Path(__file__).resolve().parent.parent
 # For tests alone: a folder whose files are called in the place of those in target/bin.
 SETTING = "LOFT_PROGRAMS"
+T = TypeVar("T")
+U = TypeVar("U")
 
 
 class ProgramFailed(Failed):
@@ -34,26 +38,26 @@ class Programs:
         self._builds = not setting
         self._emulator: list[str] | None = [] if setting else None
 
-    def run(self, name: str, *words: str | Path, given: Path | None = None) -> bytes:
-        """What a program prints, with a file (or nothing) on standard input."""
+    def run(self, name: str, *words: str | Path, given: Path | None = None, into: Path | None = None) -> bytes:
+        """What a program prints, with a file (or nothing) on standard input; long answers go by a file."""
         command = [*self._ahead(), str(self._found(name)), *map(str, words)]
         try:
-            with open(given or os.devnull, "rb") as file:
-                ended = subprocess.run(command, stdin=file, capture_output=True, check=False)
+            with open(given or os.devnull, "rb") as file, open(into or os.devnull, "wb") as put:
+                out = put if into else subprocess.PIPE
+                ended = subprocess.run(command, stdin=file, stdout=out, stderr=subprocess.PIPE, check=False)
         except OSError as error:
             raise Failed(f"{name} can't be run: {error.strerror or error}") from None
         told = ended.stderr.decode(errors="replace").strip()
         if told or ended.returncode < 0:
             raise ProgramFailed(name, told.splitlines()[0] if told else "")
-        return ended.stdout
+        return into.read_bytes() if into else ended.stdout
 
-    def run_both(self, first: list[str | Path], second: list[str | Path], given: Path) -> tuple[bytes, bytes]:
-        """Two programs on one input, side by side."""
-        for name, *_ in (first, second):
-            self._found(str(name))
-        with ThreadPoolExecutor(2) as hands:
-            runs = [hands.submit(self.run, str(name), *words, given=given) for name, *words in (first, second)]
-            return runs[0].result(), runs[1].result()
+    def both(self, first: Callable[[], T], second: Callable[[], U]) -> tuple[T, U]:
+        """Two runs side by side."""
+        with ThreadPoolExecutor(1) as hand:
+            other = hand.submit(first)
+            mine = second()
+            return other.result(), mine
 
     def _found(self, name: str) -> Path:
         path = self._folder / name

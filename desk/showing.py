@@ -9,6 +9,7 @@ from desk.amounts import rupees
 from desk.figures import Holding, Holdings, Standing
 from desk.names import Names
 from desk.scratch import Scratch
+from desk.stops import Failed
 from desk.tables import table
 from desk.words import KINDS
 
@@ -63,8 +64,9 @@ def asked(scratch: Scratch, book: Path, holdings: Holdings, number: int) -> dict
     serial = (holdings.serial + 1) % 65_536
     text = "".join(f"serial {serial} {way}\n" for way in ways).encode()
     day = scratch.file("day", scratch.programs.run("write", scratch.file("text", text), book))
-    back, said = scratch.programs.run_both(["read", book], ["explain", book], day)
-    assert back == text, "write and read don't agree"
+    if scratch.programs.run("read", book, given=day) != text:
+        raise Failed("write and read don't agree")
+    said = scratch.programs.run("explain", book, given=day)
     answers = [line.split() for line in said.decode().splitlines()[:-1]]
     return {way.rpartition(" ")[0]: (int(answer[5]), int(answer[6])) for way, answer in zip(ways, answers)}
 

@@ -1,29 +1,94 @@
-"""Work on a long list, shared out among the processors."""
+"""Work on something long, shared out among the processors: a process for each piece but the last."""
 
 import os
+import pickle
 from collections.abc import Callable
-from typing import TypeVar
+from typing import Any, TypeVar
+
+from desk.stops import Failed
 
 T = TypeVar("T")
-# Below this many lines another process costs more than it saves.
-WORTH_IT = 100_000
-_work: Callable[[int, int], object] | None = None
 
 
-def spread(work: Callable[[int, int], T], count: int) -> list[T]:
-    """What `work` gives for pieces of 0 to `count`, in their order."""
-    hands = min(len(os.sched_getaffinity(0)), 8)
-    if count < WORTH_IT or hands < 2:
-        return [work(0, count)]
-    import multiprocessing
-
-    global _work
-    _work = work
-    ends = [count * hand // hands for hand in range(hands + 1)]
-    with multiprocessing.get_context("fork").Pool(hands) as pool:
-        return pool.starmap(_called, list(zip(ends, ends[1:])), 1)
+def hands(count: int, worth: int) -> int:
+    """Among how many to share; below `worth` another process costs more than it saves."""
+    return 1 if count < worth else min(len(os.sched_getaffinity(0)), 8)
 
 
-def _called(start: int, end: int) -> object:
-    assert _work is not None
-    return _work(start, end)
+def even(count: int, worth: int) -> list[tuple[int, int]]:
+    """0 to `count` in pieces of one length."""
+    parts = hands(count, worth)
+    ends = [count * part // parts for part in range(parts + 1)]
+    return list(zip(ends, ends[1:]))
+
+
+def at_lines(text: bytes, worth: int) -> list[tuple[int, int]]:
+    """A text in pieces of about one length, each of whole lines."""
+    ends = [end if end in (0, len(text)) else text.find(b"\n", end) + 1 or len(text) for _, end in even(len(text), worth)]
+    return list(zip([0, *ends], ends))
+
+
+def aside(work: Callable[[], bool]) -> Callable[[], bool]:
+    """Starts work that may wait until a processor is idle; what is given says, later, how it came out."""
+    pid = os.fork()
+    if pid == 0:
+        status = 1
+        try:
+            os.nice(19)
+            status = 0 if work() else 1
+        finally:
+            os._exit(status)
+    return lambda: os.waitpid(pid, 0)[1] == 0
+
+
+def line_start(text: bytes, line: int) -> int:
+    """Where a line of a text begins, lines counted from 0."""
+    low, before, high = 0, 0, len(text)
+    while before < line:
+        middle = (low + high) // 2
+        found = text.count(b"\n", low, middle)
+        if before + found < line and middle > low:
+            low, before = middle, before + found
+        elif high - low > 4096:
+            high = middle
+        else:
+            low = text.index(b"\n", low) + 1
+            before += 1
+    return low
+
+
+def spread(work: Callable[[int, int], T], pieces: list[tuple[int, int]]) -> list[T]:
+    """What `work` gives for each piece, in their order."""
+    started = [_start(work, start, end) for start, end in pieces[:-1]]
+    last = work(*pieces[-1])
+    return [*(_result(pid, memory) for pid, memory in started), last]
+
+
+def _start(work: Callable[[int, int], Any], start: int, end: int) -> tuple[int, int]:
+    """A process that leaves its result in a piece of memory."""
+    memory = os.memfd_create("loft")
+    pid = os.fork()
+    if pid:
+        return pid, memory
+    status = 1
+    try:
+        with open(memory, "wb", buffering=0) as file:
+            _put_all(file.fileno(), pickle.dumps(work(start, end), protocol=5))
+        status = 0
+    finally:
+        os._exit(status)
+
+
+def _put_all(place: int, data: bytes) -> None:
+    left = memoryview(data)
+    while left:
+        left = left[os.write(place, left) :]
+
+
+def _result(pid: int, memory: int) -> Any:
+    _, status = os.waitpid(pid, 0)
+    with open(memory, "rb") as file:
+        if status:
+            raise Failed("a part of the work was ended; nothing is done")
+        file.seek(0)
+        return pickle.loads(file.read())

@@ -2,27 +2,15 @@
 
 from dataclasses import dataclass, field
 
-from desk import amounts
-from desk.amounts import BadAmount
 from desk.names import BadName, Names, key
-from desk.spread import spread
+from desk.spread import even, spread
 from desk.stops import SaysNothing
-from desk.words import BY_AMOUNT, BY_KIND, KINDS, OPENINGS, Accounts, BadLine, new_name, program_line
+from desk.words import OPENINGS, Accounts, BadLine, new_name, program_line
 
 # So many faults of one file are told.
 TOLD = 20
-
-
-class _Amounts(dict[str, str]):
-    """Amounts met before; KeyError for what is none, so that the slow way tells why."""
-
-    def __missing__(self, amount: str) -> str:
-        try:
-            said = amounts.digits(amount)
-        except BadAmount:
-            raise KeyError(amount) from None
-        self[amount] = said
-        return said
+# Fewer lines are gone through by one process.
+WORTH_IT = 20_000
 
 
 @dataclass
@@ -60,46 +48,20 @@ def opened_before(lines: list[str], at: int) -> int:
 
 def text_of(lines: list[str], accounts: Accounts, file: str) -> list[str]:
     """The programs' text of all lines; faults are told by file, line and why."""
-    pieces = spread(lambda start, end: _piece(lines, start, end, accounts), len(lines))
+    pieces = spread(lambda start, end: _piece(lines, start, end, accounts), even(len(lines), WORTH_IT))
     faults = [fault for piece in pieces for fault in piece.faults]
     if faults:
         told = [f"{file}, line {at + 1}: {why}" for at, why in faults[:TOLD]]
         more = [f"{file}: more lines say nothing"] if len(faults) > TOLD else []
         raise SaysNothing(*told, *more)
-    return pieces[0].lines if len(pieces) == 1 else [line for piece in pieces for line in piece.lines]
+    return [line for piece in pieces for line in piece.lines]
 
 
 def _piece(lines: list[str], start: int, end: int, accounts: Accounts) -> Text:
-    """One pass: lines of the common forms straight on, any other one by `program_line`."""
     text = Text()
-    put = text.lines.append
-    known = {name: str(number) for number, name in accounts.names.pairs().items()}
-    known |= {str(number): str(number) for number in range(1024)}
-    known |= {name: str(number) for name, (at, number) in accounts.opened.items() if at < start and number is not None}
-    paise = _Amounts()
     for at in range(start, end):
-        words = lines[at].split()
         try:
-            if len(words) == 3 and words[0] in BY_AMOUNT:
-                put(f"{words[0]} {known[words[1]]} {paise[words[2]]}")
-            elif len(words) == 4 and words[0] in BY_KIND and words[2] in KINDS:
-                put(f"{words[0]} {known[words[1]]} {words[2]} {paise[words[3]]}")
-            elif len(words) == 6 and words[0] in BY_KIND and _rise(words[2], words[4]):
-                put(f"{words[0]} {known[words[1]]} {words[2]} {paise[words[3]]} {words[4]} {paise[words[5]]}")
-            else:
-                raise KeyError
-        except KeyError:
-            _slowly(lines[at], at, accounts, text)
+            text.lines.append(program_line(lines[at], accounts, at))
+        except BadLine as bad:
+            text.faults.append((at, str(bad)))
     return text
-
-
-def _rise(first: str, second: str) -> bool:
-    return first in KINDS and second in KINDS and first < second
-
-
-def _slowly(line: str, at: int, accounts: Accounts, text: Text) -> None:
-    try:
-        text.lines.append(program_line(line, accounts, at))
-    except BadLine as bad:
-        text.faults.append((at, str(bad)))
-        text.lines.append("")

@@ -7,7 +7,7 @@ from desk.archiving import archived
 from desk.carrying import carried, carry_out
 from desk.files import sha256
 from desk.folder import Desk
-from desk.inputs import made
+from desk.inputs import Input
 from desk.names import Names
 from desk.scratch import Scratch
 from desk.stops import Failed, Stop
@@ -85,10 +85,10 @@ def _carried(desk: Desk, scratch: Scratch, posting: Posting, book: Path) -> byte
     kept = {name: desk.trail.file(posting.number, name) for name in posting.files}
     after = naming.read(kept["names.csv"].decode(), "names.csv")
     before = Names({number: name for number, name in after.pairs().items() if str(number) not in posting.opened})
-    done = carried(scratch, book, before, made(posting.file, posting.kind, kept["came"]))
+    done = carried(scratch, book, before, Input(posting.file, posting.kind, kept["came"]))
     carry_out(scratch, book, done)
-    explained = "".join(answer + "\n" for answer in done.answers).encode()
-    for name, came_out in {"text": done.text.encode(), "day": done.day, "out": done.out, "explained": explained}.items():
+    again = {"text": done.text, "day": done.day.read_bytes(), "out": done.out, "explained": done.explained}
+    for name, came_out in again.items():
         if came_out != kept[name]:
             raise Differs(posting.number, f"{name} comes out otherwise")
     if done.names.pairs() != after.pairs():
