@@ -5,7 +5,7 @@ import gc
 import os
 import sys
 
-from desk import answers, asking, commands, paging
+from desk import answers, asking, commands, example, paging
 from desk.output import note
 from desk.stops import FAILED, Stop
 
@@ -41,6 +41,7 @@ def _carrying(every: "argparse._SubParsersAction[argparse.ArgumentParser]") -> N
     post.add_argument("file", metavar="FILE", nargs="+", help="text, .csv or .day")
     post.add_argument("--all", action="store_true", help="carry out nothing unless every record passes")
     post.add_argument("--again", action="store_true", help="post a file that was posted before")
+    _command(every, "example", _example, "make an example desk, and show it")
     _command(every, "archive", commands.archive, "move retired accounts out of the book")
 
 
@@ -77,6 +78,14 @@ def _programs(every: "argparse._SubParsersAction[argparse.ArgumentParser]") -> N
     merge = _command(every, "merge", asking.merge, "two counters' files as one text, to be posted")
     merge.add_argument("a", metavar="A", help="text, .csv or .day")
     merge.add_argument("b", metavar="B", help="text, .csv or .day")
+
+
+def _example(args: argparse.Namespace) -> int:
+    def run(words: list[str]) -> int:
+        inner = _parser().parse_args(words)
+        return int(inner.run(inner))
+
+    return example.make(args, run)
 
 
 def main() -> int:

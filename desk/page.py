@@ -140,7 +140,7 @@ def _near(sheet: Sheet) -> str:
             f'<td class="bar">{_gauge(held.use)}</td><td data-label="use" data-account="{each.number}" data-figure="use">{use(held)}</td>'
             f'<td class="l {each.mode}">{words}</td></tr>'
         )
-    return head + f"Those in it, and those with a use of {NEAR}% or more:</p><table><tbody>{''.join(rows)}</tbody></table>"
+    return head + f"Those in it, and those with a use of {NEAR}% or more; the two marks are 85% and 90%, and the scale ends at 120%:</p><table><tbody>{''.join(rows)}</tbody></table>"
 
 
 def _gauge(held: Decimal | None) -> str:
@@ -148,7 +148,7 @@ def _gauge(held: Decimal | None) -> str:
     width = min(float(held), 120.0) / 1.2 if held is not None else 100.0
     marks = "".join(f'<line x1="{at / 1.2:.2f}%" x2="{at / 1.2:.2f}%" y1="-3" y2="21" stroke="#1c2330" stroke-width="2"/>' for at in (85, 90))
     frame = '<rect width="100%" height="18" fill="#fff" stroke="#c9ced8"/>'
-    return f'<svg height="18" role="img" aria-label="use">{frame}<rect data-part="use" width="{width:.3f}%" height="18" fill="url(#blocked)"/>{marks}</svg>'
+    return f'<svg height="18" role="img" aria-label="use">{frame}<rect data-part="use" width="{width:.3f}%" height="18" fill="url(#use)" stroke="#1c2330"/>{marks}</svg>'
 
 
 def _refusals(sheet: Sheet) -> str:
@@ -166,6 +166,8 @@ def _refusals(sheet: Sheet) -> str:
     return head + f'<table class="refused"><thead><tr>{titles}</tr></thead><tbody>{"".join(rows)}</tbody></table>{told}'
 
 
+# The purses, as an account sees them and as all accounts do.
+ALL_PAID = {"own": "paid from accounts' own collateral", "tm": "paid from TMs' collateral", "cm": "paid from the CM's collateral", "uncovered": "uncovered"}
 PAID = {"own": "from its own collateral", "tm": "from its TM's", "cm": "from the CM's", "uncovered": "uncovered"}
 
 
@@ -195,7 +197,7 @@ def _waterfall(lost: list[Payment], uncovered: int) -> str:
     whole = sum(each.loss for each in lost)
     steps = [("loss", "all losses", whole, 0)]
     at = 0
-    for name, words in PAID.items():
+    for name, words in ALL_PAID.items():
         amount = uncovered if name == "uncovered" else sum(getattr(each, name) for each in lost)
         steps.append((name, words, amount, at))
         at += amount

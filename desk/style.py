@@ -46,5 +46,6 @@ PATTERNS = """<svg width="0" height="0" style="position:absolute" aria-hidden="t
 <pattern id="cm" width="7" height="7" patternUnits="userSpaceOnUse"><rect width="7" height="7" fill="#fff"/><circle cx="3.5" cy="3.5" r="2" fill="#5b6474"/></pattern>
 <pattern id="uncovered" width="8" height="8" patternUnits="userSpaceOnUse" patternTransform="rotate(45)"><rect width="8" height="8" fill="#fff"/>
 <rect width="2.5" height="8" fill="#9c1c2c"/><rect width="8" height="2.5" fill="#9c1c2c"/></pattern>
+<pattern id="use" width="8" height="8" patternUnits="userSpaceOnUse"><rect width="8" height="8" fill="#aeb6c4"/></pattern>
 <pattern id="loss" width="8" height="8" patternUnits="userSpaceOnUse"><rect width="8" height="8" fill="#1c2330"/></pattern>
 </defs></svg>"""

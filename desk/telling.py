@@ -7,7 +7,7 @@ from desk.carrying import Carried
 from desk.refusals import verdict
 from desk.spread import at_lines, line_start, spread
 
-WIDEST = 48
+WIDEST = 60
 # Above so many bytes of answers the verdicts aren't set in a column, and the work is shared out.
 LONG = 1_000_000
 _TAIL = re.compile(rb"\d+ \d+ \d+ (.*)\n")
