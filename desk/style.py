@@ -20,7 +20,7 @@ svg { display: block; width: 100%; overflow: visible; } .key { display: flex; fl
 .on { font-weight: 700; text-decoration: underline; } .retired { color: var(--soft); font-style: italic; }
 text { font: 13px system-ui, "DejaVu Sans", sans-serif; fill: var(--ink); }
 code { font: .9em ui-monospace, "DejaVu Sans Mono", monospace; overflow-wrap: anywhere; }
-@media (max-width: 760px) {
+@media screen and (max-width: 760px) {
   body { font-size: 15px; padding: .8rem .7rem 2rem; } thead { display: none; } table, tbody { display: block; }
   tr { display: grid; grid-template-columns: 1fr 1fr; border-bottom: 1px solid var(--ink); padding: .45rem 0; }
   th, td { border: 0; padding: .1rem 0; } .d1 { margin-left: .8rem; } .d2 { margin-left: 1.6rem; }
