@@ -80,9 +80,13 @@ def carry_out(scratch: Scratch, book: Path, done: Carried) -> None:
 def _of_bytes(scratch: Scratch, book: Path, names: Names, given: Input) -> Carried:
     asked = _explained(scratch, book, scratch.file("day", given.came), given.file)
     lines = asked.text.decode().split("\n")[:-1]
-    work = spread(lambda start, end: [clerk_line(line, names) for line in lines[start:end]], even(len(lines), WORTH_IT))
-    shown = [line for piece in work for line in piece]
+    pieces = spread(lambda start, end: _shown(lines[start:end], names), even(len(lines), WORTH_IT))
+    shown = b"".join(pieces).decode().split("\n")[:-1]
     return _made(given, names, asked, range(len(lines)), shown)
+
+
+def _shown(lines: list[str], names: Names) -> bytes:
+    return "".join([clerk_line(line, names) + "\n" for line in lines]).encode()
 
 
 def _of_whole(scratch: Scratch, book: Path, names: Names, given: Input) -> Carried | None:
@@ -91,16 +95,24 @@ def _of_whole(scratch: Scratch, book: Path, names: Names, given: Input) -> Carri
     if not whole.is_worth_it(data):
         return None
     grouped = aside(lambda: whole.is_grouped(data))
-    asked = None
+    asked, text = None, whole.text_of(data, names)
     try:
-        text = whole.text_of(data, names)
-        if text is not None:
-            asked = _explained(scratch, book, _written(scratch, book, text), given.file)
+        if text:
+            asked = _explained(scratch, book, _written(scratch, book, *text), given.file)
     except (ProgramFailed, SaysNothing):
         pass
-    if not grouped() or asked is None or asked.text != text:
+    if not grouped() or asked is None or not _is_same(asked.text, text):
         return None
     return _made(given, names, asked, range(asked.records), None)
+
+
+def _is_same(text: bytes, pieces: list[memoryview]) -> bool:
+    at = 0
+    for piece in pieces:
+        if not text.startswith(piece, at):
+            return False
+        at += len(piece)
+    return at == len(text)
 
 
 def _of_lines(scratch: Scratch, book: Path, names: Names, given: Input) -> Carried:
@@ -161,9 +173,9 @@ def _asked(scratch: Scratch, book: Path, file: str, text: list[str], at: list[in
     return asked
 
 
-def _written(scratch: Scratch, book: Path, text: bytes) -> Path:
+def _written(scratch: Scratch, book: Path, *text: bytes | memoryview) -> Path:
     day = scratch.place("day")
-    scratch.programs.run("write", scratch.file("text", text), book, into=day)
+    scratch.programs.run("write", scratch.file("text", *text), book, into=day)
     return day
 
 

@@ -8,7 +8,7 @@ def say(text: str) -> None:
     sys.stdout.write(text)
 
 
-def say_all(pieces: list[bytes]) -> None:
+def say_all(pieces: list[memoryview]) -> None:
     """Prints long pieces."""
     sys.stdout.flush()
     for piece in pieces:

@@ -25,8 +25,12 @@ class Scratch:
         self._count += 1
         return Path(self._folder.name) / f"{self._count}.{what}"
 
-    def file(self, what: str, data: bytes) -> Path:
+    def file(self, what: str, *pieces: bytes | memoryview) -> Path:
         """A new file with these bytes."""
         path = self.place(what)
-        path.write_bytes(data)
+        with open(path, "wb", buffering=0) as file:
+            for piece in pieces:
+                left = memoryview(piece)
+                while left:
+                    left = left[file.write(left) :]
         return path

@@ -1,13 +1,10 @@
 """Work on something long, shared out among the processors: a process for each piece but the last."""
 
+import mmap
 import os
-import pickle
 from collections.abc import Callable
-from typing import Any, TypeVar
 
 from desk.stops import Failed
-
-T = TypeVar("T")
 
 
 def hands(count: int, worth: int) -> int:
@@ -57,14 +54,14 @@ def line_start(text: bytes, line: int) -> int:
     return low
 
 
-def spread(work: Callable[[int, int], T], pieces: list[tuple[int, int]]) -> list[T]:
+def spread(work: Callable[[int, int], bytes], pieces: list[tuple[int, int]]) -> list[memoryview]:
     """What `work` gives for each piece, in their order."""
     started = [_start(work, start, end) for start, end in pieces[:-1]]
-    last = work(*pieces[-1])
+    last = memoryview(work(*pieces[-1]))
     return [*(_result(pid, memory) for pid, memory in started), last]
 
 
-def _start(work: Callable[[int, int], Any], start: int, end: int) -> tuple[int, int]:
+def _start(work: Callable[[int, int], bytes], start: int, end: int) -> tuple[int, int]:
     """A process that leaves its result in a piece of memory."""
     memory = os.memfd_create("loft")
     pid = os.fork()
@@ -72,23 +69,18 @@ def _start(work: Callable[[int, int], Any], start: int, end: int) -> tuple[int, 
         return pid, memory
     status = 1
     try:
-        with open(memory, "wb", buffering=0) as file:
-            _put_all(file.fileno(), pickle.dumps(work(start, end), protocol=5))
+        left = memoryview(work(start, end))
+        while left:
+            left = left[os.write(memory, left) :]
         status = 0
     finally:
         os._exit(status)
 
 
-def _put_all(place: int, data: bytes) -> None:
-    left = memoryview(data)
-    while left:
-        left = left[os.write(place, left) :]
-
-
-def _result(pid: int, memory: int) -> Any:
+def _result(pid: int, memory: int) -> memoryview:
     _, status = os.waitpid(pid, 0)
     with open(memory, "rb") as file:
         if status:
             raise Failed("a part of the work was ended; nothing is done")
-        file.seek(0)
-        return pickle.loads(file.read())
+        size = os.fstat(memory).st_size
+        return memoryview(mmap.mmap(file.fileno(), size, prot=mmap.PROT_READ)) if size else memoryview(b"")

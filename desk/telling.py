@@ -26,14 +26,14 @@ def _verdict(tail: str) -> str:
     return verdict(refusal, given, (most[0], most[1]) if most else None)
 
 
-def lines(done: Carried) -> list[bytes]:
+def lines(done: Carried) -> list[memoryview]:
     """A line for each record, in pieces."""
     if len(done.explained) >= LONG:
         text = done.input.plain if done.words is None else "".join(words + "\n" for words in done.words).encode()
         return spread(lambda start, end: _piece(done.explained, start, end, text), at_lines(done.explained, LONG))
     width = min(max(map(len, done.shown), default=0), WIDEST)
     text = "".join(words.ljust(width) + "\n" for words in done.shown).encode()
-    return [_piece(done.explained, 0, len(done.explained), text)]
+    return [memoryview(_piece(done.explained, 0, len(done.explained), text))]
 
 
 def _piece(explained: bytes, start: int, end: int, text: bytes) -> bytes:
@@ -43,7 +43,7 @@ def _piece(explained: bytes, start: int, end: int, text: bytes) -> bytes:
     first = line_start(text, explained.count(b"\n", 0, start))
     last = len(text) if end == len(explained) else line_start(text, explained.count(b"\n", 0, end))
     parts = [""] * (2 * len(tails))
-    parts[0::2] = text[first:last].decode("latin-1").split("\n")[: len(tails)]
+    parts[0::2] = str(memoryview(text)[first:last], "latin-1").split("\n")[: len(tails)]
     parts[1::2] = map(_Verdicts().__getitem__, tails)
     return "".join(parts).encode("latin-1")
 

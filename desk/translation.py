@@ -1,5 +1,6 @@
 """A whole file of a clerk's lines turned into the programs' text, a line for a line."""
 
+import pickle
 from dataclasses import dataclass, field
 
 from desk.names import BadName, Names, key
@@ -48,7 +49,8 @@ def opened_before(lines: list[str], at: int) -> int:
 
 def text_of(lines: list[str], accounts: Accounts, file: str) -> list[str]:
     """The programs' text of all lines; faults are told by file, line and why."""
-    pieces = spread(lambda start, end: _piece(lines, start, end, accounts), even(len(lines), WORTH_IT))
+    work = spread(lambda start, end: pickle.dumps(_piece(lines, start, end, accounts)), even(len(lines), WORTH_IT))
+    pieces: list[Text] = [pickle.loads(piece) for piece in work]
     faults = [fault for piece in pieces for fault in piece.faults]
     if faults:
         told = [f"{file}, line {at + 1}: {why}" for at, why in faults[:TOLD]]

@@ -47,26 +47,26 @@ def is_grouped(data: bytes) -> bool:
     return not (_BAD_POINT.search(data) or _BAD_COMMA.search(data))
 
 
-def text_of(data: bytes, names: Names) -> bytes | None:
-    """The programs' text of a long file for which `is_grouped` holds, or none."""
-    parts = spread(lambda start, end: _piece(data[start:end], names), at_lines(data, WORTH_IT))
-    return None if None in parts else b"".join(part for part in parts if part)
+def text_of(data: bytes, names: Names) -> list[memoryview]:
+    """The programs' text, in pieces, of a long file for which `is_grouped` holds; or nothing."""
+    parts = spread(lambda start, end: _piece(memoryview(data)[start:end], names), at_lines(data, WORTH_IT))
+    return parts if all(map(len, parts)) else []
 
 
-def _piece(data: bytes, names: Names) -> bytes | None:
-    """Bytes go by as letters, as those are joined much faster."""
-    parts = _HEAD.split("\n" + data.decode("latin-1"))
+def _piece(data: memoryview, names: Names) -> bytes:
+    """A piece's text, or nothing. Bytes go by as letters, as those are joined much faster."""
+    parts = _HEAD.split("\n" + str(data, "latin-1"))
     try:
         heads = list(map(_Heads(names).__getitem__, parts[1::2]))
     except (KeyError, ValueError):
-        return None
+        return b""
     parts[1::2] = heads
     # The line's end in front of the first line is the one added above.
     first = 0 if parts[0] else 1
     parts[first] = parts[first][1:]
     text = "".join(parts).encode("latin-1")
     if text.count(b".") != _amounts(text, heads):
-        return None
+        return b""
     return text.replace(b" 0.0", b" ").replace(b" 0.", b" ").translate(None, b",.")
 
 
