@@ -95,18 +95,21 @@ def _of_whole(scratch: Scratch, book: Path, names: Names, given: Input) -> Carri
     if not whole.is_worth_it(data):
         return None
     grouped = aside(lambda: whole.is_grouped(data))
-    asked, text = None, whole.text_of(data, names)
-    try:
-        if text:
-            asked = _explained(scratch, book, _written(scratch, book, *text), given.file)
-    except (ProgramFailed, SaysNothing):
-        pass
-    if not grouped() or asked is None or not _is_same(asked.text, text):
+    asked, wanted = None, []
+    if text := whole.text_of(data, names):
+        try:
+            asked, wanted = scratch.programs.both(
+                lambda: _explained(scratch, book, _written(scratch, book, *text), given.file),
+                lambda: [whole.without_zeros(piece) for piece in text],
+            )
+        except (ProgramFailed, SaysNothing):
+            pass
+    if not grouped() or asked is None or not _is_same(asked.text, wanted):
         return None
     return _made(given, names, asked, range(asked.records), None)
 
 
-def _is_same(text: bytes, pieces: list[memoryview]) -> bool:
+def _is_same(text: bytes, pieces: list[bytes]) -> bool:
     at = 0
     for piece in pieces:
         if not text.startswith(piece, at):

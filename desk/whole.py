@@ -14,8 +14,9 @@ from desk.words import BY_AMOUNT
 # Shorter files are gone through line by line.
 WORTH_IT = 1_000_000
 _HEAD = re.compile(r"(\n[a-z]+ [^ \n]+)")
-# A point that isn't followed by just two digits; a comma that doesn't stand as in 1,00,000.00.
-_BAD_POINT = re.compile(rb"\.(?!\d\d[ \n])")
+# A point that doesn't stand between a digit and just two digits; a comma that doesn't stand as in 1,00,000.00.
+_BAD_POINT = re.compile(rb"\.(?:(?!\d\d[ \n])|(?<!\d\.))")
+_ZEROS = re.compile(rb" (?<!raw )0+(?=\d)")
 _BAD_COMMA = re.compile(rb",(?:(?!\d\d(?:,|\d\.))|(?<! \d,)(?<! \d\d,)(?<!,\d\d,))")
 
 
@@ -65,9 +66,12 @@ def _piece(data: memoryview, names: Names) -> bytes:
     first = 0 if parts[0] else 1
     parts[first] = parts[first][1:]
     text = "".join(parts).encode("latin-1")
-    if text.count(b".") != _amounts(text, heads):
-        return b""
-    return text.replace(b" 0.0", b" ").replace(b" 0.", b" ").translate(None, b",.")
+    return text.translate(None, b",.") if text.count(b".") == _amounts(text, heads) else b""
+
+
+def without_zeros(text: bytes | memoryview) -> bytes:
+    """A text as `read` writes it: no number has zeros in front."""
+    return _ZEROS.sub(b" ", text)
 
 
 def _amounts(text: bytes, heads: list[str]) -> int:
