@@ -8,6 +8,7 @@ from collections.abc import Iterator
 from contextlib import contextmanager
 from pathlib import Path
 
+from desk.output import note
 from desk.stops import Failed
 
 # For tests alone: the process kills itself just before the guarded step with this number.
@@ -90,7 +91,11 @@ def locked(path: Path) -> Iterator[bool]:
         except OSError as error:
             raise Failed(f"the lock {path} can't be opened: {error.strerror}") from None
     try:
-        fcntl.flock(place, fcntl.LOCK_EX)
+        try:
+            fcntl.flock(place, fcntl.LOCK_EX | fcntl.LOCK_NB)
+        except BlockingIOError:
+            note(["another command is at work on this desk: waiting for it"])
+            fcntl.flock(place, fcntl.LOCK_EX)
         yield may_write
     finally:
         os.close(place)

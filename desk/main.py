@@ -37,7 +37,7 @@ def _carrying(every: "argparse._SubParsersAction[argparse.ArgumentParser]") -> N
     check = _command(every, "check", commands.check, "what would happen, line by line; nothing is saved")
     check.add_argument("file", metavar="FILE", nargs="+", help="text, .csv or .day")
     check.add_argument("--json", action="store_true", help="for another program")
-    post = _command(every, "post", commands.post, "the same, carried out")
+    post = _command(every, "post", commands.post, "carry out what files say, and keep it in the trail")
     post.add_argument("file", metavar="FILE", nargs="+", help="text, .csv or .day")
     post.add_argument("--all", action="store_true", help="carry out nothing unless every record passes")
     post.add_argument("--again", action="store_true", help="post a file that was posted before")

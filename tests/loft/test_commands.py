@@ -2,9 +2,11 @@
 
 import json
 import os
+import shutil
+import subprocess
 import unittest
 
-from desks import MONDAY, TOP, DeskTest, run_program
+from desks import LOFT, MONDAY, TOP, DeskTest, program, run_program
 
 
 class Carrying(DeskTest):
@@ -302,13 +304,37 @@ class Programs(DeskTest):
             self.assertIn(why, err)
             self.assertEqual(len(err.splitlines()), 1)
 
+    def test_what_is_missing_is_built(self) -> None:
+        """With a stand-in for `rt`: lines of progress, then the program runs; or one line that says why not."""
+        self.monday()
+        top = self.folder / "top"
+        shutil.copytree(TOP / "desk", top / "desk")
+        shutil.copy(LOFT, top / "loft")
+        rt = self.file("rt", f"#!/bin/sh\nmkdir -p target/bin\nln -s {program('needs').parent}/$2 target/bin/$2\necho noise\necho 'rt: sums proved (1 s)'\n")
+        rt.chmod(0o755)
+        how = {"PATH": f"{self.folder}:{os.environ['PATH']}"}
+        clean = {key: value for key, value in os.environ.items() if key != "LOFT_PROGRAMS"} | how
+
+        def needs() -> subprocess.CompletedProcess[str]:
+            return subprocess.run([str(top / "loft"), "needs", str(self.desk)], capture_output=True, text=True, env=clean, check=False)
+
+        ran = needs()
+        self.assertEqual(ran.returncode, 0, ran.stderr)
+        self.assertIn("needs isn't built yet", ran.stderr)
+        self.assertIn("loft: sums proved (1 s)\n", ran.stderr)
+        self.assertNotIn("noise", ran.stderr)
+        self.assertEqual(needs().stderr, "")
+        (top / "target/bin/needs").unlink()
+        rt.write_text("#!/bin/sh\necho 'rt: no such crate'\nexit 1\n")
+        ran = needs()
+        self.assertEqual(ran.returncode, 3)
+        self.assertIn("needs can't be built: rt check needs says: rt: no such crate\n", ran.stderr)
+
     def test_what_is_handed_over_is_compared(self) -> None:
         """A `write` that says something else than it was told is found before anything is carried out."""
         self.monday()
         folder = self.folder / "programs"
         folder.mkdir()
-        from desks import program
-
         for name in ("day", "standings", "holdings", "read", "explain"):
             (folder / name).symlink_to(program(name))
         (folder / "write").write_text(f"#!/bin/sh\nsed s/5/6/ \"$1\" > \"$1.x\"\nexec {program('write')} \"$1.x\" \"$2\"\n")

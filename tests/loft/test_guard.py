@@ -100,12 +100,20 @@ class AtOnce(Guarded):
     def test_two_postings_at_once(self) -> None:
         for turn in range(3):
             texts = [self.file(f"{turn}{clerk}.txt", f"receive A {turn + 1}\nreceive TM-1 {clerk + 1}\n") for clerk in range(4)]
-            running = [subprocess.Popen([str(LOFT), "post", str(self.desk), str(text)], stdout=subprocess.DEVNULL) for text in texts]
+            running = [subprocess.Popen([str(LOFT), "post", str(self.desk), str(text)], stdout=subprocess.DEVNULL, stderr=subprocess.DEVNULL) for text in texts]
             self.assertEqual([each.wait() for each in running], [0] * 4)
         self.assertEqual(len(self.postings()), 2 + 12)
         said = self.loft("show", self.desk, "A", status=0).out
         self.assertIn("cash          324.00     300.00", said)
         self.verified()
+
+    def test_who_waits_is_told(self) -> None:
+        with files.locked(self.desk / "lock"):
+            with subprocess.Popen([str(LOFT), "show", str(self.desk)], stdout=subprocess.DEVNULL, stderr=subprocess.PIPE, text=True) as waiting:
+                assert waiting.stderr is not None
+                self.assertIn("waiting for it", waiting.stderr.readline())
+                self.assertIsNone(waiting.poll())
+                waiting.terminate()
 
     def test_the_same_file_at_once(self) -> None:
         running = [subprocess.Popen([str(LOFT), "post", str(self.desk), str(self.tuesday)], stdout=subprocess.DEVNULL, stderr=subprocess.DEVNULL) for _ in range(3)]
