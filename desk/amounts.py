@@ -44,8 +44,8 @@ def rupees(amount: int) -> str:
     """An amount of paise in rupees, with Indian grouping: 1,00,000.00."""
     if amount < 0:
         return "-" + rupees(-amount)
-    whole, part = divmod(amount, 100)
-    return f"{grouped(str(whole))}.{part:02d}"
+    said = f"{amount:03d}"
+    return f"{grouped(said[:-2])}.{said[-2:]}"
 
 
 def grouped(whole: str) -> str:

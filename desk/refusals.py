@@ -1,5 +1,7 @@
 """Refusals in words: the one table, from documents 01 and 02."""
 
+from functools import cache
+
 from desk.amounts import rupees
 from desk.stops import SaysNothing
 
@@ -49,6 +51,7 @@ WORDS: dict[int, tuple[str, str]] = {
 _ASKED = (6, 10, 11, 12, 13, 17)
 
 
+@cache
 def refused(number: int) -> str:
     """A refusal beside a line."""
     return f"refused ({number}): {WORDS[number][0]}" if number in WORDS else f"refused ({number})"
