@@ -44,10 +44,21 @@ def program(name: str) -> Path:
     return Path(folder) / name if folder else TOP / "target" / "bin" / name
 
 
+def script(name: str) -> str:
+    """A shell script that runs a proved program, on any processor."""
+    if os.environ.get("LOFT_PROGRAMS"):
+        return f'#!/bin/sh\nexec {program(name)} "$@"\n'
+    return subprocess.run([str(TOP / "tests" / "program"), "--script", name], capture_output=True, text=True, check=True).stdout
+
+
+def command(name: str) -> list[str]:
+    """A proved program as the words of a command."""
+    return [str(program(name))] if os.environ.get("LOFT_PROGRAMS") else [str(TOP / "tests" / "program"), name]
+
+
 def run_program(name: str, *words: str | Path, given: bytes = b"") -> str:
     """What a proved program prints, without ./loft."""
-    command = [str(program(name))] if os.environ.get("LOFT_PROGRAMS") else [str(TOP / "tests" / "program"), name]
-    return subprocess.run([*command, *map(str, words)], input=given, capture_output=True, check=True).stdout.decode()
+    return subprocess.run([*command(name), *map(str, words)], input=given, capture_output=True, check=True).stdout.decode()
 
 
 class DeskTest(unittest.TestCase):

@@ -2,11 +2,12 @@
 
 import json
 import os
+import platform
 import shutil
 import subprocess
 import unittest
 
-from desks import LOFT, MONDAY, TOP, DeskTest, program, run_program
+from desks import LOFT, MONDAY, TOP, DeskTest, program, run_program, script
 
 
 class Carrying(DeskTest):
@@ -306,6 +307,8 @@ class Programs(DeskTest):
 
     def test_what_is_missing_is_built(self) -> None:
         """With a stand-in for `rt`: lines of progress, then the program runs; or one line that says why not."""
+        if platform.machine() != "x86_64":
+            self.skipTest("the emulator is asked of rt, too")
         self.monday()
         top = self.folder / "top"
         shutil.copytree(TOP / "desk", top / "desk")
@@ -335,9 +338,10 @@ class Programs(DeskTest):
         self.monday()
         folder = self.folder / "programs"
         folder.mkdir()
-        for name in ("day", "standings", "holdings", "read", "explain"):
-            (folder / name).symlink_to(program(name))
-        (folder / "write").write_text(f"#!/bin/sh\nsed s/5/6/ \"$1\" > \"$1.x\"\nexec {program('write')} \"$1.x\" \"$2\"\n")
+        for name in ("day", "standings", "holdings", "read", "explain", "honest"):
+            (folder / name).write_text(script("write" if name == "honest" else name))
+            os.chmod(folder / name, 0o755)
+        (folder / "write").write_text(f"#!/bin/sh\nsed s/5/6/ \"$1\" > \"$1.x\"\nexec {folder}/honest \"$1.x\" \"$2\"\n")
         os.chmod(folder / "write", 0o755)
         before = self.book()
         file = self.file("m.txt", "margin A 100\nmargin A 500\n")
