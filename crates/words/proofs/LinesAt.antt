@@ -1,19 +1,20 @@
 -- The line at a place of a text.
-use mathlib.Core.Bool.{Bool, true, false}
-use mathlib.Core.List.{List, [], _∷_}
+use mathlib.Core.Bool.{Bool, true, false, _||_}
+use mathlib.Core.List.{List, [], _∷_, _++_, append-nil, append-assoc}
 use mathlib.Core.Path.{_≡_, refl, sym, ap, _∙_}
 use Prim.Native.Nat.{ℕ, zero, suc, _+_, _-_, _≤_, _<_}
 use native.Mathlib.Omega.{arith}
 use lib.Dec.{eqb}
-use lib.ListN.{length, take, drop, getD, length-drop, drop-of-length-le}
-use lib.Seq.{drop-drop, getD-drop}
-use borrow.Author.Tests.{eq-eqb, ne-eqb}
+use lib.ListN.{length, take, drop, getD, length-drop, drop-of-length-le, take-append-drop}
+use lib.Seq.{drop-drop, getD-drop, length-take-le}
+use borrow.Author.Tests.{eq-eqb, ne-eqb, eqb-true}
 use Rattle.sums.specs.Choice.{pick}
-use Rattle.sums.proofs.Choices.{pick-yes, pick-no}
+use Rattle.sums.proofs.Choices.{pick-yes, pick-no, test-clash}
 use Rattle.words.specs.Texts.{onFirst, linesOf}
 use Rattle.words.specs.Pieces.{ended}
 use Rattle.words.specs.Inner.{lineLength}
 use Rattle.words.proofs.Steps.{ahead}
+use Rattle.words.proofs.Splitting.{OneLine, newline, byte, first-line as one-first}
 
 -- ---- where the loop that looks for its end is
 
@@ -81,6 +82,47 @@ ended-by b (c ∷ l) = by (eqb b 10) (lineLength (c ∷ l)) (some-length c l) (e
         let p : suc k - 1 ≡ k = omega arith in
         let q : suc (suc k) - 1 ≡ suc k = omega arith in
         rw q (rw p at e)
+
+no-lines : linesOf [] ≡ []
+unfolding linesOf
+no-lines = refl
+
+-- with its newline it is one line
+one-line : (b : ℕ) (l : List ℕ) → ended (take (lineLength (b ∷ l)) (b ∷ l)) ≡ true → OneLine (take (lineLength (b ∷ l)) (b ∷ l))
+unfolding ended lineLength pick
+one-line b [] = by (eqb b 10) refl
+  where
+    by : (t : Bool) → eqb b 10 ≡ t → ended (take (pick t 1 1) (b ∷ [])) ≡ true → OneLine (take (pick t 1 1) (b ∷ []))
+    by true e h = rw (eqb-true b 10 e) newline
+    by false e h = test-clash h e
+one-line b (c ∷ l) = by (eqb b 10) refl (lineLength (c ∷ l)) (some-length c l) (one-line c l)
+  where
+    by : (t : Bool) → eqb b 10 ≡ t → (k : ℕ) → 1 ≤ k → (ended (take k (c ∷ l)) ≡ true → OneLine (take k (c ∷ l)))
+        → ended (take (pick t 1 (suc k)) (b ∷ c ∷ l)) ≡ true → OneLine (take (pick t 1 (suc k)) (b ∷ c ∷ l))
+    by true e k h go f = rw (eqb-true b 10 e) newline
+    by false e zero h go f = absurd (omega arith)
+    by false e (suc k) h go f = byte e (go f)
+
+-- it stays the first where more follows
+pub lines-stay : (last : Bool) (more : List ℕ) → (last ≡ true → more ≡ []) → (t x : List ℕ) (xs : List (List ℕ)) → linesOf t ≡ x ∷ xs → (last || ended x) ≡ true
+    → (linesOf (t ++ more) ≡ x ∷ linesOf (drop (length x) t ++ more)) × (linesOf (drop (length x) t) ≡ xs)
+lines-stay last more m [] x xs e r = absurd (let z : linesOf [] ≡ [] = no-lines in let c : _≡_ {A = ℕ} 0 1 = cc in omega arith)
+lines-stay last more m (b ∷ l) x xs e r =
+    let k = lineLength (b ∷ l) in
+    let f = first-line b l in
+    let ex : x ≡ take k (b ∷ l) = cc in
+    let exs : linesOf (drop k (b ∷ l)) ≡ xs = cc in
+    let n : length x ≡ k = ap length ex ∙ length-take-le k (b ∷ l) (within-text (b ∷ l)) in
+    rw n (by last m r ex exs, exs)
+  where
+    by : (u : Bool) → (u ≡ true → more ≡ []) → (u || ended x) ≡ true → x ≡ take (lineLength (b ∷ l)) (b ∷ l) → linesOf (drop (lineLength (b ∷ l)) (b ∷ l)) ≡ xs
+        → linesOf ((b ∷ l) ++ more) ≡ x ∷ linesOf (drop (lineLength (b ∷ l)) (b ∷ l) ++ more)
+    by true q h ex exs = rw (q refl, append-nil (b ∷ l), append-nil (drop (lineLength (b ∷ l)) (b ∷ l)), ex) (first-line b l)
+    by false q h ex exs =
+        let k = lineLength (b ∷ l) in
+        let o : OneLine (take k (b ∷ l)) = one-line b l (rw ex at h) in
+        ap (λ (s : List ℕ). linesOf (s ++ more)) (sym (take-append-drop k (b ∷ l))) ∙ ap linesOf (append-assoc (take k (b ∷ l)) (drop k (b ∷ l)) more)
+        ∙ one-first (drop k (b ∷ l) ++ more) o ∙ ap (λ (s : List ℕ). s ∷ linesOf (drop k (b ∷ l) ++ more)) (sym ex)
 
 -- ---- at a place
 

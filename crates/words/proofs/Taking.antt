@@ -110,3 +110,6 @@ module _ {whole : Taking} {room₀ room : List ℕ} {place lines count : ℕ} {r
       let b : lines + 0 ≡ lines = omega arith in
       let x : whole .bytes ≡ f .bytes = ap (λ (t : Taking). t .bytes) w ∙ append-nil (f .bytes) in
       (rw (w, append-nil (f .bytes), a, b, ← s .0), s .1 ∙ ap (λ (l : List ℕ). atStart l room₀) (sym x))
+
+pub as-told : {A B : Type 0} {r x y : A} {room room′ : B} → r ≡ x → (x ≡ y) × (room ≡ room′) → (r ≡ y) × (room ≡ room′)
+as-told e h = (e ∙ h .0, h .1)

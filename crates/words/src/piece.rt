@@ -5,7 +5,7 @@ ghost use lib.ListN.{length, drop};
 ghost use Rattle.sums.specs.Room.{atStart};
 ghost use Rattle.words.specs.Texts.{lineTurned, recordTurned};
 ghost use Rattle.words.specs.Pieces.{bytesTaken, textTaken, toldOf};
-ghost use Rattle.words.specs.Inner.{lineLength, recordEnd, Stepped};
+ghost use Rattle.words.specs.Inner.{taken, lineLength, recordEnd, Stepped};
 use crate::Taken;
 use crate::one::bytes_meant;
 use crate::put::put_line;
@@ -22,6 +22,18 @@ use text::put_text;
 enum Step {
     Puts(usize, u16),
     Fails(u8),
+}
+
+fn told(place: usize, lines: usize, count: usize, running: u16, fault: u8) -> Taken
+    ensures { λ t. ⌜ t ≡ taken place lines count running fault ⌝ }
+{
+    Taken {
+        place,
+        lines,
+        count,
+        running,
+        fault,
+    }
 }
 
 // Where the line at a place ends.
@@ -68,23 +80,11 @@ pub fn bytes_of_text(text: &[u8], last: bool, running: u16, room: &mut [u8]) -> 
         let end = line_end(text, place);
         let whole = last | (text[end - 1] == b'\n');
         if !whole | (room.len() - count < 70) {
-            return Taken {
-                place,
-                lines,
-                count,
-                running: next,
-                fault: 0,
-            };
+            return told(place, lines, count, next, 0);
         }
         match line_into(&text[place..end], next, room, count) {
             Step::Fails(fault) => {
-                return Taken {
-                    place,
-                    lines,
-                    count,
-                    running: next,
-                    fault,
-                };
+                return told(place, lines, count, next, fault);
             }
             Step::Puts(after, serial) => {
                 place = end;
@@ -94,13 +94,7 @@ pub fn bytes_of_text(text: &[u8], last: bool, running: u16, room: &mut [u8]) -> 
             }
         }
     }
-    Taken {
-        place,
-        lines,
-        count,
-        running: next,
-        fault: 0,
-    }
+    told(place, lines, count, next, 0)
 }
 
 // Where a part ends, and whether it is there as a whole.
@@ -135,11 +129,12 @@ fn record_into(bytes: &[u8], running: u16, room: &mut [u8], at: usize) -> Step
     ensures { λ r. ⌜ Stepped (recordTurned running (now (bytes .entry))) (now (room .entry)) at r (now (room .exit)) ⌝ }
 {
     let next = moved(running, bytes);
-    if let Read::Good(record, _) = read_at(bytes, 0) {
-        let after = put_line(room, at, running, record);
-        return Step::Puts(after, next);
-    }
-    let after = put_raw(room, at, bytes);
+    let after = match read_at(bytes, 0) {
+        Read::Good(record, _) => put_line(room, at, running, record),
+        Read::Bad { .. } => put_raw(room, at, bytes),
+        Read::Cut => put_raw(room, at, bytes),
+        Read::End => put_raw(room, at, bytes),
+    };
     Step::Puts(after, next)
 }
 
@@ -156,23 +151,11 @@ pub fn text_of_bytes(bytes: &[u8], last: bool, running: u16, room: &mut [u8]) ->
         let found = record_end(bytes, place);
         let end = found.place;
         if !(last | found.whole) | (room.len() - count < 205) {
-            return Taken {
-                place,
-                lines,
-                count,
-                running: next,
-                fault: 0,
-            };
+            return told(place, lines, count, next, 0);
         }
         match record_into(&bytes[place..end], next, room, count) {
             Step::Fails(fault) => {
-                return Taken {
-                    place,
-                    lines,
-                    count,
-                    running: next,
-                    fault,
-                };
+                return told(place, lines, count, next, fault);
             }
             Step::Puts(after, serial) => {
                 place = end;
@@ -182,11 +165,5 @@ pub fn text_of_bytes(bytes: &[u8], last: bool, running: u16, room: &mut [u8]) ->
             }
         }
     }
-    Taken {
-        place,
-        lines,
-        count,
-        running: next,
-        fault: 0,
-    }
+    told(place, lines, count, next, 0)
 }

@@ -5,6 +5,7 @@ use denote.Ref.{now}
 use lib.ListN.{length}
 use borrow.Author.Needs.{needs}
 use Rattle.words.proofs.LinesAt.{line-more, line-within}
+use Rattle.words.proofs.Taking.{as-told}
 use Rattle.words.proofs.TextPieces.{TextState, text-started, text-over, text-room, text-fits, text-wait, text-enough, text-failed, text-went}
 use Rattle.words.proofs.piece.bytes_of_text.Statement.{statement}
 use Rattle.words.proofs.piece.bytes_of_text.Tie as tie
@@ -35,13 +36,13 @@ sub-if1 : tie.Need-sub-if1 Inv-loop μ-loop
 sub-if1 c = let l = c .before .before .before in text-fits (l .loop .inv .0)
 
 same-length : tie.Need-same-length Inv-loop μ-loop
-same-length c = let l = c .before .before .before .before in text-room (l .loop .inv .0)
+same-length c = let l = c .before .before .before .before .before in text-room (l .loop .inv .0)
 
 returns : tie.Need-returns Inv-loop μ-loop
 returns c =
-    let e = c .before .before in
+    let e = c .before .before .before in
     let l = e .before .before in
-    text-wait (l .loop .inv .0) (e .before .loop-test .taken) (e .line-end .ensures) (c .if1 .taken)
+    as-told (c .told .ensures) (text-wait (l .loop .inv .0) (e .before .loop-test .taken) (e .line-end .ensures) (c .before .if1 .taken))
 
 sub-line-into : tie.Need-sub-line-into Inv-loop μ-loop
 sub-line-into c =
@@ -70,18 +71,18 @@ line-into-requires c κs =
 
 same-length-2 : tie.Need-same-length-2 Inv-loop μ-loop
 same-length-2 c =
-    let d = c .before .before .before .before .before in
+    let d = c .before .before .before .before .before .before in
     let l = d .before .before .before .before .before .before .before in
     omega (arith, d .line-into .kept .1 .1 .0, text-room (l .loop .inv .0))
 
 returns-2 : tie.Need-returns-2 Inv-loop μ-loop
 returns-2 c =
-    let d = c .before .before .before .before .before in
+    let d = c .before .before .before .before .before .before in
     let i = d .before .before .before in
     let e = i .before .before in
     let l = e .before .before in
-    text-failed (l .loop .inv .0) (e .before .loop-test .taken) (e .line-end .ensures) (i .if1 .left)
-    (d .line-into .ensures) (c .before .fault .given .1)
+    as-told (c .told2 .ensures)
+    (text-failed (l .loop .inv .0) (e .before .loop-test .taken) (e .line-end .ensures) (i .if1 .left) (d .line-into .ensures) (c .before .before .fault .given .1))
 
 add-lines : tie.Need-add-lines Inv-loop μ-loop
 add-lines c =
@@ -109,14 +110,15 @@ loop-again c =
     )
 
 same-length-3 : tie.Need-same-length-3 Inv-loop μ-loop
-same-length-3 c = let l = c .before in text-room (l .loop .inv .0)
+same-length-3 c = let l = c .before .before in text-room (l .loop .inv .0)
 
 returns-3 : tie.Need-returns-3 Inv-loop μ-loop
-returns-3 c = let l = c .before in text-over (l .loop .inv .0) (c .loop-test .left)
+returns-3 c = let l = c .before .before in as-told (c .told3 .ensures) (text-over (l .loop .inv .0) (c .before .loop-test .left))
 
 pub bytes-of-text-spec : {M : Type 1} → statement M
 bytes-of-text-spec =
     tie.close
-    (tie.spec Inv-loop μ-loop loop-holds (λ c κs. search needs) sub-whole shared-slice-read-whole sub-if1 same-length
-    returns sub-line-into part-line-into-start part-line-into-end line-into-requires (λ c. search needs) same-length-2
-    returns-2 (λ c. search needs) add-lines loop-less loop-again same-length-3 returns-3)
+    (tie.spec Inv-loop μ-loop loop-holds (λ c κs. search needs) sub-whole shared-slice-read-whole sub-if1
+    (λ c κs. search needs) same-length returns sub-line-into part-line-into-start part-line-into-end line-into-requires
+    (λ c. search needs) (λ c κs. search needs) same-length-2 returns-2 (λ c. search needs) add-lines loop-less
+    loop-again (λ c κs. search needs) same-length-3 returns-3)
