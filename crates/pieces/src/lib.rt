@@ -29,11 +29,18 @@ pub fn blank() -> [u8; SPACE]
 }
 
 // Reads on behind the rest, unless the file was at its end before: a terminal isn't asked again.
-pub fn refill(program: &[u8], word: usize, fd: i32, space: &mut [u8], rest: usize, ended: bool) -> Moved
+pub fn refill(
+    program: &[u8],
+    word: usize,
+    fd: i32,
+    space: &mut [u8],
+    rest: usize,
+    ended: bool,
+) -> Moved
     requires { ⌜ rest ≤ length (now space) ⌝ }
     ensures { λ m. ⌜ rest + m .count ≤ length (now (space .exit)) ⌝ }
     ensures { λ _. ⌜ take rest (now (space .exit)) ≡ take rest (now (space .entry)) ⌝ }
-    ensures { λ m. ⌜ Bytes (now (space .exit)) × (ended ≡ true → m .failed ≡ false) ⌝ }
+    ensures { λ m. ⌜ Bytes (now (space .exit)) × (ended ≡ true → (m .failed ≡ false) × (m .count ≡ 0)) ⌝ }
 {
     if ended {
         return Moved {
@@ -49,7 +56,7 @@ pub fn refill_input(program: &[u8], space: &mut [u8], rest: usize, ended: bool) 
     requires { ⌜ rest ≤ length (now space) ⌝ }
     ensures { λ m. ⌜ rest + m .count ≤ length (now (space .exit)) ⌝ }
     ensures { λ _. ⌜ take rest (now (space .exit)) ≡ take rest (now (space .entry)) ⌝ }
-    ensures { λ m. ⌜ Bytes (now (space .exit)) × (ended ≡ true → m .failed ≡ false) ⌝ }
+    ensures { λ m. ⌜ Bytes (now (space .exit)) × (ended ≡ true → (m .failed ≡ false) × (m .count ≡ 0)) ⌝ }
 {
     refill(program, 0, STDIN_FILENO, space, rest, ended)
 }

@@ -10,7 +10,7 @@ use Rattle.pieces.proofs.refill.Statement.{statement}
 use Rattle.pieces.proofs.refill.Tie as tie
 
 returns : tie.Need-returns
-returns c = (omega arith, (refl, (λ i. c .before .slice-known .given i .fits, λ e. refl)))
+returns c = (omega arith, (refl, (λ i. c .before .slice-known .given i .fits, λ e. (refl, refl))))
 
 same-length : tie.Need-same-length
 same-length c = search needs
