@@ -1,4 +1,3 @@
-mod Moving
 pub mod Pieces
 pub mod PieceLines
 mod TurnText

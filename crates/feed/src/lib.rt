@@ -6,8 +6,8 @@ ghost use Rattle.book.specs.Facts.{Sound};
 ghost use Rattle.records.specs.Runs.{endedWith};
 ghost use Rattle.feed.specs.Fed.{noDay, dayOf, Came, CameExplained};
 ghost use Rattle.feed.specs.Inner.{toldText, CameWith};
+use pieces::SPACE;
 pub use records::Closing;
-use space::SPACE;
 use steps::At;
 use steps::entry::enter;
 use steps::entry::leave;
@@ -16,7 +16,6 @@ pub use table::Table;
 use turn::stops;
 
 pub mod books;
-mod space;
 mod turn;
 
 // "at a million records"
@@ -69,7 +68,7 @@ fn in_turns(program: &[u8], printing: bool, explained: bool, t: Table) -> Day
     requires { ⌜ Sound (turnedBack t) ⌝ }
     ensures { λ d. ⌜ CameWith (toldText printing explained (turnedBack t)) (turnedBack t) d ⌝ }
 {
-    let mut space = space::blank();
+    let mut space = pieces::blank();
     let mut text = [0u8; ROOM];
     let mut words = [0u64; 1000];
     text::texts::fill(&mut words);
@@ -99,7 +98,7 @@ fn in_turns(program: &[u8], printing: bool, explained: bool, t: Table) -> Day
     let mut printed: usize = 0;
     let mut ended = false;
     let closing = loop {
-        let got = space::refill(program, &mut space, rest, ended);
+        let got = pieces::refill_input(program, &mut space, rest, ended);
         let held = rest + got.count;
         let told = turn::carry_on(
             &mut sort,
@@ -136,7 +135,7 @@ fn in_turns(program: &[u8], printing: bool, explained: bool, t: Table) -> Day
         if stops(word, ended, MILLION <= read) {
             break word;
         }
-        rest = space::to_front(&mut space, went.place, held);
+        rest = pieces::to_front(&mut space, went.place, held);
     };
     let table = leave(at, sort, live, tm, amounts, was, modes, needs, accounts);
     Day {

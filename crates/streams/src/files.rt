@@ -2,7 +2,7 @@
 ghost use mathlib.Core.Bool.{true, false};
 ghost use mathlib.Core.List.{_++_};
 ghost use mathlib.Core.Path.{_≡_};
-ghost use Prim.Native.Nat.{_≤_};
+ghost use Prim.Native.Nat.{_≤_, _<_};
 ghost use lib.ListN.{length};
 ghost use Rattle.sums.specs.Choice.{pick};
 ghost use Rattle.streams.specs.Calls.{failedBy, errorIs, nothingMoved, withinOf, andThen};
@@ -93,6 +93,35 @@ pub fn read_named(program: &[u8], what: &[u8], word: usize, room: &mut [u8]) -> 
     let mut name = io::buffer();
     let n = os::arg(word, &mut name);
     read_file(program, what, &name[..n], os::errno(), room)
+}
+
+// Opens the file that a word names. Where that fails it is told, and the answer is below 0.
+pub fn open_named(program: &[u8], what: &[u8], word: usize) -> i32 {
+    let mut name = io::buffer();
+    let n = os::arg(word, &mut name);
+    if os::errno() != 0 {
+        cannot(program, what, b"its name");
+        return -1;
+    }
+    let fd = os::open_read(&name[..n]);
+    if fd < 0 {
+        cannot(program, what, &name[..n]);
+    }
+    fd
+}
+
+// Reads on from the file that a word names and that was opened, until the room is full or the file ends. A read that fails is told, with the name, which is had before: asking for it sets errno.
+pub fn read_on(program: &[u8], what: &[u8], word: usize, fd: i32, room: &mut [u8]) -> Moved
+    ensures { λ m. ⌜ m .count ≤ length (now (room .exit)) ⌝ }
+    ensures { λ m. ⌜ (m .failed ≡ true → m .count < length (now (room .exit))) ⌝ }
+{
+    let mut name = io::buffer();
+    let n = os::arg(word, &mut name);
+    let moved = read_all(fd, room);
+    if moved.failed {
+        cannot(program, what, &name[..n]);
+    }
+    moved
 }
 
 // Like the system's reasons, behind the name.

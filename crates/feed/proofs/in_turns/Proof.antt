@@ -50,10 +50,10 @@ filling z = z .before .before .before .before .before .before .before .before .b
 abbrev called : tie.After-enter Inv-loop μ-loop → tie.Start Inv-loop μ-loop
 called e = filling (sized e) .before .before .before .before
 
-abbrev turn : tie.After-refill Inv-loop μ-loop → tie.At-loop Inv-loop μ-loop
+abbrev turn : tie.After-refill-input Inv-loop μ-loop → tie.At-loop Inv-loop μ-loop
 turn f = f .before .before
 
-abbrev filled : tie.After-carry-on Inv-loop μ-loop → tie.After-refill Inv-loop μ-loop
+abbrev filled : tie.After-carry-on Inv-loop μ-loop → tie.After-refill-input Inv-loop μ-loop
 filled c = c .before .before .before .before .before .before .before .before .before .before .before .before .before .before .before .before
 
 abbrev carried : tie.After-hand-over Inv-loop μ-loop → tie.After-carry-on Inv-loop μ-loop
@@ -89,10 +89,10 @@ abbrev takes : tie.After-carry-on Inv-loop μ-loop → ℕ
 takes c = turnTakes (c .carry-on .result .went .closing) (c .carry-on .result .went .read)
 
 piece : (c : tie.After-carry-on Inv-loop μ-loop) → (let f = filled c in let v = turn f .loop in let a = called (entered (turn f .before)) .args in
-    Piece (a .printing) (a .explained) (first (entered (turn f .before))) (v .space) (bookAt (v .at) (marksFrom (v .sort) (v .live) (v .tm)) (v .amounts) (handed (turn f) .modes) (v .modes) (v .needs) (v .accounts)) (v .rest) (v .read) (v .done) (v .printed) (f .refill .last .1 .0) (v .rest + f .refill .result .count) (takes c) (ran c))
+    Piece (a .printing) (a .explained) (first (entered (turn f .before))) (v .space) (bookAt (v .at) (marksFrom (v .sort) (v .live) (v .tm)) (v .amounts) (handed (turn f) .modes) (v .modes) (v .needs) (v .accounts)) (v .rest) (v .read) (v .done) (v .printed) (f .refill-input .last .1 .0) (v .rest + f .refill-input .result .count) (takes c) (ran c))
 piece c =
     let g = turn (filled c) .loop .inv in
-    let f = filled c .refill in
+    let f = filled c .refill-input in
     record {
       before = g .0;
       size = f .kept .1 .0 ∙ g .0 .size;
@@ -123,7 +123,7 @@ shown s =
     let w = written s in
     let p = w .hand-over in
     let c = carried w in
-    let none = or-fails (filled c .refill .result .failed) (p .result .failed) (s .before .before .before .before .if1 .left) .1 in
+    let none = or-fails (filled c .refill-input .result .failed) (p .result .failed) (s .before .before .before .before .if1 .left) .1 in
     all-taken (p .result) _ (p .ensures .0) (p .ensures .1) none ∙ puts-at-start (c .carry-on .ensures .1 .1) .0
 
 enter-requires : tie.Need-enter-requires Inv-loop μ-loop
@@ -145,22 +145,22 @@ loop-holds c =
       length-replicate {A = ℕ} 16384 0,
     )
 
-slice-aggregate-refill : tie.Need-slice-aggregate-refill Inv-loop μ-loop
-slice-aggregate-refill c = sym (c .before .loop .inv .0 .size)
+slice-aggregate-refill-input : tie.Need-slice-aggregate-refill-input Inv-loop μ-loop
+slice-aggregate-refill-input c = sym (c .before .loop .inv .0 .size)
 
-refill-requires : tie.Need-refill-requires Inv-loop μ-loop
-refill-requires c κs = omega (arith, c .before .loop .inv .0 .within, c .before .loop .inv .0 .size)
+refill-input-requires : tie.Need-refill-input-requires Inv-loop μ-loop
+refill-input-requires c κs = omega (arith, c .before .loop .inv .0 .within, c .before .loop .inv .0 .size)
 
 add-held : tie.Need-add-held Inv-loop μ-loop
 add-held c =
     let f = c .before .before in
-    omega (arith, f .refill .ensures .0, f .refill .kept .1 .0, turn f .loop .inv .0 .size)
+    omega (arith, f .refill-input .ensures .0, f .refill-input .kept .1 .0, turn f .loop .inv .0 .size)
 
 array-share-prefix-space : tie.Need-array-share-prefix-space Inv-loop μ-loop
-array-share-prefix-space c = c .before .before .before .before .before .before .before .before .before .before .before .before .refill .ensures .0
+array-share-prefix-space c = c .before .before .before .before .before .before .before .before .before .before .before .before .refill-input .ensures .0
 
 slice-aggregate-carry-on : tie.Need-slice-aggregate-carry-on Inv-loop μ-loop
-slice-aggregate-carry-on c = sym (length-take-le _ _ (c .before .before .before .before .before .before .before .before .before .before .before .before .before .refill .ensures .0))
+slice-aggregate-carry-on c = sym (length-take-le _ _ (c .before .before .before .before .before .before .before .before .before .before .before .before .before .refill-input .ensures .0))
 
 sub-carry-on : tie.Need-sub-carry-on Inv-loop μ-loop
 sub-carry-on c = read-upto (turn (c .before .before .before .before .before .before .before .before .before .before .before .before .before) .loop .inv .0)
@@ -207,7 +207,7 @@ slice-aggregate-to-front c = sym (piece (carried (written (c .before .before))) 
 to-front-requires : tie.Need-to-front-requires Inv-loop μ-loop
 to-front-requires c κs =
     let t = carried (written (c .before .before)) in
-    (place-within (piece t), filled t .refill .ensures .0)
+    (place-within (piece t), filled t .refill-input .ensures .0)
 
 loop-less : tie.Need-loop-less Inv-loop μ-loop
 loop-less c =
@@ -235,7 +235,7 @@ pub in-turns-spec : {M : Type 1} → statement M
 in-turns-spec =
     tie.close
     (tie.spec Inv-loop μ-loop (λ c κs. search needs) (λ c κs. length-replicate {A = ℕ} 1000 0) (λ c κs. search needs)
-    (λ c κs. search needs) (λ c κs. search needs) enter-requires loop-holds slice-aggregate-refill refill-requires
+    (λ c κs. search needs) (λ c κs. search needs) enter-requires loop-holds slice-aggregate-refill-input refill-input-requires
     add-held array-share-prefix-space slice-aggregate-carry-on sub-carry-on slice-aggregate-carry-on-2 carry-on-requires
     slice-aggregate-hand-over hand-over-requires (λ c κs. search needs) returns add-read
     add-done add-printed (λ c κs. search needs) slice-aggregate-to-front to-front-requires loop-less loop-again

@@ -1,10 +1,10 @@
--- `feed::space::to_front`: the bytes brought to the front so far, and the rest as it was.
+-- `pieces::to_front`: the bytes brought to the front so far, and the rest as it was.
 use Prim.Native.Nat.{_-_, _≤_}
 use mathlib.Core.Path.{_≡_, refl}
 use native.Mathlib.Omega.{arith}
-use Rattle.feed.proofs.Moving.{Moved, none-moved, one-moved}
-use Rattle.feed.proofs.space.to_front.Statement.{statement}
-use Rattle.feed.proofs.space.to_front.Tie as tie
+use Rattle.pieces.proofs.Moving.{Moved, none-moved, one-moved}
+use Rattle.pieces.proofs.to_front.Statement.{statement}
+use Rattle.pieces.proofs.to_front.Tie as tie
 
 abbrev Inv-loop : tie.InvT-loop
 Inv-loop space₀ from to n i₀ space i = (i ≤ n) × Moved space₀ from i space

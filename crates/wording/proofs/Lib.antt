@@ -1,0 +1,4 @@
+mod Lengths
+mod LongLines
+mod Steps
+mod Sofar
