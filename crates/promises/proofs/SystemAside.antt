@@ -34,6 +34,8 @@ use Rattle.lines.proofs as lines
 use Rattle.closeout.proofs as closeout
 use Rattle.streams.proofs as streams
 use Rattle.feed.proofs as feed
+use Rattle.wording.specs.Wording.{inText, dayWithin, noWords, wordedOf}
+use Rattle.wording.proofs as wording
 use Rattle.bookfile.proofs as bookfile
 use Rattle.report.proofs as report
 use Rattle.currency.proofs as currency
@@ -124,6 +126,32 @@ pub of-streams-standard-too-many-words :
     (p : streams.standard.too_many_words.Reads.Learnt κs a x e) (q : streams.standard.too_many_words.Reads.Learnt κs a y e) →
     p .count ≡ q .count → x ≡ y
 of-streams-standard-too-many-words κs a x y e p q same = p .is ∙ ap (λ n. tooMany n (a .1 .0)) same ∙ sym (q .is)
+
+-- ---- wording: a file that comes in pieces, turned into the other form. Where the bytes that came are the same, and both failed or neither, so are the results.
+
+-- A day file in words.
+pub of-wording-in-words :
+    (κs : Lfts 1) (a : Args wording.in_words.signature κs) (x y : Res wording.in_words.signature κs) (e : AtExit wording.in_words.ended κs)
+    (p : wording.in_words.Reads.Learnt κs a x e) (q : wording.in_words.Reads.Learnt κs a y e) →
+    p .input ≡ q .input → x .failed ≡ y .failed → x ≡ y
+of-wording-in-words κs a x y e p q same luck =
+    p .is ∙ ap (λ t. pick t noWords (wordedOf true (inText (a .1 .0) (p .input)))) luck ∙ ap (λ s. pick (y .failed) noWords (wordedOf true (inText (a .1 .0) s))) same ∙ sym (q .is)
+
+-- A text judged.
+pub of-wording-judged :
+    (κs : Lfts 1) (a : Args wording.judged.signature κs) (x y : Res wording.judged.signature κs) (e : AtExit wording.judged.ended κs)
+    (p : wording.judged.Reads.Learnt κs a x e) (q : wording.judged.Reads.Learnt κs a y e) →
+    p .input ≡ q .input → x .failed ≡ y .failed → x ≡ y
+of-wording-judged κs a x y e p q same luck =
+    p .is ∙ ap (λ t. pick t noWords (wordedOf false (dayWithin (a .1 .1 .0) (p .input)))) luck ∙ ap (λ s. pick (y .failed) noWords (wordedOf false (dayWithin (a .1 .1 .0) s))) same ∙ sym (q .is)
+
+-- A text as a day file.
+pub of-wording-as-bytes :
+    (κs : Lfts 1) (a : Args wording.as_bytes.signature κs) (x y : Res wording.as_bytes.signature κs) (e : AtExit wording.as_bytes.ended κs)
+    (p : wording.as_bytes.Reads.Learnt κs a x e) (q : wording.as_bytes.Reads.Learnt κs a y e) →
+    p .input ≡ q .input → x .failed ≡ y .failed → x ≡ y
+of-wording-as-bytes κs a x y e p q same luck =
+    p .is ∙ ap (λ t. pick t noWords (wordedOf true (dayWithin (a .1 .1 .0) (p .input)))) luck ∙ ap (λ s. pick (y .failed) noWords (wordedOf true (dayWithin (a .1 .1 .0) s))) same ∙ sym (q .is)
 
 -- ---- feed. It prints the records' lines where that is asked for: how many bytes of them is said, and no promise can say which bytes standard output holds.
 
