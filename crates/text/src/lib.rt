@@ -10,6 +10,8 @@ pub mod line;
 mod number;
 pub mod texts;
 
+pub use number::put_decimal;
+
 // Puts a text at a place, and gives the place after it.
 pub fn put_text(room: &mut [u8], at: usize, text: &[u8]) -> usize
     requires { ⌜ at + length (now text) ≤ length (now room) ⌝ }

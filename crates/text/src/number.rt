@@ -59,7 +59,7 @@ pub(crate) fn put_five(room: &mut [u8], at: usize, n: u16) -> usize
 }
 
 // Puts any number of 64 bits, in the same way.
-pub(crate) fn put_decimal(room: &mut [u8], at: usize, n: u64) -> usize
+pub fn put_decimal(room: &mut [u8], at: usize, n: u64) -> usize
     requires { ⌜ at + 20 ≤ length (now room) ⌝ }
     ensures { λ after. ⌜ Puts (now (room .entry)) at (decimal n) (now (room .exit)) after ⌝ }
 {
