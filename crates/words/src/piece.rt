@@ -19,7 +19,7 @@ enum Step {
 }
 
 // Where the line at a place ends.
-fn line_end(text: &[u8], at: usize) -> usize
+pub fn line_end(text: &[u8], at: usize) -> usize
     ensures { λ r. ⌜ r ≡ at + lineLength (drop at (now (text .entry))) ⌝ }
 {
     let mut i = at;
