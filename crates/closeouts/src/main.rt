@@ -11,7 +11,9 @@ use feed::Table;
 use streams::standard::write_output;
 
 mod file;
+mod lines;
 mod losses;
+mod matching;
 
 // How many accounts have a row.
 fn accounts(t: Table) -> usize
