@@ -1,5 +1,5 @@
 -- What a text of losses says, a line `NUMBER AMOUNT` for each account that has one (docs/API.md), and the losses of the rows held by it.
-use mathlib.Core.Bool.{Bool, not, _&&_}
+use mathlib.Core.Bool.{Bool, true, false, not, _&&_}
 use mathlib.Core.List.{List, [], _∷_, _++_}
 use mathlib.Core.Path.{_≡_}
 use Prim.Native.Nat.{ℕ, suc}
@@ -9,7 +9,7 @@ use Rattle.sums.specs.Choice.{pick}
 use Rattle.sums.specs.Sum.{all}
 use Rattle.sums.specs.Listed.{listTo}
 use Rattle.rows.specs.declared.Book.{Book}
-use Rattle.rows.specs.Rows.{placeAmong, placeOf, numberAt as Rows·numberAt}
+use Rattle.rows.specs.Rows.{placeAmong, numberAt as Rows·numberAt}
 use Rattle.book.specs.Sound.{soundB}
 use Rattle.words.specs.declared.Got.{Got}
 use Rattle.words.specs.Tokens.{none, numberAt, endsAt}
@@ -20,6 +20,8 @@ use Rattle.report.specs.Holdings.{bytesIn}
 use Rattle.closeouts.specs.declared.lines.Loss.{Loss}
 use Rattle.closeouts.specs.declared.lines.Loss.the-variants.{Nothing, Of, Bad}
 use Rattle.closeouts.specs.declared.lines.Said.{Said}
+use Rattle.closeouts.specs.declared.losses.Losses.{Losses}
+use Rattle.closeouts.specs.Losses.{Came}
 use Rattle.closeouts.specs.Texts.{textOf}
 
 -- the faults of a line
@@ -76,7 +78,7 @@ toldOf text = toldFrom 1 [] [] (linesOf text)
 
 -- the same as a call's answer
 abbrev pub answered : Said → Told
-answered s = pick (eqb (s .fault) 0) (losses (take (s .count) (s .numbers)) (take (s .count) (s .amounts))) (wrong (s .line) (s .fault))
+answered s = pick (s .good) (losses (take (s .count) (s .numbers)) (take (s .count) (s .amounts))) (wrong (s .line) (s .fault))
 
 -- the loss of the account with a number: 0 where it isn't named
 unfoldable pub lossFor : List ℕ → List ℕ → ℕ → ℕ
@@ -88,7 +90,7 @@ rowLosses b numbers amounts = listTo (λ i. lossFor numbers amounts (Rows·numbe
 
 -- each account named has a row held
 unfoldable pub allHeld : Book → List ℕ → Bool
-allHeld b numbers = all (length numbers) (λ i. ltb (placeOf b (getD numbers i 0)) (b .count))
+allHeld b numbers = all (length numbers) (λ i. ltb (placeAmong (b .numbers) (accounts (b .count)) (getD numbers i 0)) (accounts (b .count)))
 
 -- the text of the close-out by these losses; `refused 7` where a number is held by no row: "the account is not live, or its number was never given", after 1
 unfoldable pub textOfLines : Book → List ℕ → List ℕ → List ℕ
@@ -99,6 +101,11 @@ unfoldable pub faultText : ℕ → ℕ → List ℕ
 faultText line fault = bytesIn "closeouts: line " ++ (followed line 58 ++ faultWords fault)
 
 -- No contract can say which bytes are read: there is a text of which these are the losses.
-pub record LinesCame (s : Said) : Type 0 where
+pub record LinesCame (l : Losses) : Type 0 where
   pub text : List ℕ
-  pub is : answered s ≡ toldOf text
+  pub is : losses (take (l .count) (l .numbers)) (take (l .count) (l .list)) ≡ toldOf text
+
+-- the losses of either form
+abbrev pub CameAs : Bool → Losses → Type 0
+CameAs true l = LinesCame l
+CameAs false l = Came l

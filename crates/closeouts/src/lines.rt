@@ -1,7 +1,8 @@
 // The losses that a text says: a line `NUMBER AMOUNT` for each account that has one.
+ghost use mathlib.Core.Bool.{true, false};
 ghost use mathlib.Core.Path.{_≡_};
 ghost use Prim.Native.Nat.{_≤_};
-ghost use lib.ListN.{length, take};
+ghost use lib.ListN.{length};
 ghost use Rattle.rows.specs.Rows.{placeAmong};
 ghost use Rattle.closeouts.specs.LossLines.{lossSaid, toldOf, answered};
 ghost use Rattle.closeouts.specs.Inner.{Puts};
@@ -19,6 +20,7 @@ pub(crate) enum Loss {
 
 // The accounts that a text names, with their losses; or the fault of a line, counted from 1.
 pub(crate) struct Said {
+    pub(crate) good: bool,
     pub(crate) fault: u8,
     pub(crate) line: usize,
     pub(crate) count: usize,
@@ -26,10 +28,31 @@ pub(crate) struct Said {
     pub(crate) amounts: [u64; 256],
 }
 
-// One line's account and loss put, and how many there are then, or its fault.
+// One line's account and loss put, and how many there are then; or its fault.
 struct Put {
+    good: bool,
     fault: u8,
     count: usize,
+}
+
+fn went(count: usize) -> Put
+    ensures { λ p. ⌜ p ≡ record { good = true; fault = 0; count = count } ⌝ }
+{
+    Put {
+        good: true,
+        fault: 0,
+        count,
+    }
+}
+
+fn failed(fault: u8, count: usize) -> Put
+    ensures { λ p. ⌜ p ≡ record { good = false; fault = fault; count = count } ⌝ }
+{
+    Put {
+        good: false,
+        fault,
+        count,
+    }
 }
 
 fn loss_of(line: &[u8]) -> Loss
@@ -51,10 +74,10 @@ fn loss_of(line: &[u8]) -> Loss
     if amount == NONE {
         return Loss::Bad(3);
     }
-    if !ends_at(line, loss.next) {
-        return Loss::Bad(4);
+    if ends_at(line, loss.next) {
+        return Loss::Of(number as u16, amount);
     }
-    Loss::Of(number as u16, amount)
+    Loss::Bad(4)
 }
 
 // The first of so many places that has the number, or how many there are where none has it. They need not rise.
@@ -77,21 +100,18 @@ fn put_loss(numbers: &mut [u16; 256], amounts: &mut [u64; 256], count: usize, lo
     ensures { λ p. ⌜ Puts (now (numbers .entry)) (now (amounts .entry)) count loss (now (numbers .exit)) (now (amounts .exit)) p ⌝ }
 {
     match loss {
-        Loss::Nothing => Put { fault: 0, count },
-        Loss::Bad(fault) => Put { fault, count },
+        Loss::Nothing => went(count),
+        Loss::Bad(fault) => failed(fault, count),
         Loss::Of(account, amount) => {
             if first_place(numbers, count, account) < count {
-                return Put { fault: 5, count };
+                return failed(5, count);
             }
             if count == 256 {
-                return Put { fault: 6, count };
+                return failed(6, count);
             }
             numbers[count] = account;
             amounts[count] = amount;
-            Put {
-                fault: 0,
-                count: count + 1,
-            }
+            went(count + 1)
         }
     }
 }
@@ -107,11 +127,13 @@ pub(crate) fn read_lines(text: &[u8]) -> Said
     let mut place: usize = 0;
     while place < text.len() {
         let end = line_end(text, place);
-        let put = put_loss(&mut numbers, &mut amounts, count, loss_of(&text[place..end]));
-        count = put.count;
-        if put.fault != 0 {
+        let loss = loss_of(&text[place..end]);
+        let one = put_loss(&mut numbers, &mut amounts, count, loss);
+        count = one.count;
+        if !one.good {
             return Said {
-                fault: put.fault,
+                good: false,
+                fault: one.fault,
                 line,
                 count,
                 numbers,
@@ -122,6 +144,7 @@ pub(crate) fn read_lines(text: &[u8]) -> Said
         line += 1;
     }
     Said {
+        good: true,
         fault: 0,
         line,
         count,

@@ -28,7 +28,6 @@ pub(crate) fn row_losses(
     requires { ⌜ (n ≤ 256) × (count ≤ 256) × (length (now numbers) ≡ 256) × (length (now amounts) ≡ 256) ⌝ }
     ensures { λ x. ⌜ take n x ≡ listTo (λ i. lossFor (take count (now (numbers .entry))) (take count (now (amounts .entry)))
         (getD (now (rows .entry)) i 0)) n ⌝ }
-    ensures { λ x. ⌜ length x ≡ 256 ⌝ }
 {
     let mut list = [0u64; 256];
     let mut i: usize = 0;
