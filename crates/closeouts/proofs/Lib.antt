@@ -1,2 +1,4 @@
 pub mod Texts
 pub mod LossFile
+pub mod Named
+pub mod LinesText

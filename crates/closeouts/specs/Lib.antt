@@ -1,2 +1,4 @@
 pub mod Texts
 pub mod Losses
+pub mod LossLines
+pub mod Inner

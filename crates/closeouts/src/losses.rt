@@ -1,4 +1,5 @@
 // The losses that a file's bytes say: eight bytes for each account, high byte first.
+ghost use mathlib.Core.Bool.{false};
 ghost use mathlib.Core.Path.{_≡_};
 ghost use Prim.Native.Nat.{_≤_};
 ghost use lib.ListN.{take};
@@ -6,9 +7,10 @@ ghost use Rattle.numbers.specs.Bytes.{Bytes};
 ghost use Rattle.closeouts.specs.Losses.{lossCount, lossesOf};
 use numbers::number8;
 
-// The losses, or that their file can't be read.
+// The losses, with the accounts' numbers where a text names them; or that their file can't be read.
 pub(crate) struct Losses {
     pub(crate) readable: bool,
+    pub(crate) numbers: [u16; 256],
     pub(crate) list: [u64; 256],
     pub(crate) count: usize,
 }
@@ -26,10 +28,12 @@ fn count_of(length: usize) -> usize
 
 // No losses, of a file that can't be read.
 pub(crate) fn unreadable() -> Losses
+    ensures { λ l. ⌜ l .readable ≡ false ⌝ }
     ensures { λ l. ⌜ l .count ≡ 0 ⌝ }
 {
     Losses {
         readable: false,
+        numbers: [0; 256],
         list: [0; 256],
         count: 0,
     }
@@ -50,6 +54,7 @@ pub(crate) fn list(bytes: &[u8]) -> Losses
     }
     Losses {
         readable: true,
+        numbers: [0; 256],
         list,
         count,
     }

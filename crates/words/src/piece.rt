@@ -37,7 +37,7 @@ fn told(place: usize, lines: usize, count: usize, running: u16, fault: u8) -> Ta
 }
 
 // Where the line at a place ends.
-fn line_end(text: &[u8], at: usize) -> usize
+pub fn line_end(text: &[u8], at: usize) -> usize
     ensures { λ r. ⌜ r ≡ at + lineLength (drop at (now (text .entry))) ⌝ }
 {
     let mut i = at;

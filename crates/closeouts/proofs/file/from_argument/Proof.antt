@@ -1,30 +1,21 @@
--- `closeouts::file::from_argument` meets its contract: the bytes that came are those at the room's front.
+-- `closeouts::file::from_argument` meets its contract.
 use borrow.Author.Needs.{needs}
-use mathlib.Core.Path.{sym}
 use native.Mathlib.Omega.{arith}
-use lib.Seq.{length-take-le}
-use Rattle.closeouts.proofs.LossFile.{none-came}
+use Rattle.sums.proofs.Choices.{test-clash}
 use Rattle.closeouts.proofs.file.from_argument.Statement.{statement}
 use Rattle.closeouts.proofs.file.from_argument.Tie as tie
 
 returns : tie.Need-returns
-returns c = (omega arith, none-came _ (c .unreadable .ensures))
+returns c = rw (c .before .before .before .before .if1 .taken) (c .from-lines .ensures)
 
 returns-2 : tie.Need-returns-2
-returns-2 c = (omega arith, none-came _ (c .unreadable2 .ensures))
-
-array-share-prefix-bytes : tie.Need-array-share-prefix-bytes
-array-share-prefix-bytes c = search needs
-
-slice-aggregate-list : tie.Need-slice-aggregate-list
-slice-aggregate-list c = sym (length-take-le _ _ (array-share-prefix-bytes (c .before)))
+returns-2 c = rw (c .before .before .before .before .if1 .left) (c .from-bytes .ensures .0, λ q. c .from-bytes .ensures .1)
 
 returns-3 : tie.Need-returns-3
-returns-3 c = (c .list .ensures .0, record { file = _; bytes = c .list .ensures .1 .1; is = c .list .ensures .1 .0 })
+returns-3 c = (omega (arith, c .unreadable .ensures .1), λ q. test-clash q (c .unreadable .ensures .0))
 
 pub from-argument-spec : {M : Type 1} → statement M
 from-argument-spec =
     tie.close
-    (tie.spec (λ c κs. search needs) (λ c. search needs) (λ c κs. search needs) (λ c κs. search needs) returns
-    (λ c. search needs) (λ c. search needs) (λ c. search needs) (λ c κs. search needs) (λ c κs. search needs) returns-2
-    array-share-prefix-bytes slice-aggregate-list (λ c κs. search needs) returns-3)
+    (tie.spec (λ c κs. search needs) (λ c κs. search needs) (λ c κs. search needs) returns (λ c κs. search needs)
+    (λ c κs. search needs) (λ c κs. search needs) returns-2 (λ c κs. search needs) (λ c κs. search needs) returns-3)
