@@ -218,6 +218,18 @@ of-lines-closing-line κs a x y u v p q = (one-result (p .0) (q .0), ap (λ room
 pub of-words-say-line-says : OneResultOnly words.say.line_says.ended words.say.line_says.Reads.Learnt
 of-words-say-line-says κs a x y u v p q = (one-result p q, refl)
 
+-- the number at a place
+pub of-words-scan-number-at : OneResultOnly words.scan.number_at.ended words.scan.number_at.Reads.Learnt
+of-words-scan-number-at κs a x y u v p q = (one-result p q, refl)
+
+-- whether nothing more stands in the line
+pub of-words-scan-ends-at : OneResultOnly words.scan.ends_at.ended words.scan.ends_at.Reads.Learnt
+of-words-scan-ends-at κs a x y u v p q = (one-result p q, refl)
+
+-- where a line ends
+pub of-words-piece-line-end : OneResultOnly words.piece.line_end.ended words.piece.line_end.Reads.Learnt
+of-words-piece-line-end κs a x y u v p q = (one-result p q, refl)
+
 -- the running serial after a line's bytes
 pub of-words-serial-moved : OneResultOnly words.serial.moved.ended words.serial.moved.Reads.Learnt
 of-words-serial-moved κs a x y u v p q = (one-result p q, refl)
