@@ -4,21 +4,18 @@ use mathlib.Core.List.{List, [], _∷_, _++_}
 use mathlib.Core.Path.{_≡_, refl, sym, ap, _∙_}
 use Prim.Native.Nat.{ℕ, zero, suc, _+_, _-_, _≤_, _<_}
 use native.Mathlib.Omega.{arith}
-use native.Mathlib.Decide.{ℕ-discrete, decLt}
+use native.Mathlib.Decide.{ℕ-discrete}
 use native.Mathlib.Numerals.{add-one}
-use borrow.Author.Tests.{eq-eqb, ne-eqb, eqb-true, lt-ltb, le-ltb, le-leb, lt-leb}
-use lib.Dec.{eqb, ltb, leb}
+use borrow.Author.Tests.{eq-eqb, ne-eqb, lt-ltb, le-ltb, le-leb, lt-leb}
+use lib.Dec.{eqb, ltb}
 use lib.ListN.{length, take, drop, getD, set, length-set, List·getD-eq-default}
 use lib.Seq.{length-take-le, getD-take, take-suc-set}
 use Rattle.sums.specs.Choice.{pick}
 use Rattle.sums.specs.Sum.{any, all, least}
-use Rattle.sums.specs.Listed.{listTo}
 use Rattle.sums.proofs.Choices.{pick-yes, pick-no, pick-first, pick-second}
 use Rattle.sums.proofs.Least.{least-is}
 use Rattle.sums.proofs.Sums.{all-step}
-use Rattle.sums.proofs.Lists.{list-is}
 use Rattle.rows.specs.Rows.{placeAmong}
-use Rattle.lookup.proofs.Places.{place-most, place-has, place-none}
 use Rattle.words.specs.declared.Got.{Got}
 use Rattle.words.specs.Tokens.{numberAt, endsAt}
 use Rattle.words.specs.Texts.{linesOf}
@@ -28,7 +25,7 @@ use Rattle.closeouts.specs.declared.lines.Loss.{Loss}
 use Rattle.closeouts.specs.declared.lines.Loss.the-variants.{Nothing, Of, Bad}
 use Rattle.closeouts.specs.declared.lines.Put.{Put}
 use Rattle.closeouts.specs.Inner.{Puts}
-use Rattle.closeouts.specs.LossLines.{Named, names, fails, lossSaid, accountSaid, amountSaid, namedBy, Told, losses, wrong, toldBy, toldFrom, toldOf, lossFor}
+use Rattle.closeouts.specs.LossLines.{names, fails, lossSaid, accountSaid, amountSaid, namedBy, losses, wrong, toldBy, toldFrom, toldOf, lossFor}
 
 -- ---- the place of a number
 

@@ -1,9 +1,7 @@
 -- `closeouts::lines::put_loss` meets its contract.
 use native.Mathlib.Omega.{arith}
 use borrow.Author.Needs.{needs}
-use Prim.Native.Nat.{_≤_}
 use denote.Ref.{now}
-use lib.ListN.{length}
 use Rattle.closeouts.proofs.Named.{puts-nothing, puts-bad, puts-twice, puts-none, puts-loss}
 use Rattle.closeouts.proofs.lines.put_loss.Statement.{statement}
 use Rattle.closeouts.proofs.lines.put_loss.Tie as tie

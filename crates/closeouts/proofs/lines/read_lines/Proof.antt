@@ -1,7 +1,6 @@
 -- `closeouts::lines::read_lines` meets its contract: what the text says is what the lines from the place on say behind what stands at the arrays' front.
-use mathlib.Core.List.{[]}
-use mathlib.Core.Path.{_≡_, refl, sym, ap, _∙_}
-use Prim.Native.Nat.{ℕ, suc, _+_, _-_, _≤_}
+use mathlib.Core.Path.{_≡_, refl}
+use Prim.Native.Nat.{ℕ, _+_, _-_, _≤_}
 use native.Mathlib.Omega.{arith}
 use borrow.Author.Needs.{needs}
 use denote.Ref.{now}
