@@ -1,4 +1,4 @@
--- Only for internal functions: no promise of a public call cites it.
+-- Only for internal functions, but for `markOf`, by which a line in words names its amount.
 use Prim.Native.Nat.{ℕ, _+_, _*_}
 use mathlib.Core.Bool.{_&&_, _||_}
 use mathlib.Core.List.{List}
