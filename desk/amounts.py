@@ -25,7 +25,7 @@ def digits(amount: str) -> str:
     if not (joined.isascii() and joined.isdigit() and whole):
         raise BadAmount(_wrong(amount, whole, part))
     joined = joined.lstrip("0") or "0"
-    if len(joined) > 13 and int(joined) > CEILING:
+    if len(joined) > 13 and (len(joined) > 14 or int(joined) > CEILING):
         raise BadAmount(f"{amount} is above the ceiling of {rupees(CEILING)}")
     return joined
 

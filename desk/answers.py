@@ -69,7 +69,7 @@ def registered(args: argparse.Namespace) -> int:
     """What was done to an account."""
     state = looked(args)
     number = account(state.names, args.account)
-    say("\n".join(register.lines(Desk(args.desk), state.names, number, args.refused)) + "\n")
+    say("\n".join(register.lines(Desk(args.desk), state.names, state.last.number, number, args.refused)) + "\n")
     return ALL_DONE
 
 

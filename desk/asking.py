@@ -96,6 +96,8 @@ def statement(args: argparse.Namespace) -> int:
         files = [(tm, Path(word)) for word in words[1:]]
     else:
         files = [(_tm_of(path, state.names), path) for word in words for path in _listed(Path(word))]
+    if not files:
+        raise SaysNothing(f"{', '.join(words)}: there is no file that is named after a TM, as TM-1.statement")
     rows, at_fault = [], 0
     with Scratch() as scratch:
         book = scratch.file("book", state.book)
@@ -116,7 +118,7 @@ def _listed(path: Path) -> list[Path]:
 def _tm_of(path: Path, names: Names) -> int:
     number = names.number(path.stem)
     if number is None:
-        raise SaysNothing(f"{path}: a statement is named by its TM, as TM-1.statement: {names.unknown(path.stem)}")
+        raise SaysNothing(f"{path}: a statement is named after its TM, as TM-1.statement: {names.unknown(path.stem)}")
     return number
 
 

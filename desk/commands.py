@@ -113,10 +113,13 @@ def post(args: argparse.Namespace) -> int:
             say("Something is refused, so nothing is carried out (--all).\n")
             return REFUSED
         last = state.last
+        posted = []
         for done in chain:
             last = commit(desk, last, done)
-            _tell(done, len(chain) > 1)
-            say(telling.summary(done, last.number))
+            posted.append(last.number)
+    for done, number in zip(chain, posted):
+        _tell(done, len(chain) > 1)
+        say(telling.summary(done, number))
     return REFUSED if refused else ALL_DONE
 
 

@@ -68,14 +68,25 @@ def replace(path: Path, data: bytes) -> None:
     new = beside(path)
     write_new(new, data)
     if path.exists():
-        held = path.stat()
         step()
-        os.chmod(new, held.st_mode & 0o7777)
-        if (held.st_uid, held.st_gid) != (new.stat().st_uid, new.stat().st_gid):
-            os.chown(new, held.st_uid, held.st_gid)
+        _keep_rights(new, path.stat())
     step()
     os.rename(new, path)
     to_disk(path.parent)
+
+
+def _keep_rights(new: Path, held: os.stat_result) -> None:
+    """Owner, group and rights of the file before. A clerk who may not give a file away keeps what may be kept."""
+    mine = new.stat()
+    for owner, group in ((held.st_uid, held.st_gid), (mine.st_uid, held.st_gid)):
+        if (owner, group) == (mine.st_uid, mine.st_gid):
+            break
+        try:
+            os.chown(new, owner, group)
+            break
+        except PermissionError:
+            continue
+    os.chmod(new, held.st_mode & 0o7777)
 
 
 @contextmanager

@@ -70,7 +70,7 @@ def _programs(every: "argparse._SubParsersAction[argparse.ArgumentParser]") -> N
     margin.add_argument("positions", metavar="FILE", help="lines such as: USDINR futures 1,00,000.00")
     statement = _command(every, "statement", asking.statement, "brokers' statements held against the book, a line each")
     statement.add_argument(
-        "word", metavar="WORD", nargs="+", help="TM FILE.., or files and folders whose statements are named by their TM: TM-1.statement"
+        "word", metavar="WORD", nargs="+", help="TM FILE.., or files and folders whose statements are named after their TM: TM-1.statement"
     )
     page = _command(every, "page", paging.page, "one page to look at or print")
     page.add_argument("out", metavar="OUT.html")

@@ -50,9 +50,10 @@ def judged(name: str) -> str:
 
 def number_of(word: str) -> int | None:
     """The account number that a word is, or none."""
-    if word.isascii() and word.isdigit() and int(word) <= LAST_NUMBER:
-        return int(word)
-    return None
+    if not (word.isascii() and word.isdigit()):
+        return None
+    plain = word.lstrip("0") or "0"
+    return int(plain) if len(plain) <= 5 and int(plain) <= LAST_NUMBER else None
 
 
 class Names:

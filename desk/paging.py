@@ -39,7 +39,8 @@ def page(args: argparse.Namespace) -> int:
 def _sheet(desk: Desk, state: State) -> Sheet:
     last = state.last
     day = last.time[:10]
-    postings = [posting for posting in map(desk.trail.read, desk.trail.numbers()) if posting.time[:10] == day]
+    held = (number for number in desk.trail.numbers() if number <= last.number)
+    postings = [posting for posting in map(desk.trail.read, held) if posting.time[:10] == day]
     refusals = [refusal for posting in postings for refusal in refused_in(desk, posting, state.names)]
     moment = f"As posting {last.number} left it, {last.time[:16].replace('T', ' ')}"
     name = desk.folder.resolve().name

@@ -9,9 +9,7 @@ def compare(wanted: list[str], at: list[int], back: list[str], serial: int, file
     for place, line in enumerate(wanted):
         one_form, own = _one_form(line, serial)
         if one_form is None:
-            if place + 1 < len(wanted):
-                raise SaysNothing(f"{file}, line {at[place] + 1}: these bytes aren't one whole record")
-            return
+            raise SaysNothing(f"{file}, line {at[place] + 1}: these bytes aren't one whole record")
         if place >= len(back) or one_form != back[place]:
             raise Failed(f"{file}, line {at[place] + 1}: write and read don't agree; nothing was done")
         serial = (serial + 1) % 65_536 if own == serial else serial

@@ -10,11 +10,11 @@ from desk.trail import Posting
 from desk.words import clerk_line
 
 
-def lines(desk: Desk, names: Names, number: int, with_refused: bool) -> list[str]:
-    """A line for each record that named the account, or opened it."""
+def lines(desk: Desk, names: Names, last: int, number: int, with_refused: bool) -> list[str]:
+    """A line for each record up to the posting `last` that named the account, or opened it."""
     rows = [["posting", "time", "file", "record", ""]]
     hidden = 0
-    for posting in (desk.trail.read(each) for each in desk.trail.numbers()):
+    for posting in (desk.trail.read(each) for each in desk.trail.numbers() if each <= last):
         for said, refusal in _of_posting(desk, posting, names, number):
             if refusal and not with_refused:
                 hidden += 1

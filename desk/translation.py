@@ -27,7 +27,7 @@ def new_names(lines: list[str], names: Names, file: str) -> dict[int, str]:
     found: dict[int, str] = {}
     line_of: dict[str, int] = {}
     for at, line in enumerate(lines):
-        if " as " not in line:
+        if " as" not in line and "\tas" not in line:
             continue
         try:
             name = new_name(line)

@@ -4,7 +4,7 @@ import re
 
 from desk import amounts
 from desk.amounts import BadAmount
-from desk.names import LAST_NUMBER, BadName, Names, judged
+from desk.names import LAST_NUMBER, BadName, Names, judged, number_of
 
 OPENINGS = ("tm", "client", "cp")
 BY_KIND = ("receive", "handback", "allocate", "release")
@@ -81,9 +81,10 @@ def program_line(line: str, accounts: Accounts, at: int) -> str:
         return "raw " + _bytes("".join(words[1:]))
     if first != "serial":
         return _record(first, words[1:], accounts, at)
-    if len(words) < 3 or not (words[1].isascii() and words[1].isdigit() and int(words[1]) <= LAST_NUMBER):
+    serial = number_of(words[1]) if len(words) > 2 else None
+    if serial is None:
         raise BadLine(f'behind "serial" stand a number up to {LAST_NUMBER} and a record')
-    return f"serial {int(words[1])} " + _record(words[2].lower(), words[3:], accounts, at)
+    return f"serial {serial} " + _record(words[2].lower(), words[3:], accounts, at)
 
 
 def _bytes(said: str) -> str:
@@ -112,6 +113,8 @@ def _record(word: str, rest: list[str], accounts: Accounts, at: int) -> str:
 
 def _opening(word: str, rest: list[str], accounts: Accounts, at: int) -> str:
     if "as" in rest:
+        if rest.index("as") + 2 != len(rest):
+            raise BadLine('behind "as" stands one name, in quotes where it has blanks')
         rest = rest[: rest.index("as")]
     if len(rest) > 1:
         raise BadLine(f"{word}: something more in the line: {rest[1]}")

@@ -99,6 +99,17 @@ class Carrying(DeskTest):
         self.assertIn("aren't one whole record", self.loft("check", self.desk, self.file("s.txt", "raw 0100\nraw 00040000\n"), status=2).err)
         self.verified()
 
+    def test_a_name_behind_no_blank(self) -> None:
+        self.monday()
+        self.loft("post", self.desk, self.file("n.txt", 'client TM-1 as"Anand Mills"\nmargin "Anand Mills" 5\n'), status=0)
+        self.assertIn("Anand Mills", (self.desk / "names.csv").read_text())
+        self.verified()
+
+    def test_a_folder_without_statements(self) -> None:
+        self.monday()
+        (self.folder / "none").mkdir()
+        self.assertIn("named after a TM", self.loft("statement", self.desk, self.folder / "none", status=2).err)
+
     def test_rights_and_links_stay(self) -> None:
         self.monday()
         (self.desk / "book").rename(self.folder / "the.book")
@@ -121,6 +132,11 @@ class SaysNothing(DeskTest):
             "margin Nobody 5": "no account is named Nobody",
             "receive A cash 0": "an amount missing or out of range",
             "tm as 12": "looks like a number",
+            "tm as": 'behind "as" stands one name',
+            'client TM-1 as"Anand Mills" too': 'behind "as" stands one name',
+            "margin A " + "9" * 5000: "above the ceiling",
+            "margin " + "9" * 5000 + " 5": "no account",
+            "raw 010000000000010000000000": "aren't one whole record",
             "tm as a": "is taken: A is account 2",
             "client TM-1 as New\ntm as new": "line 3: the name new is taken: line 2 gives it",
             "margin New 5\nclient TM-1 as New": "New is opened further down, in line 3",

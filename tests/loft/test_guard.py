@@ -212,6 +212,17 @@ class Failing(Guarded):
         self.loft("init", self.desk / "inner", status=3, **who)
 
 
+    @unittest.skipUnless(os.geteuid() == 0, "only root can be two clerks")
+    def test_two_clerks_with_logins_of_their_own(self) -> None:
+        for path in (self.desk, *self.desk.rglob("*")):
+            path.chmod(0o777 if path.is_dir() else 0o666)
+        self.loft("post", self.desk, self.tuesday, status=1, user=NOBODY, group=NOBODY)
+        self.assertNotEqual(self.book(), self.before)
+        self.assertEqual((self.desk / "book").stat().st_mode & 0o777, 0o666)
+        self.loft("post", self.desk, self.file("more.txt", "receive CM cash 1\n"), status=0)
+        self.loft("verify", self.desk, status=0)
+
+
 class Altered(Guarded):
     def altered(self, path: Path, what: str) -> None:
         data = bytearray(path.read_bytes())
