@@ -7,7 +7,8 @@ import sys
 
 from desk import answers, asking, commands, example, paging
 from desk.output import note
-from desk.stops import FAILED, Stop
+from desk.programs import Programs
+from desk.stops import FAILED, SaysNothing, Stop
 
 ABOUT = """\
 One command for the desk: names and rupees in front of the proved programs. Status: 0 all carried out,
@@ -58,6 +59,10 @@ def _asking(every: "argparse._SubParsersAction[argparse.ArgumentParser]") -> Non
     closeout.add_argument("losses", metavar="LOSSES", help="lines of an account and its loss")
     closeout.add_argument("--json", action="store_true", help="for another program")
     _programs(every)
+    program = every.add_parser("run", help="one of the proved programs by itself", description="one of the proved programs by itself: bytes in, bytes out")
+    program.set_defaults(run=_run)
+    program.add_argument("program", metavar="PROGRAM", help="such as day, standings, write, read")
+    program.add_argument("words", metavar="WORD", nargs=argparse.REMAINDER, help="the program's own words")
     _command(every, "verify", answers.verify, "replay the trail from the first book")
     refusal = _command(every, "refusal", answers.refusal, "a refusal in words")
     refusal.add_argument("number", metavar="N", type=int)
@@ -78,6 +83,12 @@ def _programs(every: "argparse._SubParsersAction[argparse.ArgumentParser]") -> N
     merge = _command(every, "merge", asking.merge, "two counters' files as one text, to be posted")
     merge.add_argument("a", metavar="A", help="text, .csv or .day")
     merge.add_argument("b", metavar="B", help="text, .csv or .day")
+
+
+def _run(args: argparse.Namespace) -> int:
+    if not args.program.isidentifier():
+        raise SaysNothing(f"{args.program} is no program's name")
+    Programs().become(args.program, args.words)
 
 
 def _example(args: argparse.Namespace) -> int:

@@ -10,7 +10,7 @@ import sys
 from collections.abc import Callable
 from concurrent.futures import ThreadPoolExecutor
 from pathlib import Path
-from typing import TypeVar
+from typing import NoReturn, TypeVar
 
 from desk.stops import Failed
 
@@ -51,6 +51,14 @@ class Programs:
         if told or ended.returncode < 0:
             raise ProgramFailed(name, told.splitlines()[0] if told else "")
         return into.read_bytes() if into else ended.stdout
+
+    def become(self, name: str, words: list[str]) -> NoReturn:
+        """The program itself in this one's place: its bytes in, its bytes out."""
+        command = [*self._ahead(), str(self._found(name)), *words]
+        try:
+            os.execv(command[0], command)
+        except OSError as error:
+            raise Failed(f"{name} can't be run: {error.strerror or error}") from None
 
     def both(self, first: Callable[[], T], second: Callable[[], U]) -> tuple[T, U]:
         """Two runs side by side."""

@@ -105,6 +105,13 @@ class Carrying(DeskTest):
         self.assertIn("Anand Mills", (self.desk / "names.csv").read_text())
         self.verified()
 
+    def test_a_program_by_itself(self) -> None:
+        day = TOP / "examples" / "deposit.day"
+        with day.open("rb") as given:
+            said = subprocess.run([LOFT, "run", "day"], stdin=given, capture_output=True, check=True).stdout.decode()
+        self.assertEqual(said, run_program("day", given=day.read_bytes()))
+        self.assertIn("no program's name", self.loft("run", "../day", status=2).err)
+
     def test_a_folder_without_statements(self) -> None:
         self.monday()
         (self.folder / "none").mkdir()
