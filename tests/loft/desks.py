@@ -44,6 +44,17 @@ def program(name: str) -> Path:
     return Path(folder) / name if folder else TOP / "target" / "bin" / name
 
 
+def another_login() -> dict[str, object]:
+    """The words that run ./loft as nobody, where the tests are root's and nobody can reach this folder."""
+    if os.geteuid() != 0:
+        return {}
+    try:
+        ran = subprocess.run([LOFT, "refusal", "1"], user=NOBODY, group=NOBODY, capture_output=True, check=False)
+    except OSError:
+        return {}
+    return {} if ran.returncode else {"user": NOBODY, "group": NOBODY}
+
+
 def script(name: str) -> str:
     """A shell script that runs a proved program, on any processor."""
     if os.environ.get("LOFT_PROGRAMS"):
