@@ -1,4 +1,4 @@
--- "Show that it admits one result only": for each public call, under its name, `OneResultOnly` of its own promise, but for the exceptions that docs/PROMISES.md names with their reasons (promises.SystemAside has what is said of them). No clause is copied:
+-- "Show that it admits one result only": for each public call, under its name, `OneResultOnly` of its own promise, but for the exceptions that docs/AUDIT.md names with their reasons (promises.SystemAside has what is said of them). No clause is copied:
 -- `book.needs.Reads.Learnt` is what the check itself makes of the `ensures` clauses of `book::needs` in crates/book/src, and what the proof
 -- of each caller is given as `.ensures`; `book.needs.ended` is the call's signature. `needs-word-for-word` shows it for one call. The check makes
 -- no `Learnt` of the reader's three calls: their clauses are written out (`ReaderSays`), and held to the source's below.

@@ -1,4 +1,4 @@
--- "Show that it admits one result only; put any exception in docs/ and say why.": the exceptions of docs/PROMISES.md that some statement can be made of. What the system answers no promise can say: how many bytes came,
+-- "Show that it admits one result only; put any exception in docs/ and say why.": the exceptions of docs/AUDIT.md that some statement can be made of. What the system answers no promise can say: how many bytes came,
 -- how many were taken, whether a call failed, how many words a program was started with and which bytes they have. Where it answered alike, the results are the same. `read_all`, `read_input`
 -- and `read_named` give only what it answered, and have no statement here.
 use mathlib.Core.Bool.{true, false, _&&_}
