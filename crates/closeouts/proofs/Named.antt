@@ -18,8 +18,7 @@ use Rattle.sums.proofs.Sums.{all-step}
 use Rattle.rows.specs.Rows.{placeAmong}
 use Rattle.words.specs.declared.Got.{Got}
 use Rattle.words.specs.Tokens.{numberAt, endsAt}
-use Rattle.words.specs.Texts.{linesOf}
-use Rattle.words.specs.Inner.{lineLength}
+use Rattle.words.specs.Texts.{linesOf, lineLength}
 use Rattle.words.proofs.LinesAt.{line-here, no-line}
 use Rattle.closeouts.specs.declared.lines.Loss.{Loss}
 use Rattle.closeouts.specs.declared.lines.Loss.the-variants.{Nothing, Of, Bad}

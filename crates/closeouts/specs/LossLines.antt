@@ -100,10 +100,14 @@ textOfLines b numbers amounts = pick (soundB b && not (allHeld b numbers)) (word
 unfoldable pub faultText : ℕ → ℕ → List ℕ
 faultText line fault = bytesIn "closeouts: line " ++ (followed line 58 ++ faultWords fault)
 
+-- these are the losses that a text says
+abbrev pub SaidBy : Losses → Told → Type 0
+SaidBy l told = losses (take (l .count) (l .numbers)) (take (l .count) (l .list)) ≡ told
+
 -- No contract can say which bytes are read: there is a text of which these are the losses.
 pub record LinesCame (l : Losses) : Type 0 where
   pub text : List ℕ
-  pub is : losses (take (l .count) (l .numbers)) (take (l .count) (l .list)) ≡ toldOf text
+  pub is : SaidBy l (toldOf text)
 
 -- the losses of either form
 abbrev pub CameAs : Bool → Losses → Type 0

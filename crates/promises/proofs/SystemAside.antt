@@ -16,6 +16,7 @@ use Rattle.book.specs.Sound.{soundB}
 use Rattle.sums.specs.Choice.{pick}
 use Rattle.numbers.specs.Bytes.{Bytes}
 use Rattle.streams.specs.declared.Moved.{Moved}
+use Rattle.streams.specs.Calls.{failedBy}
 use Rattle.streams.specs.Words.{isThere, tooMany, sameBytes, helpWord}
 use Rattle.streams.proofs.Taken.{all-taken}
 use Rattle.bookfile.specs.Reading.{readOf}
@@ -107,6 +108,14 @@ pub of-streams-files-replace-named :
     (p : streams.files.replace_named.Reads.Learnt κs a x e) (q : streams.files.replace_named.Reads.Learnt κs a y e) →
     x .failed ≡ y .failed → x ≡ y
 of-streams-files-replace-named κs a x y e p q luck = same-moved x y luck (p ∙ ap (λ t. pick t 0 (length (now (a .1 .1 .1 .0)))) luck ∙ sym q)
+
+-- A file that is opened: where the system gave the same number for it, the results are the same.
+pub of-streams-files-open-named :
+    (κs : Lfts 2) (a : Args streams.files.open_named.signature κs) (x y : Res streams.files.open_named.signature κs) (e : AtExit streams.files.open_named.ended κs)
+    (p : streams.files.open_named.Reads.Learnt κs a x e) (q : streams.files.open_named.Reads.Learnt κs a y e) →
+    x .fd ≡ y .fd → x ≡ y
+of-streams-files-open-named κs a x y e p q luck =
+    ap (λ t. record { failed = t; fd = x .fd }) (p ∙ ap failedBy luck ∙ sym q) ∙ ap (λ n. record { failed = y .failed; fd = n }) luck
 
 -- Whether help was asked for: where the first word is the same, and as many bytes of the help were taken.
 pub of-streams-standard-help :

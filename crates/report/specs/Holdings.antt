@@ -1,5 +1,5 @@
 -- What the program `holdings` prints behind the closing line, byte by byte: all that a book has of each row held, and how much of its collateral is used.
--- Laid down in docs/DECISIONS.md, 29.
+-- Laid down in docs/DECISIONS.md, 29, and "Day files in words", 7.
 use mathlib.Core.Bool.{Bool, true}
 use mathlib.Core.List.{List, [], _∷_, _++_}
 use Prim.Native.Nat.{ℕ, _*_, _/_, _%_}

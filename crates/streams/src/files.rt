@@ -17,6 +17,12 @@ use libc::STDERR_FILENO;
 // The longest name that a program's word can be, and three bytes more.
 const BESIDE: usize = 4099;
 
+// A file's number where it could be opened; one below 0 where not.
+pub struct Opened {
+    pub failed: bool,
+    pub fd: i32,
+}
+
 // Called right behind the call that failed: a write that takes all leaves errno as it was.
 pub(crate) fn cannot(program: &[u8], what: &[u8], name: &[u8]) {
     io::write_all(STDERR_FILENO, program);
@@ -95,19 +101,39 @@ pub fn read_named(program: &[u8], what: &[u8], word: usize, room: &mut [u8]) -> 
     read_file(program, what, &name[..n], os::errno(), room)
 }
 
-// Opens the file that a word names. Where that fails it is told, and the answer is below 0.
-pub fn open_named(program: &[u8], what: &[u8], word: usize) -> i32 {
+// A file that was opened, told where that failed.
+fn opened_by(program: &[u8], what: &[u8], name: &[u8], fd: i32) -> Opened
+    ensures { λ o. ⌜ (o .failed ≡ failedBy (o .fd)) × (o .fd ≡ fd) ⌝ }
+{
+    let failed = fd < 0;
+    if failed {
+        cannot(program, what, name);
+    }
+    Opened { failed, fd }
+}
+
+// Opens the file of a name that was had whole, where errno is 0.
+fn open_file(program: &[u8], what: &[u8], name: &[u8], error: i32) -> Opened
+    ensures { λ o. ⌜ o .failed ≡ failedBy (o .fd) ⌝ }
+    ensures { λ o. ⌜ (o .failed ≡ false → errorIs 0 error ≡ true) ⌝ }
+{
+    if error != 0 {
+        cannot(program, what, b"its name");
+        return Opened {
+            failed: true,
+            fd: -1,
+        };
+    }
+    opened_by(program, what, name, os::open_read(name))
+}
+
+// Opens the file that a word names. Where that fails it is told.
+pub fn open_named(program: &[u8], what: &[u8], word: usize) -> Opened
+    ensures { λ o. ⌜ o .failed ≡ failedBy (o .fd) ⌝ }
+{
     let mut name = io::buffer();
     let n = os::arg(word, &mut name);
-    if os::errno() != 0 {
-        cannot(program, what, b"its name");
-        return -1;
-    }
-    let fd = os::open_read(&name[..n]);
-    if fd < 0 {
-        cannot(program, what, &name[..n]);
-    }
-    fd
+    open_file(program, what, &name[..n], os::errno())
 }
 
 // Reads on from the file that a word names and that was opened, until the room is full or the file ends. A read that fails is told, with the name, which is had before: asking for it sets errno.

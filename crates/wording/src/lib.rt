@@ -146,12 +146,12 @@ pub fn in_words(program: &[u8], running: u16) -> Worded
 fn in_file(program: &[u8], word: usize, printing: bool, running: u16) -> Worded
     ensures { λ d. ⌜ Came (dayWithin running) printing d ⌝ }
 {
-    let fd = open_named(program, b"read the text", word);
-    if fd < 0 {
+    let file = open_named(program, b"read the text", word);
+    if file.failed {
         return no_words();
     }
-    let d = in_pieces(program, word, fd, false, printing, running);
-    libc::close(fd);
+    let d = in_pieces(program, word, file.fd, false, printing, running);
+    libc::close(file.fd);
     d
 }
 

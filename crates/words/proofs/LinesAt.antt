@@ -10,9 +10,8 @@ use lib.Seq.{drop-drop, getD-drop, length-take-le}
 use borrow.Author.Tests.{eq-eqb, ne-eqb, eqb-true}
 use Rattle.sums.specs.Choice.{pick}
 use Rattle.sums.proofs.Choices.{pick-yes, pick-no, test-clash}
-use Rattle.words.specs.Texts.{onFirst, linesOf}
+use Rattle.words.specs.Texts.{onFirst, linesOf, lineLength}
 use Rattle.words.specs.Pieces.{ended}
-use Rattle.words.specs.Inner.{lineLength}
 use Rattle.words.proofs.Steps.{ahead}
 use Rattle.words.proofs.Splitting.{OneLine, newline, byte, first-line as one-first}
 

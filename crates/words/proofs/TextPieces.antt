@@ -9,9 +9,9 @@ use lib.ListN.{length, take, drop, getD, length-drop}
 use lib.Seq.{length-take-le}
 use Rattle.words.specs.declared.piece.Step.{Step}
 use Rattle.words.specs.declared.piece.Step.the-variants.{Puts as Goes, Fails}
-use Rattle.words.specs.Texts.{lineTurned, linesOf}
+use Rattle.words.specs.Texts.{lineTurned, linesOf, lineLength}
 use Rattle.words.specs.Pieces.{ended}
-use Rattle.words.specs.Inner.{lineLength, Stepped}
+use Rattle.words.specs.Inner.{Stepped}
 use Rattle.words.proofs.LinesAt.{no-line, line-more, line-within, line-here, line-ended}
 use Rattle.words.proofs.Going.{State, Told, started, no-more, same-room, in-room, wait, enough, failed, went}
 

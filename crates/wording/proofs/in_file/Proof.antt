@@ -8,7 +8,7 @@ returns : tie.Need-returns
 returns c = failed-came (c .no-words .ensures)
 
 returns-2 : tie.Need-returns-2
-returns-2 c = day-came (c .before .before .before .before .before .before .args .running) (c .before .in-pieces .ensures)
+returns-2 c = day-came (c .before .before .before .before .before .before .before .before .args .running) (c .before .before .in-pieces .ensures)
 
 pub in-file-spec : {M : Type 1} → statement M
 in-file-spec =

@@ -10,7 +10,7 @@ returns : tie.Need-returns
 returns c =
     let i = c .before .before in
     let r = i .before .read-lines .ensures in
-    (r .0, λ q. record { text = _; is = sym (pick-yes _ _ _ (i .if1 .taken)) ∙ r .1 })
+    (r .0, λ q. sym (pick-yes _ _ _ (i .if1 .taken)) ∙ r .1)
 
 returns-2 : tie.Need-returns-2
 returns-2 c = (omega (arith, c .unreadable .ensures .1), λ q. test-clash q (c .unreadable .ensures .0))

@@ -2,7 +2,7 @@ use mathlib.Core.Path.{_≡_, refl, sym, _∙_}
 use Prim.Native.Nat.{_+_, _-_}
 use native.Mathlib.Omega.{arith}
 use lib.ListN.{length, drop}
-use Rattle.words.specs.Inner.{lineLength}
+use Rattle.words.specs.Texts.{lineLength}
 use Rattle.words.proofs.LinesAt.{length-end, length-stop, length-on}
 use Rattle.words.proofs.piece.line_end.Statement.{statement}
 use Rattle.words.proofs.piece.line_end.Tie as tie
