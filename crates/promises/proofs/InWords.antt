@@ -13,6 +13,8 @@ use Rattle.words.specs.Texts.{file, dayOf, textOf}
 use Rattle.words.proofs.Lines.{line-back}
 use Rattle.words.proofs.OneForm.{line-once, lines-apart, text-once, texts-apart}
 use Rattle.words.proofs.Files.{text-back}
+use Rattle.wording.specs.Wording.{dayWithin}
+use Rattle.wording.proofs.ReadBack.{text-taken}
 
 -- A good record's line says that record, whatever serial is the running one.
 pub a-record's-line-says-it : (running : ℕ) (r : Record) → faultOf r ≡ 0 → WordsFit r → lineSays running (lineOf running r) ≡ Says r
@@ -30,6 +32,10 @@ no-two-records-one-line = lines-apart
 -- A whole day file in words reads back to the same bytes, whatever they are: unknown codes, marks that don't suit, amounts out of range, a cut end, any serials.
 pub a-day-file-in-words-reads-back : (running : ℕ) (s : List ℕ) → Bytes s → dayOf running (textOf running s) ≡ file s
 a-day-file-in-words-reads-back = text-back
+
+-- The same of the programs, which refuse a line of 16,454 bytes or more with 34: no line that `read` prints is too long for `write`.
+pub what-read-prints-write-takes : (running : ℕ) (s : List ℕ) → Bytes s → dayWithin running (textOf running s) ≡ file s
+what-read-prints-write-takes = text-taken
 
 -- The other way for a text in its one form: the day file that it says has this text.
 pub a-text-in-its-one-form : (running : ℕ) (t s : List ℕ) → Bytes s → t ≡ textOf running s → (z : List ℕ) → dayOf running t ≡ file z → textOf running z ≡ t

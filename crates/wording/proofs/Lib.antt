@@ -2,3 +2,4 @@ mod Lengths
 mod LongLines
 mod Steps
 mod Sofar
+pub mod ReadBack
