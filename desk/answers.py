@@ -10,7 +10,7 @@ from desk.folder import Desk, State
 from desk.names import Names
 from desk.output import note, say
 from desk.scratch import Scratch
-from desk.stops import ALL_DONE, Failed, SaysNothing
+from desk.stops import ALL_DONE, SaysNothing
 from desk.tables import table
 from desk.telling import counted
 
@@ -77,7 +77,7 @@ def verify(args: argparse.Namespace) -> int:
     """The trail replayed."""
     desk = Desk(args.desk)
     if not desk.trail.folder.is_dir():
-        raise Failed(f"{desk.folder} is no desk: loft init {desk.folder} makes one")
+        raise SaysNothing(f"{desk.folder} is no desk: loft init {desk.folder} makes one")
     with Scratch() as scratch, locked(desk.folder / "lock") as may_write:
         note(desk.put_right(may_write))
         count = verifying.verify(desk, scratch)

@@ -9,7 +9,7 @@ from pathlib import Path
 from desk import names as naming
 from desk.files import beside, locked, replace, sha256, step
 from desk.names import Names
-from desk.stops import Failed
+from desk.stops import Failed, SaysNothing
 from desk.trail import Posting, Trail
 
 # Files beside the book that a posting leaves: a copy of each stands in its trail folder.
@@ -38,7 +38,7 @@ class Desk:
     def held(self) -> Iterator[State]:
         """The desk under its lock, once a posting that was broken off is finished or undone."""
         if not self.trail.folder.is_dir():
-            raise Failed(f"{self.folder} is no desk: loft init {self.folder} makes one")
+            raise SaysNothing(f"{self.folder} is no desk: loft init {self.folder} makes one")
         with locked(self.folder / "lock") as may_write:
             told = self.put_right(may_write)
             yield self._state(told)
@@ -97,7 +97,7 @@ class Desk:
     def _state(self, told: list[str]) -> State:
         numbers = self.trail.numbers()
         if not numbers:
-            raise Failed(f"{self.folder} is no desk: loft init {self.folder} makes one")
+            raise SaysNothing(f"{self.folder} is no desk: loft init {self.folder} makes one")
         last = self.trail.read(numbers[-1])
         book = self.book_bytes()
         if book is None or sha256(book) != last.after:

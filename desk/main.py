@@ -8,7 +8,7 @@ import sys
 from desk import answers, asking, commands, example, paging
 from desk.output import note
 from desk.programs import Programs
-from desk.stops import FAILED, SaysNothing, Stop
+from desk.stops import FAILED, SAYS_NOTHING, SaysNothing, Stop
 
 ABOUT = """\
 One command for the desk: names and rupees in front of the proved programs. Status: 0 all carried out,
@@ -88,7 +88,7 @@ def _programs(every: "argparse._SubParsersAction[argparse.ArgumentParser]") -> N
 def _run(args: argparse.Namespace) -> int:
     if not args.program.isidentifier():
         raise SaysNothing(f"{args.program} is no program's name")
-    Programs().become(args.program, args.words)
+    return Programs().alone(args.program, args.words)
 
 
 def _example(args: argparse.Namespace) -> int:
@@ -102,6 +102,9 @@ def _example(args: argparse.Namespace) -> int:
 def main() -> int:
     """Runs a command and gives its status."""
     gc.disable()
+    if len(sys.argv) == 1:
+        _parser().print_help(sys.stderr)
+        return SAYS_NOTHING
     args = _parser().parse_args()
     try:
         status = args.run(args)

@@ -111,6 +111,9 @@ class Names:
             return f"{word} is no account number: the last is {LAST_NUMBER}"
         same = self._taken.get(key(word))
         near = [same] if same else get_close_matches(word, self._number, 1)
+        whole = next((name for name in self._number if name.startswith(f"{word} ")), None)
+        if whole:
+            return f'no account is named {word} (a name with a blank goes in quotes: "{whole}")'
         return f"no account is named {word}" + (f" (is it {near[0]}?)" if near else "")
 
 

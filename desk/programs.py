@@ -10,9 +10,9 @@ import sys
 from collections.abc import Callable
 from concurrent.futures import ThreadPoolExecutor
 from pathlib import Path
-from typing import NoReturn, TypeVar
+from typing import TypeVar
 
-from desk.stops import Failed
+from desk.stops import ALL_DONE, FAILED, Failed, SaysNothing
 
 TOP = Path(__file__).resolve().parent.parent
 # For tests alone: a folder whose files are called in the place of those in target/bin.
@@ -52,13 +52,21 @@ class Programs:
             raise ProgramFailed(name, told.splitlines()[0] if told else "")
         return into.read_bytes() if into else ended.stdout
 
-    def become(self, name: str, words: list[str]) -> NoReturn:
-        """The program itself in this one's place: its bytes in, its bytes out."""
+    def alone(self, name: str, words: list[str]) -> int:
+        """The program by itself, its bytes in and its bytes out; its status, or that of a failure where it told one."""
+        if not (self._folder / name).exists() and not (TOP / "crates" / name / "src" / "main.rt").exists():
+            raise SaysNothing(f"there is no program {name}")
         command = [*self._ahead(), str(self._found(name)), *words]
         try:
-            os.execv(command[0], command)
+            with subprocess.Popen(command, stderr=subprocess.PIPE) as program:
+                assert program.stderr is not None
+                told = program.stderr.read()
         except OSError as error:
             raise Failed(f"{name} can't be run: {error.strerror or error}") from None
+        sys.stderr.buffer.write(told)
+        if program.returncode < 0:
+            return 128 - program.returncode
+        return FAILED if told and words[:1] != ["--help"] else ALL_DONE
 
     def both(self, first: Callable[[], T], second: Callable[[], U]) -> tuple[T, U]:
         """Two runs side by side."""

@@ -47,6 +47,14 @@ WORDS: dict[int, tuple[str, str]] = {
     28: ("received isn't what the book has", "Statement: received isn't the book's total."),
     29: ("more is placed than the book has allocated", "Statement: the book's allocated total is below what is placed with the clearing corporation."),
 }
+# A line in words that says nothing, as `write` reports it.
+FAULTS: dict[int, str] = {
+    30: "Something more stands in the line.",
+    31: "There is no serial after `serial`.",
+    32: "There are no bytes after `raw`.",
+    33: "There is no account, or one above 65535.",
+    34: "The line is too long.",
+}
 # Of these a clerk asks how much would have passed.
 _ASKED = (6, 10, 11, 12, 13, 17)
 
@@ -72,7 +80,9 @@ def verdict(refusal: int, given: int, most: tuple[int, int] | None) -> str:
 
 def told(number: int) -> list[str]:
     """`loft refusal N`."""
+    if number in FAULTS:
+        return [f"{number}: a line that `write` can't read", FAULTS[number]]
     if number not in WORDS:
-        raise SaysNothing(f"there is no refusal {number}: they are 1 to {max(WORDS)}")
+        raise SaysNothing(f"there is no refusal {number}: they are 1 to {max(WORDS)}, and 30 to {max(FAULTS)} for lines in words")
     short, long = WORDS[number]
     return [f"{number}: {short}", long]

@@ -46,7 +46,7 @@ class Carrying(DeskTest):
 
     def test_no_desk(self) -> None:
         for words in (["show"], ["verify"], ["needs"], ["archive"]):
-            self.assertIn("is no desk", self.loft(*words, self.desk, status=3).err)
+            self.assertIn("is no desk", self.loft(*words, self.desk, status=2).err)
 
     def test_all_or_nothing(self) -> None:
         self.monday()
@@ -111,6 +111,8 @@ class Carrying(DeskTest):
             said = subprocess.run([LOFT, "run", "day"], stdin=given, capture_output=True, check=True).stdout.decode()
         self.assertEqual(said, run_program("day", given=day.read_bytes()))
         self.assertIn("no program's name", self.loft("run", "../day", status=2).err)
+        self.assertIn("cannot", self.loft("run", "day", "/nowhere/book", status=3).err)
+        self.assertIn("there is no program nosuch", self.loft("run", "nosuch", status=2).err)
 
     def test_a_folder_without_statements(self) -> None:
         self.monday()
