@@ -1,10 +1,10 @@
 mod Filling
 mod Measures
-mod Tests
+pub mod Tests
 pub mod Told
 mod Joining
 mod Parts
-mod Wrote
+pub mod Wrote
 mod InPlace
 mod WrittenIn
 mod ReadBack

@@ -1,4 +1,4 @@
--- What the theorems speak of: no promise of a public call cites it.
+-- What the theorems speak of. No promise of a public call cites it but for `isTwo`, which those of the crate embedded do.
 use mathlib.Core.Bool.{Bool}
 use mathlib.Core.List.{List}
 use mathlib.Core.Path.{_≡_}

@@ -1,0 +1,5 @@
+pub mod Lent
+pub mod Refused
+pub mod Filled
+pub mod Carries
+pub mod Runs

@@ -1,0 +1,9 @@
+pub mod Held
+pub mod Records
+pub mod Asked
+pub mod Carrying
+pub mod Day
+pub mod Closing
+pub mod Moving
+pub mod Writing
+pub mod Margins
