@@ -3,3 +3,4 @@ pub mod Refused
 pub mod Filled
 pub mod Carries
 pub mod Runs
+pub mod Standing
