@@ -4,3 +4,5 @@ pub mod Filled
 pub mod Carries
 pub mod Runs
 pub mod Standing
+pub mod Wrote
+pub mod Making

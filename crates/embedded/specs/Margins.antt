@@ -29,16 +29,20 @@ positionAt products sides notionals i = record { product = getD products i 0; si
 -- "three lists of one length, at most 64"; "15 .. a side is above 3"
 abbrev pub arePositions : List ℕ → List ℕ → List ℕ → Bool
 arePositions products sides notionals =
-    eqb (length sides) (length products) && eqb (length notionals) (length products) && leb (length products) 64
-    && all (length sides) (λ i. leb (getD sides i 0) 3)
+    eqb (length sides) (length products)
+    && (eqb (length notionals) (length products) && (leb (length products) 64 && all (length sides) (λ i. leb (getD sides i 0) 3)))
 
 -- "`figures` are none, two (premium, loss) or four (exercise and settlement behind them)"
-abbrev pub areFigures : List ℤ → Bool
-areFigures figures = eqb (length figures) 0 || eqb (length figures) 2 || eqb (length figures) 4
+abbrev pub areMany : ℕ → Bool
+areMany n = eqb n 0 || eqb n 2 || eqb n 4
 
 -- "LOFT_RECORD bytes"
 abbrev pub isRoom : List ℕ → Bool
 isRoom room = eqb (length room) 14
+
+-- every list is as long as it says
+abbrev pub fits : List ℕ → List ℕ → List ℕ → List ℤ → List ℕ → Bool
+fits products sides notionals figures room = arePositions products sides notionals && (areMany (length figures) && isRoom room)
 
 -- a record's bytes "as in a day file"; with a refusal the room stays
 abbrev pub roomMade : Made → List ℕ → List ℕ
@@ -55,7 +59,7 @@ module _ (serial account initial : ℕ) (products sides notionals : List ℕ) (f
 
   -- "Refuses 15, 18 to 22."
   unfoldable pub marginRefusal : List ℕ → ℕ
-  marginRefusal room = pick (arePositions products sides notionals && areFigures figures && isRoom room) (numberMade madeIn) 15
+  marginRefusal room = pick (fits products sides notionals figures room) (numberMade madeIn) 15
 
   unfoldable pub marginRoom : List ℕ → List ℕ
-  marginRoom room = pick (arePositions products sides notionals && areFigures figures && isRoom room) (roomMade madeIn room) room
+  marginRoom room = pick (fits products sides notionals figures room) (roomMade madeIn room) room

@@ -4,5 +4,7 @@ mod carrying;
 mod closing;
 mod day;
 mod held;
+mod margins;
 mod moving;
 mod rooms;
+mod writing;
