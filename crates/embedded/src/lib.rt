@@ -8,3 +8,18 @@ mod margins;
 mod moving;
 mod rooms;
 mod writing;
+
+pub use asked::loft_most;
+pub use asked::loft_needs;
+pub use asked::loft_standing;
+pub use asked::loft_statement;
+pub use carrying::loft_carry_out;
+pub use closing::loft_close_out;
+pub use day::loft_day;
+pub use held::loft_fresh;
+pub use held::loft_is_sound;
+pub use margins::loft_margin;
+pub use moving::loft_archive;
+pub use moving::loft_take_over;
+pub use writing::loft_read_record;
+pub use writing::loft_write_record;
