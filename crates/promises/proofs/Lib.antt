@@ -17,6 +17,7 @@ pub mod WouldHavePassed
 pub mod InWords
 pub mod OneResult
 pub mod SystemAside
+pub mod Embedded
 pub mod Quick
 pub mod Exactly
 pub mod Positions
