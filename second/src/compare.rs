@@ -3,7 +3,7 @@
 
 mod archives;
 mod books;
-mod calls;
+pub mod calls;
 mod explains;
 mod froms;
 pub mod lines;
@@ -32,7 +32,7 @@ use crate::tally::Tally;
 use std::fs;
 use std::path::{Path, PathBuf};
 
-const VALUED: [&str; 23] = [
+const VALUED: [&str; 24] = [
     "--day",
     "--standings",
     "--closeouts",
@@ -52,6 +52,7 @@ const VALUED: [&str; 23] = [
     "--statement-runs",
     "--calls",
     "--call-inputs",
+    "--without",
     "--books",
     "--days",
     "--seed",

@@ -10,8 +10,17 @@ use crate::story;
 use std::fs;
 use std::process::Output;
 
+/// The program asked, and the calls that it hasn't, by number: it answers each of
+/// them with an empty line.
+struct Other<'a> {
+    program: &'a str,
+    without: Vec<u8>,
+}
+
 /// Where a whole round was asked for, all of it must have been met.
 pub fn all_inputs(options: &Options, programs: &Programs, program: &str) -> Result<Met, String> {
+    let without = numbers(options.value("--without").unwrap_or(""))?;
+    let other = Other { program, without };
     let seed = options.number("--seed", 1)?;
     let inputs = options.number("--call-inputs", 40)?;
     let mut met = Met::default();
@@ -23,7 +32,7 @@ pub fn all_inputs(options: &Options, programs: &Programs, program: &str) -> Resu
         } else {
             Pace::Whole
         };
-        one_input(programs, program, seed, pace, &mut met)?;
+        one_input(programs, &other, seed, pace, &mut met)?;
     }
     let missed = met.missed();
     if inputs >= asked::whole_round() as u64 && !missed.is_empty() {
@@ -32,15 +41,42 @@ pub fn all_inputs(options: &Options, programs: &Programs, program: &str) -> Resu
     Ok(met)
 }
 
+/// Such as `12,14`.
+fn numbers(words: &str) -> Result<Vec<u8>, String> {
+    let words = words.split(',').filter(|word| !word.is_empty());
+    let number = |word: &str| word.parse().ok().filter(|&byte| Call::is_known(byte));
+    words
+        .map(|word| number(word).ok_or_else(|| format!("--without: `{word}` is no call")))
+        .collect()
+}
+
+/// Lines, with nothing in those of the calls left out; `asked` has the calls by
+/// number, one for each line but `bad N`.
+pub fn emptied(lines: &[u8], asked: &[u8], without: &[u8]) -> Vec<u8> {
+    let mut out = Vec::with_capacity(lines.len());
+    for (place, line) in lines.split_inclusive(|&byte| byte == b'\n').enumerate() {
+        let is_out = asked
+            .get(place)
+            .map_or(false, |call| without.contains(call));
+        out.extend_from_slice(if is_out { b"\n" } else { line });
+    }
+    out
+}
+
 fn one_input(
     programs: &Programs,
-    program: &str,
+    other: &Other,
     seed: u64,
     pace: Pace,
     met: &mut Met,
 ) -> Result<(), String> {
     let asked = asked::make(seed);
-    let want = answered_seen(&asked.bytes, |call, answered| met.count(call, answered));
+    let mut calls = Vec::new();
+    let want = answered_seen(&asked.bytes, |call, answered| {
+        met.count(call, answered);
+        calls.push(call.number());
+    });
+    let want = emptied(&want, &calls, &other.without);
     let ending = want.split_inclusive(|&byte| byte == b'\n').next_back();
     let is_bad = ending.map_or(false, |line| line.starts_with(b"bad "));
     if is_bad == (asked.ending == 0) {
@@ -50,7 +86,7 @@ fn one_input(
     if let Some(wrong) = met.wrong().first() {
         return Err(format!("calls, seed {seed}: own answers differ: {wrong}"));
     }
-    let got = ask(program, &[], &asked.bytes, pace);
+    let got = ask(other.program, &[], &asked.bytes, pace);
     let got = got.map_err(|error| format!("calls: cannot run: {error}"))?;
     if got.stdout == want && got.status.code().is_some() {
         return Ok(());

@@ -2,6 +2,7 @@
 
 use crate::bookfile::{self, Version};
 use crate::calls::{answered, Call, Calls};
+use crate::compare::calls::emptied;
 use crate::dayfile::Values;
 use crate::story;
 use crate::table::{Table, LIVE, MODE, NEED, SORT, TM};
@@ -472,4 +473,11 @@ fn the_largest_words() {
         assert_eq!(String::from_utf8(answered(&bytes)).unwrap(), want);
         assert_eq!(Calls::of(&bytes).count(), 7);
     }
+}
+
+#[test]
+fn lines_of_calls_left_out_are_empty() {
+    let lines = b"0 80\n1\n0 50\nbad 3\n";
+    assert_eq!(emptied(lines, &[12, 1, 14], &[12, 14]), b"\n1\n\nbad 3\n");
+    assert_eq!(emptied(lines, &[12, 1, 14], &[]), lines);
 }
