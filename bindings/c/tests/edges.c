@@ -87,6 +87,7 @@ static void archives(void)
     expect(at[0] == SMALL_RETIRED && at[1] == 1 && at[2] == 0 && at[3] == 0xA5A5 && at[4] == 0xA5A5, "the archived row and the room behind");
     expect(rows_held(book) == SMALL_ROWS - 1, "the rows left");
     expect(loft_archive(book, LOFT_BOOK, at, 0, &moved) == 0 && moved == 0, "an archiving of nothing into no room");
+    expect(lent_is_guarded(&entries), "an archiving writes past its room");
     lent_free(&entries);
 }
 

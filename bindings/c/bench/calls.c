@@ -1,21 +1,17 @@
-/* bench calls: microseconds of each call on a full book of 256 accounts, the least of ten rounds.
- * bench day BYTES < DAYFILE: carries a day file out over a fresh book in pieces of so many bytes, and prints the closing line that the
- * program `day` prints. The answers are put but not printed. */
 #define _POSIX_C_SOURCE 200809L
 
-#include "tests/books.h"
-#include "tests/expect.h"
+#include "bench.h"
 
-#include <inttypes.h>
+#include "../tests/books.h"
+#include "../tests/expect.h"
+
 #include <stdio.h>
-#include <stdlib.h>
 #include <string.h>
 #include <time.h>
 
 #define ROUNDS 10
 #define TIMES 200
 #define RECORDS 1000
-#define MOST_RECORDS 1000000
 
 static uint8_t full[LOFT_BOOK], book[LOFT_BOOK];
 
@@ -149,7 +145,7 @@ static double least_of_rounds(void (*call)(void))
     return least;
 }
 
-static int bench_calls(void)
+int bench_calls(void)
 {
     static const struct {
         const char *name;
@@ -166,42 +162,6 @@ static int bench_calls(void)
     };
     full_book(full);
     for (size_t i = 0; i < sizeof calls / sizeof *calls; i++)
-        printf("%-26s %9.2f\n", calls[i].name, least_of_rounds(calls[i].call));
+        printf("%-26s %9.2f %9zu\n", calls[i].name, least_of_rounds(calls[i].call), stack_of(calls[i].call));
     return 0;
-}
-
-static int bench_day(size_t size)
-{
-    static const char *const closings[] = { "end", "cut", "long" };
-    size_t held = 0, room = LOFT_ANSWER * (size / 6 + 1), got;
-    uint8_t *piece = malloc(size);
-    uint16_t *answers = malloc(room * sizeof *answers);
-    uint64_t told[LOFT_TOLD], read = 0, done = 0;
-    expect(piece != NULL && answers != NULL, "memory for pieces of %zu bytes", size);
-    loft_fresh(book, LOFT_BOOK);
-    do {
-        got = fread(piece + held, 1, size - held, stdin);
-        held += got;
-        uint8_t refusal = loft_day(book, LOFT_BOOK, piece, held, MOST_RECORDS - read, answers, room, told, LOFT_TOLD);
-        expect(refusal == 0, "a piece: refused with %u", refusal);
-        read += told[2];
-        done += told[3];
-        held -= told[1];
-        memmove(piece, piece + told[1], held);
-    } while (got > 0 && read < MOST_RECORDS);
-    printf("%s %" PRIu64 " %" PRIu64 "\n", closings[told[0]], read, done);
-    free(piece);
-    free(answers);
-    return 0;
-}
-
-int main(int count, char **words)
-{
-    size_t size = count == 3 ? strtoul(words[2], NULL, 10) : 0;
-    if (count == 2 && strcmp(words[1], "calls") == 0)
-        return bench_calls();
-    if (size >= LOFT_LONGEST && strcmp(words[1], "day") == 0)
-        return bench_day(size);
-    fprintf(stderr, "bench calls | bench day BYTES < DAYFILE\n");
-    return 2;
 }
