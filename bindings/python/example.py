@@ -1,5 +1,5 @@
-"""A clearing member's morning: a trading member and its client are opened, the client's cash comes in and is allocated, its
-margin is set, and the rest of the morning comes as a piece of a day file.
+"""A clearing member's morning: a trading member and its client are opened, the client's cash comes in and is
+allocated, its margin is set, and the rest of the morning comes as a piece of a day file.
 
     bindings/make && python3 bindings/python/example.py
 """
@@ -15,8 +15,9 @@ def print_answer(answer: Answer) -> None:
 
 
 def print_standing(book: Book, account: int) -> None:
-    s = book.standing(account)
-    print(f"account {account}: collateral {s.collateral}, need {s.need}, blocked {s.blocked}, deemed {s.deemed}, free {s.free}")
+    standing = book.standing(account)
+    names = ["collateral", "need", "blocked", "deemed", "free"]
+    print(f"account {account}:", ", ".join(f"{name} {getattr(standing, name)}" for name in names))
 
 
 def main() -> None:
