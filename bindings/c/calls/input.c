@@ -7,17 +7,25 @@ bool input_all(struct input *input)
 {
     size_t room = 1 << 20, length = 0;
     uint8_t *bytes = malloc(room);
-    for (;;) {
-        if (bytes == NULL)
-            return false;
+    while (bytes != NULL) {
         length += fread(bytes + length, 1, room - length, stdin);
         if (length < room)
             break;
         room *= 2;
-        bytes = realloc(bytes, room);
+        uint8_t *larger = realloc(bytes, room);
+        if (larger == NULL)
+            free(bytes);
+        bytes = larger;
     }
-    *input = (struct input){ .left = bytes, .length = length, .is_bad = false };
+    if (bytes == NULL)
+        return false;
+    *input = (struct input){ .all = bytes, .left = bytes, .length = length, .is_bad = false };
     return !ferror(stdin);
+}
+
+void input_free(struct input *input)
+{
+    free(input->all);
 }
 
 const uint8_t *input_bytes(struct input *input, size_t length)

@@ -11,6 +11,7 @@
 
 /* What is left to be taken. `is_bad` once something was cut short, past its limit or no book; it stays so. */
 struct input {
+    uint8_t *all;
     const uint8_t *left;
     size_t length;
     bool is_bad;
@@ -18,6 +19,8 @@ struct input {
 
 /* All of standard input; false where it can't be read. */
 bool input_all(struct input *input);
+
+void input_free(struct input *input);
 
 /* A number of so many bytes, at most 8; 0 where the input is bad. */
 uint64_t input_number(struct input *input, size_t width);

@@ -40,5 +40,6 @@ int main(void)
         }
         printf("\n");
     }
+    input_free(&input);
     return fflush(stdout) == 0 ? 0 : 1;
 }
