@@ -17,9 +17,9 @@ use Rattle.desk.specs.Over.{overDone}
 use Rattle.desk.specs.Steps.{stepOf}
 use Rattle.desk.proofs.Doing.{unsound-step}
 use Rattle.records.specs.LineNumbers.{numbersOfLine}
-use Rattle.embedded.specs.Held.{bookOf, soundIn, lentRefusal}
+use Rattle.lent.specs.Held.{bookOf, soundIn, lentRefusal}
 use Rattle.embedded.specs.Carrying.{carriedRefusal, carriedBook, carriedAnswer}
-use Rattle.embedded.proofs.Lent.{two-sound, refused-1, none-refused, unfit-refused}
+use Rattle.lent.proofs.Lent.{two-sound, refused-1, none-refused, unfit-refused}
 
 -- what is returned, and what is in the bytes and in the answer then
 abbrev pub Gives : List ℕ → Bool → Record → List ℕ → ℕ → List ℕ → List ℕ → Type 0

@@ -27,7 +27,7 @@ use Rattle.exposure.specs.Joined.{joinedOf}
 use Rattle.exposure.specs.Lists.{figureAt}
 use Rattle.exposure.proofs.JoinGiven.{joined}
 use Rattle.embedded.specs.Margins.{positionAt, arePositions, madeIn}
-use Rattle.embedded.proofs.Filled.{filled}
+use Rattle.lent.proofs.Filled.{filled}
 
 module _ (products sides notionals : List ℕ) where
   pub right : {t : Bool} → length sides ≡ length products → length notionals ≡ length products → length products ≤ 64

@@ -11,10 +11,10 @@ use Rattle.book.specs.Sound.{soundB}
 use Rattle.book.specs.Asked.{standingOf}
 use Rattle.book.proofs.StandingRefusals.{unsound-refused, standing-number}
 use Rattle.bookfile.specs.Facts.{isTwo}
-use Rattle.embedded.specs.Held.{bookOf, soundIn, lentRefusal}
+use Rattle.lent.specs.Held.{bookOf, soundIn, lentRefusal}
 use Rattle.embedded.specs.Asked.{areSeven, listed, standingRefusal, standingAfter}
-use Rattle.embedded.proofs.Lent.{two-sound, refused-1, none-refused, unfit-refused}
-use Rattle.embedded.proofs.Refused.{stays, given}
+use Rattle.lent.proofs.Lent.{two-sound, refused-1, none-refused, unfit-refused}
+use Rattle.lent.proofs.Refused.{stays, given}
 
 module _ (bytes : List ℕ) (account : ℕ) (figures : List ℕ) where
   -- what is returned, and what is in the figures then

@@ -13,7 +13,7 @@ use Rattle.bookfile.specs.Written.{yesNo}
 use Rattle.passing.specs.declared.Largest.{Largest}
 use Rattle.passing.specs.Most.{mostOf}
 use Rattle.statement.specs.Statements.{statementFinding}
-use Rattle.embedded.specs.Held.{bookOf, lentRefusal}
+use Rattle.lent.specs.Held.{bookOf, lentRefusal}
 use Rattle.embedded.specs.Records.{recordOf}
 
 -- ---- an account's standing

@@ -9,7 +9,7 @@ use Rattle.dayfile.specs.declared.Record.{Record}
 use Rattle.desk.specs.Answers.{refusalIn}
 use Rattle.desk.specs.Steps.{stepOf}
 use Rattle.records.specs.LineNumbers.{numbersOfLine}
-use Rattle.embedded.specs.Held.{bookOf, bytesOf, lentRefusal}
+use Rattle.lent.specs.Held.{bookOf, bytesOf, lentRefusal}
 
 -- "`amounts` are LOFT_AMOUNTS"; "`answer` is LOFT_ANSWER numbers"
 abbrev pub areFit : List ℕ → List ℕ → Bool

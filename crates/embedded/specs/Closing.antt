@@ -5,7 +5,7 @@ use Rattle.sums.specs.Choice.{pick, unlessRefused}
 use Rattle.bookfile.specs.Facts.{isTwo}
 use Rattle.closeout.specs.declared.Closed.{Closed}
 use Rattle.closeout.specs.Closing.{noTotal, closedOf, roomOf}
-use Rattle.embedded.specs.Held.{bookOf}
+use Rattle.lent.specs.Held.{bookOf}
 
 -- "Who pays what: a loss for each row held, four amounts for each (own, its TM's, the CM's, uncovered), and what is uncovered in all. Refuses 1, 15, 16."
 unfoldable pub closedIn : List ℕ → List ℕ → List ℕ → Closed

@@ -1,8 +1,6 @@
-pub mod Held
 pub mod Records
 pub mod Asked
 pub mod Carrying
-pub mod Day
 pub mod Closing
 pub mod Moving
 pub mod Writing

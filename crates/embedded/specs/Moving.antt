@@ -6,7 +6,7 @@ use Rattle.book.specs.TakeOver.{takeOverRefusal, takenOver}
 use Rattle.bookfile.specs.Facts.{isTwo}
 use Rattle.bookfile.specs.Written.{writtenOf}
 use Rattle.archival.specs.Archive.{archivedOf, archiveRoom}
-use Rattle.embedded.specs.Held.{bookOf, bytesOf}
+use Rattle.lent.specs.Held.{bookOf, bytesOf}
 
 -- ---- the archive
 

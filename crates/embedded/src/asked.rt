@@ -3,10 +3,10 @@ ghost use mathlib.Core.Path.{_≡_};
 ghost use lib.ListN.{length};
 ghost use Rattle.bookfile.specs.Written.{yesNo};
 ghost use Rattle.embedded.specs.Asked.{listed, standingRefusal, standingAfter, largestIn, mostAfter, needsRefused, needsAfter, statementRefusal};
-use crate::held::book_in;
-use crate::held::unfit;
 use crate::rooms::bare_record;
 use book::Figures;
+use lent::book_in;
+use lent::unfit;
 
 fn one_if(yes: bool) -> u64
     ensures { λ n. ⌜ n ≡ yesNo yes ⌝ }

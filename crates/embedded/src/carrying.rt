@@ -4,13 +4,13 @@ ghost use mathlib.Core.Path.{_≡_};
 ghost use lib.ListN.{length};
 ghost use Rattle.embedded.specs.Records.{recordOf};
 ghost use Rattle.embedded.specs.Carrying.{areFit, carriedRefusal, carriedBook, carriedAnswer};
-use crate::held::book_in;
-use crate::held::put_back;
-use crate::held::unfit;
 use crate::rooms::put_answer;
 use crate::rooms::record_of;
 use crate::rooms::refusal_in;
 use desk::Record;
+use lent::book_in;
+use lent::put_back;
+use lent::unfit;
 
 // The desk's 1 is the only one of its refusals that leaves everything: the book is tested once.
 fn carry(book: &mut [u8], r: Record, answer: &mut [u16]) -> u8

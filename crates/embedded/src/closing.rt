@@ -1,7 +1,7 @@
 // A close-out on a book's bytes.
 ghost use mathlib.Core.Path.{_≡_};
 ghost use Rattle.embedded.specs.Closing.{closedIn, paysAfter, totalAfter};
-use crate::held::book_in;
+use lent::book_in;
 
 #[no_mangle]
 pub extern "C" fn loft_close_out(

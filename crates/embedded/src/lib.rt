@@ -2,7 +2,6 @@
 mod asked;
 mod carrying;
 mod closing;
-mod day;
 mod held;
 mod margins;
 mod moving;
@@ -15,7 +14,6 @@ pub use asked::loft_standing;
 pub use asked::loft_statement;
 pub use carrying::loft_carry_out;
 pub use closing::loft_close_out;
-pub use day::loft_day;
 pub use held::loft_fresh;
 pub use held::loft_is_sound;
 pub use margins::loft_margin;

@@ -1,8 +1,8 @@
 // Retired rows moved to an archive, and a book taken over.
 ghost use mathlib.Core.Path.{_≡_};
 ghost use Rattle.embedded.specs.Moving.{archiveRefused, archiveBook, archiveEntries, archiveMoved, takeOverRefused, takenOverBook};
-use crate::held::book_in;
-use crate::held::put_back;
+use lent::book_in;
+use lent::put_back;
 
 #[no_mangle]
 pub extern "C" fn loft_archive(book: &mut [u8], entries: &mut [u16], moved: &mut u16) -> u8

@@ -19,12 +19,13 @@ use Rattle.desk.specs.Steps.{stepOf}
 use Rattle.records.specs.Runs.{ranOf}
 use Rattle.records.specs.LineNumbers.{roomFor}
 use Rattle.run.specs.Over.{overRan}
-use Rattle.embedded.specs.Held.{soundIn, lentRefusal}
+use Rattle.lent.specs.Held.{soundIn, lentRefusal}
 use Rattle.embedded.specs.Carrying.{areFit, carriedBook}
-use Rattle.embedded.specs.Day.{dayRefusal, dayBook}
+use Rattle.embedded_day.specs.Day.{dayRefusal, dayBook}
 use Rattle.embedded.proofs as embedded
-use Rattle.embedded.proofs.Lent.{read-tells, two-sound, none-refused}
-use Rattle.embedded.proofs.Refused.{given}
+use Rattle.embedded_day.proofs as embedded_day
+use Rattle.lent.proofs.Lent.{read-tells, two-sound, none-refused}
+use Rattle.lent.proofs.Refused.{given}
 use Rattle.promises.specs.OneResult.{OneResultOnly}
 
 -- two results, of which each is what the promise says, are the same; so are two rooms
@@ -50,8 +51,8 @@ pub of-embedded-loft-carry-out : OneResultOnly embedded.loft_carry_out.ended emb
 of-embedded-loft-carry-out κs a x y u v p q = (one-result (p .0) (q .0), λ i. (one-result (p .1 .0) (q .1 .0) i, (tt, (tt, (tt, (tt, (tt, (one-result (p .1 .1) (q .1 .1) i, tt))))))))
 
 -- the refusal or 0, the bytes, the answers and what is told
-pub of-embedded-loft-day : OneResultOnly embedded.loft_day.ended embedded.loft_day.Reads.Learnt
-of-embedded-loft-day κs a x y u v p q = (one-result (p .0) (q .0), λ i. (one-result (p .1 .0) (q .1 .0) i, (tt, (tt, (one-result (p .1 .1 .0) (q .1 .1 .0) i, (one-result (p .1 .1 .1) (q .1 .1 .1) i, tt))))))
+pub of-embedded-day-loft-day : OneResultOnly embedded_day.loft_day.ended embedded_day.loft_day.Reads.Learnt
+of-embedded-day-loft-day κs a x y u v p q = (one-result (p .0) (q .0), λ i. (one-result (p .1 .0) (q .1 .0) i, (tt, (tt, (one-result (p .1 .1 .0) (q .1 .1 .0) i, (one-result (p .1 .1 .1) (q .1 .1 .1) i, tt))))))
 
 -- the refusal or 0, and the amount
 pub of-embedded-loft-most : OneResultOnly embedded.loft_most.ended embedded.loft_most.Reads.Learnt

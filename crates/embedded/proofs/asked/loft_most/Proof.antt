@@ -10,7 +10,7 @@ use Rattle.passing.specs.declared.Largest.{Largest}
 use Rattle.passing.specs.Most.{mostOf}
 use Rattle.embedded.specs.Records.{recordOf}
 use Rattle.embedded.specs.Asked.{largestIn, mostAfter}
-use Rattle.embedded.proofs.Refused.{stays, given}
+use Rattle.lent.proofs.Refused.{stays, given}
 use Rattle.embedded.proofs.asked.loft_most.Statement.{statement}
 use Rattle.embedded.proofs.asked.loft_most.Tie as tie
 

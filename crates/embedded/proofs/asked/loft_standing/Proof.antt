@@ -6,8 +6,8 @@ use borrow.Author.Tests.{eq-eqb, ne-eqb, not-true, not-false}
 use Rattle.table.specs.Words.{turnedBack}
 use Rattle.book.specs.Asked.{standingOf}
 use Rattle.bookfile.specs.Facts.{isTwo}
-use Rattle.embedded.specs.Held.{bookOf}
-use Rattle.embedded.proofs.Lent.{not-two}
+use Rattle.lent.specs.Held.{bookOf}
+use Rattle.lent.proofs.Lent.{not-two}
 use Rattle.embedded.proofs.Standing.{unfit, no-book, refuses, answers}
 use Rattle.embedded.proofs.asked.loft_standing.Statement.{statement}
 use Rattle.embedded.proofs.asked.loft_standing.Tie as tie

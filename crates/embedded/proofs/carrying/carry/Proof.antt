@@ -9,8 +9,8 @@ use Rattle.rules.specs.Numbered.{verdictOf}
 use Rattle.desk.specs.Answers.{refusalIn}
 use Rattle.desk.specs.Over.{overDone}
 use Rattle.desk.specs.Steps.{stepOf}
-use Rattle.embedded.specs.Held.{bookOf}
-use Rattle.embedded.proofs.Lent.{not-two, two-long}
+use Rattle.lent.specs.Held.{bookOf}
+use Rattle.lent.proofs.Lent.{not-two, two-long}
 use Rattle.embedded.proofs.Carries.{no-book, refused, told}
 use Rattle.embedded.proofs.carrying.carry.Statement.{statement}
 use Rattle.embedded.proofs.carrying.carry.Tie as tie

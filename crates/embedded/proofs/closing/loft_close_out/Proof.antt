@@ -10,7 +10,7 @@ use Rattle.closeout.specs.Closing.{noTotal, closedOf, roomOf}
 use Rattle.bookfile.specs.Facts.{isTwo}
 use Rattle.bookfile.specs.Reading.{bookIn}
 use Rattle.embedded.specs.Closing.{closedIn, paysAfter, totalAfter}
-use Rattle.embedded.proofs.Refused.{stays, given}
+use Rattle.lent.proofs.Refused.{stays, given}
 use Rattle.embedded.proofs.closing.loft_close_out.Statement.{statement}
 use Rattle.embedded.proofs.closing.loft_close_out.Tie as tie
 

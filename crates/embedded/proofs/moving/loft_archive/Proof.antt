@@ -10,10 +10,10 @@ use Rattle.bookfile.specs.Facts.{isTwo}
 use Rattle.bookfile.specs.Reading.{bookIn}
 use Rattle.bookfile.specs.Written.{writtenOf}
 use Rattle.archival.specs.Archive.{archivedOf, archiveRoom}
-use Rattle.embedded.specs.Held.{bookOf}
+use Rattle.lent.specs.Held.{bookOf}
 use Rattle.embedded.specs.Moving.{archiveRefused, archiveBook, archiveEntries, archiveMoved}
-use Rattle.embedded.proofs.Lent.{two-long}
-use Rattle.embedded.proofs.Refused.{stays, given}
+use Rattle.lent.proofs.Lent.{two-long}
+use Rattle.lent.proofs.Refused.{stays, given}
 use Rattle.embedded.proofs.moving.loft_archive.Statement.{statement}
 use Rattle.embedded.proofs.moving.loft_archive.Tie as tie
 

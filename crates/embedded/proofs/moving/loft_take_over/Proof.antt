@@ -10,10 +10,10 @@ use Rattle.book.specs.TakeOver.{takeOverRefusal, takenOver}
 use Rattle.bookfile.specs.Facts.{isTwo}
 use Rattle.bookfile.specs.Reading.{bookIn}
 use Rattle.bookfile.specs.Written.{writtenOf}
-use Rattle.embedded.specs.Held.{bytesOf}
+use Rattle.lent.specs.Held.{bytesOf}
 use Rattle.embedded.specs.Moving.{takeOverRefused, takenOverBook}
-use Rattle.embedded.proofs.Lent.{two-long}
-use Rattle.embedded.proofs.Refused.{stays, given}
+use Rattle.lent.proofs.Lent.{two-long}
+use Rattle.lent.proofs.Refused.{stays, given}
 use Rattle.embedded.proofs.moving.loft_take_over.Statement.{statement}
 use Rattle.embedded.proofs.moving.loft_take_over.Tie as tie
 

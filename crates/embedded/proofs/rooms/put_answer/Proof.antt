@@ -3,7 +3,7 @@ use native.Mathlib.Omega.{arith}
 use borrow.Author.Needs.{needs}
 use lib.ListN.{length-set}
 use Rattle.records.specs.LineNumbers.{numbersOfLine}
-use Rattle.embedded.proofs.Filled.{filled}
+use Rattle.lent.proofs.Filled.{filled}
 use Rattle.embedded.proofs.rooms.put_answer.Statement.{statement}
 use Rattle.embedded.proofs.rooms.put_answer.Tie as tie
 

@@ -9,7 +9,7 @@ use Rattle.dayfile.specs.Written.{wroteOf, refusalWrote, roomAfter}
 use Rattle.dayfile.proofs.Answers.{wrote-all}
 use Rattle.embedded.specs.Records.{recordOf}
 use Rattle.embedded.specs.Writing.{areSix, writeRefusal, writeRoom, writeLength}
-use Rattle.embedded.proofs.Refused.{stays, given}
+use Rattle.lent.proofs.Refused.{stays, given}
 use Rattle.embedded.proofs.Wrote.{refused-with}
 use Rattle.embedded.proofs.writing.loft_write_record.Statement.{statement}
 use Rattle.embedded.proofs.writing.loft_write_record.Tie as tie

@@ -9,7 +9,7 @@ use Rattle.records.specs.declared.Closing.{Closing}
 use Rattle.records.specs.declared.Closing.the-variants.{End, Cut, Long, Unsound}
 use Rattle.records.specs.Runs.{Ran, ranOf}
 use Rattle.records.specs.LineNumbers.{roomFor, numbersRoom}
-use Rattle.embedded.specs.Held.{bookOf, bytesOf, lentRefusal}
+use Rattle.lent.specs.Held.{bookOf, bytesOf, lentRefusal}
 
 -- "LOFT_END 0", "LOFT_CUT 1", "LOFT_LONG 2"; an unsound book is refused, and nothing is told
 abbrev pub wordNumber : Closing → ℕ

@@ -1,4 +1,4 @@
--- `embedded::day::loft_day` meets its contract: 1 for bytes that are no book, or by the run's own word; otherwise the book is put and all is told.
+-- `embedded_day::loft_day` meets its contract: 1 for bytes that are no book, or by the run's own word; otherwise the book is put and all is told.
 use mathlib.Core.Bool.{true}
 use mathlib.Core.List.{List, [], _∷_}
 use mathlib.Core.Path.{_≡_, sym, ap, _∙_}
@@ -10,10 +10,10 @@ use Rattle.bookfile.specs.Reading.{bookIn}
 use Rattle.records.specs.Runs.{ranOf, closingRefusal}
 use Rattle.records.specs.LineNumbers.{roomFor, numbersRoom}
 use Rattle.run.specs.Over.{overRan}
-use Rattle.embedded.proofs.Lent.{not-two, two-long}
-use Rattle.embedded.proofs.Runs.{unfit, no-book, unsound, carried}
-use Rattle.embedded.proofs.day.loft_day.Statement.{statement}
-use Rattle.embedded.proofs.day.loft_day.Tie as tie
+use Rattle.lent.proofs.Lent.{not-two, two-long}
+use Rattle.embedded_day.proofs.Runs.{unfit, no-book, unsound, carried}
+use Rattle.embedded_day.proofs.loft_day.Statement.{statement}
+use Rattle.embedded_day.proofs.loft_day.Tie as tie
 
 -- THE PLACES, each named once.
 abbrev held : tie.Else2 → tie.After-book-in

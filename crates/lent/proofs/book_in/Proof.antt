@@ -1,10 +1,10 @@
--- `embedded::held::book_in` meets its contract.
+-- `lent::book_in` meets its contract.
 use mathlib.Core.Bool.{false≢true}
 use mathlib.Core.Path.{sym}
 use borrow.Author.Needs.{needs}
-use Rattle.embedded.proofs.Lent.{other-size, read-tells}
-use Rattle.embedded.proofs.held.book_in.Statement.{statement}
-use Rattle.embedded.proofs.held.book_in.Tie as tie
+use Rattle.lent.proofs.Lent.{other-size, read-tells}
+use Rattle.lent.proofs.book_in.Statement.{statement}
+use Rattle.lent.proofs.book_in.Tie as tie
 
 returns : tie.Need-returns
 returns c = (sym (other-size (c .before .before .before .args .bytes .now) (c .before .if1 .taken)), λ q. absurd (false≢true q))

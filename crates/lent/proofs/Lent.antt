@@ -16,7 +16,7 @@ use Rattle.bookfile.specs.Facts.{isTwo, isOne}
 use Rattle.bookfile.specs.Reading.{isBook, bookIn, readOf}
 use Rattle.bookfile.specs.Written.{size}
 use Rattle.bookfile.proofs.Tests.{other-length, book-long}
-use Rattle.embedded.specs.Held.{bookOf, soundIn, lentRefusal}
+use Rattle.lent.specs.Held.{bookOf, soundIn, lentRefusal}
 
 module _ (bytes : List ℕ) where
   -- ---- read

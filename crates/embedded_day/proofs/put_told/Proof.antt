@@ -1,9 +1,9 @@
--- `embedded::day::put_told` meets its contract.
+-- `embedded_day::put_told` meets its contract.
 use mathlib.Core.List.{[], _∷_}
 use borrow.Author.Needs.{needs}
-use Rattle.embedded.proofs.Filled.{filled}
-use Rattle.embedded.proofs.day.put_told.Statement.{statement}
-use Rattle.embedded.proofs.day.put_told.Tie as tie
+use Rattle.lent.proofs.Filled.{filled}
+use Rattle.embedded_day.proofs.put_told.Statement.{statement}
+use Rattle.embedded_day.proofs.put_told.Tie as tie
 
 returns : tie.Need-returns
 returns c =

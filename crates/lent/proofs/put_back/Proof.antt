@@ -1,9 +1,9 @@
--- `embedded::held::put_back` meets its contract.
+-- `lent::put_back` meets its contract.
 use mathlib.Core.Path.{refl, sym, _∙_}
 use borrow.Author.Needs.{needs}
 use Rattle.bookfile.proofs.Wrote.{fitting-room}
-use Rattle.embedded.proofs.held.put_back.Statement.{statement}
-use Rattle.embedded.proofs.held.put_back.Tie as tie
+use Rattle.lent.proofs.put_back.Statement.{statement}
+use Rattle.lent.proofs.put_back.Tie as tie
 
 returns : tie.Need-returns
 returns c =

@@ -15,10 +15,10 @@ use Rattle.records.specs.Runs.{ranOf, numberClosing, closingRefusal}
 use Rattle.records.specs.LineNumbers.{roomFor, numbersRoom}
 use Rattle.run.specs.declared.Ended.{Ended}
 use Rattle.run.specs.Over.{overRan}
-use Rattle.embedded.specs.Held.{bookOf, soundIn, lentRefusal}
-use Rattle.embedded.specs.Day.{wordNumber, areFour, dayRefusal, dayBook, dayAnswers, dayTold}
-use Rattle.embedded.proofs.Lent.{two-sound, refused-1, none-refused, unfit-refused}
-use Rattle.embedded.proofs.Refused.{stays, given}
+use Rattle.lent.specs.Held.{bookOf, soundIn, lentRefusal}
+use Rattle.embedded_day.specs.Day.{wordNumber, areFour, dayRefusal, dayBook, dayAnswers, dayTold}
+use Rattle.lent.proofs.Lent.{two-sound, refused-1, none-refused, unfit-refused}
+use Rattle.lent.proofs.Refused.{stays, given}
 
 -- the third number is that of an unsound book alone
 three-unsound : (w : Closing) → wordNumber w ≡ 3 → numberClosing w ≡ 1

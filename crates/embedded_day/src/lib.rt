@@ -2,10 +2,10 @@
 ghost use mathlib.Core.Path.{_≡_};
 ghost use mathlib.Core.List.{[], _∷_};
 ghost use lib.ListN.{length};
-ghost use Rattle.embedded.specs.Day.{wordNumber, dayRefusal, dayBook, dayAnswers, dayTold};
-use crate::held::book_in;
-use crate::held::put_back;
-use crate::held::unfit;
+ghost use Rattle.embedded_day.specs.Day.{wordNumber, dayRefusal, dayBook, dayAnswers, dayTold};
+use lent::book_in;
+use lent::put_back;
+use lent::unfit;
 use run::Closing;
 
 fn word_number(word: Closing) -> u64
