@@ -2,6 +2,7 @@
 
 pub mod asked;
 mod bend;
+pub mod bundle;
 mod deemed;
 pub mod froms;
 mod haircut;
@@ -10,12 +11,13 @@ mod lengths;
 mod lives;
 pub mod loss_lines;
 pub mod losses;
-mod maker;
+pub mod maker;
 pub mod merges;
 mod mixed;
 mod moved;
 pub mod orders;
 pub mod refused;
+pub mod rng;
 pub mod sheets;
 mod short;
 mod steer;
@@ -23,7 +25,7 @@ pub mod texts;
 mod uses;
 mod warned;
 
-use crate::dayfile::{ALLOCATE, RECEIVE};
+use crate::model::*;
 use maker::Maker;
 
 pub type Kind = (&'static str, fn(&mut Maker));

@@ -1,72 +1,37 @@
-//! The program `archive` against this one: archivings between days, archives
-//! that have some of the lines already, and what is no book or not a sound one.
+//! The program `archive` against this one: archivings between days, and archives
+//! that have some of the lines already.
 
-use super::books::{book_difference, Night};
-use crate::bookfile;
-use crate::child::ask_held;
-use crate::difference::settle;
+use super::books::Night;
+use super::child::ask_held;
+use super::difference::settle;
 use crate::make::asked::{to_archive, with_retirings};
-use crate::programs::with_lines;
-use crate::table::{Archived, Table};
+use crate::model::programs::with_lines;
+use crate::model::*;
+use crate::tally::{names, Tally};
 use std::fs;
 use std::path::Path;
 
-/// How much has been compared.
-#[derive(Default)]
-pub struct Met {
-    runs: u64,
-    rows: u64,
-    /// Runs that moved nothing.
-    none: u64,
-    /// Over the same archive once more, with the old book.
-    cut: u64,
-    /// In the night of a day in two pieces.
-    nights: u64,
-    /// Archives as they were found, by kind.
-    found: [u64; FOUND.len()],
+/// What there is of an archive before anything was moved to it.
+const FOUND: &str = "\
+no file|an empty one|lines of others|a last line that isn't ended|some of the lines|\
+all of them but for an end|lines that are nearly those|a long one";
+const COUNTS: &str = "rows moved|nothing moved|the same archive again|a night";
+
+pub fn kinds() -> impl Iterator<Item = &'static str> {
+    names(COUNTS).chain(names(FOUND))
 }
 
-/// What there is of an archive before anything was moved to it.
-const FOUND: [&str; 8] = [
-    "no file",
-    "an empty one",
-    "lines of others",
-    "a last line that isn't ended",
-    "some of the lines",
-    "all of them but for an end",
-    "lines that are nearly those",
-    "a long one",
-];
-
-impl Met {
-    pub fn line(&self) -> String {
-        let found = FOUND.iter().zip(self.found);
-        let found: Vec<String> = found
-            .map(|(kind, many)| format!("{kind}: {many}"))
-            .collect();
-        format!(
-            "archived: {} runs, {} rows, nothing moved: {}, over the same archive again: {}, in a night: {}; archives, {}",
-            self.runs,
-            self.rows,
-            self.none,
-            self.cut,
-            self.nights,
-            found.join(", ")
-        )
-    }
-
-    pub fn missed(&self) -> Vec<String> {
-        let counts = [
-            ("rows moved", self.rows),
-            ("nothing moved", self.none),
-            ("the same archive again", self.cut),
-            ("a night", self.nights),
-        ];
-        let found = FOUND.into_iter().zip(self.found);
-        let all = counts.into_iter().chain(found);
-        let unmet = all.filter(|&(_, many)| many == 0);
-        unmet.map(|(kind, _)| format!("archived: {kind}")).collect()
-    }
+pub fn line(met: &Tally<&'static str>) -> String {
+    let each: Vec<u64> = names(COUNTS).map(|kind| met.times(kind)).collect();
+    format!(
+        "archived: {} runs, {} rows, nothing moved: {}, over the same archive again: {}, in a night: {}; archives, {}",
+        met.times("runs"),
+        each[0],
+        each[1],
+        each[2],
+        each[3],
+        met.line(names(FOUND))
+    )
 }
 
 impl Night<'_> {
@@ -74,16 +39,16 @@ impl Night<'_> {
     pub fn archivings(&mut self, program: &str, place: u64) -> Result<(), String> {
         let mut table = to_archive(place, &mut self.rng);
         self.find_archive(place, &table)?;
-        let to = self.path("to");
+        let to = self.run.path("to");
         for turn in 0..3 {
             let from = self.put_book(&table, place + turn)?;
             if turn == 1 {
                 fs::copy(&from, &to).map_err(|error| error.to_string())?;
                 table = self.archive(program, &table, &to, &to)?;
             } else {
-                fs::write(&to, b"as it was").map_err(|error| error.to_string())?;
+                self.run.put("to", b"as it was")?;
                 self.archive(program, &table, &from, &to)?;
-                self.met.archives.cut += 1;
+                self.met.archives.count("the same archive again");
                 table = self.archive(program, &table, &from, &to)?;
             }
             let book = table
@@ -100,11 +65,11 @@ impl Night<'_> {
 
     /// In the night between the two pieces of a day, over its own file.
     pub fn night_archive(&mut self, table: &Table, book: &Path) -> Result<Table, String> {
-        match self.programs.archive {
+        match self.run.program("--archive") {
             None => Ok(table.clone()),
             Some(program) => {
-                let _ = fs::remove_file(self.path("archive"));
-                self.met.archives.nights += 1;
+                self.run.remove(&["archive"]);
+                self.met.archives.count("a night");
                 self.archive(program, table, book, book)
             }
         }
@@ -120,55 +85,53 @@ impl Night<'_> {
         to: &Path,
     ) -> Result<Table, String> {
         let Archived { entries, book } = table.archived().ok_or("a book isn't sound")?;
-        let archive = self.path("archive");
+        let archive = self.run.path("archive");
         let before = fs::read(&archive).ok();
         let want = format!("0 {}\n", entries.len());
         let got = ask_held(program, &[from, to, &archive]);
-        let made = &self.made;
-        settle(&self.programs.folder, made, "archive", want.as_bytes(), got)?;
-        let kept = fs::read(to).unwrap_or_default();
-        if kept != bookfile::bytes(&book) {
-            return Err(self.told(&book_difference(&kept, &book)));
-        }
+        settle(self.run, &self.made, "archive", want.as_bytes(), got)?;
+        self.kept(to, &book)?;
         let lines = with_lines(before.as_deref().unwrap_or(b""), &entries);
         let text = lines.or(before);
         if fs::read(&archive).ok() != text {
             let wanted = text.map(|text| String::from_utf8_lossy(&text).into_owned());
             return Err(self.told(&format!("archive: its text is wanted as {wanted:?}")));
         }
-        self.met.archives.runs += 1;
-        self.met.archives.rows += entries.len() as u64;
-        self.met.archives.none += u64::from(entries.is_empty());
+        let met = &mut self.met.archives;
+        met.count("runs");
+        met.count_many("rows moved", entries.len() as u64);
+        met.count_if("nothing moved", entries.is_empty());
         Ok(book)
     }
 
     fn find_archive(&mut self, place: u64, table: &Table) -> Result<(), String> {
         let entries = table.archived().map_or(Vec::new(), |all| all.entries);
         let lines = with_lines(b"", &entries).unwrap_or_default();
-        let kind = (place as usize / 2) % FOUND.len();
+        let kind = (place as usize / 2) % names(FOUND).count();
+        self.met.archives.count_all(names(FOUND).nth(kind));
+        let all: Vec<&[u8]> = lines.split_inclusive(|&byte| byte == b'\n').collect();
         let text: Vec<u8> = match kind {
             0 => {
-                let _ = fs::remove_file(self.path("archive"));
-                self.met.archives.found[kind] += 1;
+                self.run.remove(&["archive"]);
                 return Ok(());
             }
             1 => Vec::new(),
             2 => b"# 2023\n\n900 cp 0\n901 client 900\n".to_vec(),
             3 => b"900 cp 0".to_vec(),
-            4 => {
-                let all: Vec<&[u8]> = lines.split_inclusive(|&byte| byte == b'\n').collect();
-                all.into_iter()
-                    .rev()
-                    .step_by(2)
-                    .collect::<Vec<_>>()
-                    .concat()
-            }
+            4 => all
+                .into_iter()
+                .rev()
+                .step_by(2)
+                .collect::<Vec<_>>()
+                .concat(),
             5 => lines.strip_suffix(b"\n").unwrap_or(b"").to_vec(),
             6 => nearly(&lines),
-            _ => long(),
+            // Twenty thousand accounts that this book never had.
+            _ => (100_000..120_000)
+                .flat_map(|number| format!("{number} cp 0\n").into_bytes())
+                .collect(),
         };
-        self.met.archives.found[kind] += 1;
-        self.put("archive", &text).map(|_| ())
+        self.run.put("archive", &text).map(|_| ())
     }
 }
 
@@ -183,10 +146,4 @@ fn nearly(lines: &[u8]) -> Vec<u8> {
         }
     }
     text
-}
-
-/// Twenty thousand accounts that this book never had.
-fn long() -> Vec<u8> {
-    let lines = (0..20_000).map(|number| format!("{} cp 0\n", 100_000 + number));
-    lines.collect::<String>().into_bytes()
 }

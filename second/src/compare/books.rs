@@ -1,108 +1,99 @@
 //! Programs that start from a book file and leave one, against this one: days
 //! in two pieces with a night between them, and books that are taken over.
 
-use super::{archives, between_records, lines, texts, Programs};
-use crate::book::Book;
-use crate::bookfile;
-use crate::child::{ask, ask_held, Pace};
-use crate::difference::settle;
-use crate::explain;
-use crate::holdings;
-use crate::made::Made;
+use super::child::{ask, ask_held, Pace};
+use super::days::SHOWN;
+use super::difference::settle;
+use super::{archives, lines, texts, Made, Run};
+use crate::kinds::days::Days;
 use crate::make::asked::{any_sound, to_take_over, unsound, with_steps};
+use crate::make::rng::Rng;
 use crate::make::{losses, make, refused, ROUND};
-use crate::options::Options;
-use crate::print;
-use crate::rng::Rng;
-use crate::rule::Rule;
-use crate::table::{Fault, Table};
+use crate::model::*;
+use crate::tally::{none_missed, Tally};
 use std::fs;
 use std::path::{Path, PathBuf};
 
-/// How much has been compared.
+/// How much has been compared, by name.
 #[derive(Default)]
 pub struct Met {
-    pub days: u64,
-    runs: u64,
-    odd: u64,
-    /// Books of version 1.
-    first_versions: u64,
-    pub unsound: u64,
-    pub none: u64,
-    /// Taken over, and not.
-    over: [u64; 2],
-    pub archives: archives::Met,
-    pub lines: lines::Met,
+    pub counts: Tally<&'static str>,
+    pub archives: Tally<&'static str>,
+    /// Losses as lines alone.
+    pub lines: Days,
 }
 
 impl Met {
-    pub fn line(&self) -> String {
+    fn line(&self) -> String {
+        let many = |name| self.counts.times(name);
+        let modes = "books with modes of their own";
         format!(
-            "same: {} days in two pieces, {} runs from a book; books with modes of their own: {}, of version 1: {}, not sound: {}, none: {}; taken over: {}, not taken over: {}",
-            self.days,
-            self.runs,
-            self.odd,
-            self.first_versions,
-            self.unsound,
-            self.none,
-            self.over[0],
-            self.over[1]
+            "same: {} days in two pieces, {} runs from a book; {}; {}",
+            many("days"),
+            many("runs"),
+            self.counts
+                .line([modes, "of version 1", "not sound", "none"]),
+            self.counts.line(["taken over", "not taken over"])
         )
-    }
-
-    /// What so many nights must have met, and didn't.
-    fn missed(&self, programs: &Programs) -> Vec<String> {
-        if self.days < 40 {
-            return Vec::new();
-        }
-        let mut missed = match programs.archive {
-            Some(_) => self.archives.missed(),
-            None => Vec::new(),
-        };
-        if self.first_versions == 0 {
-            missed.push("a book of version 1".to_string());
-        }
-        missed
     }
 }
 
 pub struct Night<'a> {
-    pub programs: &'a Programs<'a>,
+    pub run: &'a Run<'a>,
     pub made: Made,
     pub rng: Rng,
     pub met: &'a mut Met,
 }
 
 /// Days by kind and seed as elsewhere, but shorter.
-pub fn all_books(options: &Options, programs: &Programs, many: u64) -> Result<Met, String> {
-    let first = options.number("--seed", 1)?;
+pub fn all_books(run: &Run) -> Result<Vec<String>, String> {
+    let (seeds, many) = run.seeds("--books", 0)?;
     let mut met = Met::default();
-    for place in 0..many {
+    for (place, seed) in seeds {
         let kind = ROUND[place as usize % ROUND.len()];
-        let seed = first.wrapping_add(place);
         let made = Made {
             kind: kind.0,
             seed,
             bytes: make(kind, seed, 30_000),
             pace: Pace::Whole,
         };
-        let mut night = Night {
-            programs,
+        let rng = Rng::new(seed, 0xB00C);
+        let met = &mut met;
+        met.counts.count("days");
+        Night {
+            run,
             made,
-            rng: Rng::new(seed, 0xB00C),
-            met: &mut met,
-        };
-        night.all(place)?;
-        met.days += 1;
+            rng,
+            met,
+        }
+        .all(place)?;
     }
-    for name in ["book", "to", "losses", "lines", "archive"] {
-        let _ = fs::remove_file(programs.folder.join(name));
+    run.remove(&["book", "to", "losses", "lines", "archive"]);
+    if many == 0 {
+        return Ok(Vec::new());
     }
-    let missed = met.missed(programs);
-    if !missed.is_empty() {
-        return Err(format!("not met: {}", missed.join(", ")));
+    let mut missed = Vec::new();
+    let mut said = vec![met.line()];
+    if run.program("--closeouts").is_some() {
+        said.push(met.lines.lines_line());
     }
-    Ok(met)
+    if run.program("--archive").is_some() {
+        missed.extend(met.archives.missed("archived: ", archives::kinds()));
+        said.push(archives::line(&met.archives));
+    }
+    missed.extend(met.counts.missed("a book ", ["of version 1"]));
+    none_missed("", many >= 40, missed)?;
+    Ok(said)
+}
+
+/// A place between two records, at the start or at the end.
+fn between_records(piece: &[u8], rng: &mut Rng) -> usize {
+    let mut reader = Reader::new(piece);
+    let mut places = vec![0];
+    while let Next::Record(_) = reader.next() {
+        places.push(reader.place());
+    }
+    rng.pick(&places)
 }
 
 impl Night<'_> {
@@ -113,35 +104,26 @@ impl Night<'_> {
             self.not_sound(2 * place + more)?;
         }
         self.no_book(place)?;
-        if let Some(program) = self.programs.take_over {
+        if let Some(program) = self.run.program("--take-over") {
             self.take_over(program, place)?;
         }
-        match self.programs.archive {
+        match self.run.program("--archive") {
             Some(program) => self.archivings(program, place),
             None => Ok(()),
         }
     }
 
-    pub fn path(&self, name: &str) -> PathBuf {
-        self.programs.folder.join(name)
-    }
-
-    pub fn put(&self, name: &str, bytes: &[u8]) -> Result<PathBuf, String> {
-        let path = self.path(name);
-        fs::write(&path, bytes).map_err(|error| error.to_string())?;
-        Ok(path)
-    }
-
     /// FROM, every other time in version 1 where that says the same.
     pub fn put_book(&mut self, table: &Table, place: u64) -> Result<PathBuf, String> {
         let first = bookfile::first_bytes(table).filter(|_| place % 2 == 0);
-        self.met.first_versions += u64::from(first.is_some());
-        self.put("book", &first.unwrap_or_else(|| bookfile::bytes(table)))
+        self.met.counts.count_if("of version 1", first.is_some());
+        self.run
+            .put("book", &first.unwrap_or_else(|| bookfile::bytes(table)))
     }
 
     pub fn told(&self, what: &str) -> String {
         let Made { kind, seed, .. } = self.made;
-        let folder = self.programs.folder.display();
+        let folder = self.run.folder.display();
         format!("difference: {what}, kind {kind}, seed {seed}; the book is in {folder}")
     }
 
@@ -154,10 +136,9 @@ impl Night<'_> {
         piece: &[u8],
         want: &[u8],
     ) -> Result<(), String> {
-        let made = self.made_with(piece);
-        self.met.runs += 1;
+        self.met.counts.count("runs");
         let got = ask(program, words, piece, Pace::Whole);
-        settle(&self.programs.folder, &made, name, want, got)
+        settle(self.run, &self.made.with(piece), name, want, got)
     }
 
     /// Every other time the book is archived in between; records of the second
@@ -166,8 +147,8 @@ impl Night<'_> {
         let bytes = self.made.bytes.clone();
         let cut = between_records(&bytes, &mut self.rng);
         let (first, second) = bytes.split_at(cut);
-        let book = self.path("book");
-        let _ = fs::remove_file(&book);
+        let book = self.run.path("book");
+        self.run.remove(&["book"]);
         let after = self.day(Book::fresh(), Path::new("-"), &book, first)?;
         self.shown(&after, &book, second)?;
         let mut after = handed_over(&after);
@@ -189,81 +170,80 @@ impl Night<'_> {
         piece: &[u8],
     ) -> Result<Book, String> {
         let (lines, closing, after) = print::day_parts(book, piece, |_, _| {});
-        let program = match self.programs.day {
+        let table = Table::of(&after);
+        let program = match self.run.program("--day") {
             Some(program) => program,
             None => {
-                let kept = fs::write(to, bookfile::bytes(&Table::of(&after)));
-                kept.map_err(|error| error.to_string())?;
-                return Ok(after);
+                let kept = fs::write(to, bookfile::bytes(&table));
+                return kept.map(|()| after).map_err(|error| error.to_string());
             }
         };
         let want = [lines, closing].concat();
         self.settled("day from a book", program, &[from, to], piece, &want)?;
-        let kept = fs::read(to).unwrap_or_default();
-        if kept != bookfile::bytes(&Table::of(&after)) {
-            return Err(self.told(&book_difference(&kept, &Table::of(&after))));
-        }
+        self.kept(to, &table)?;
         Ok(after)
+    }
+
+    /// Whether a file holds this book.
+    pub fn kept(&self, file: &Path, want: &Table) -> Result<(), String> {
+        let kept = fs::read(file).unwrap_or_default();
+        match kept == bookfile::bytes(want) {
+            true => Ok(()),
+            false => Err(self.told(&book_difference(&kept, want))),
+        }
     }
 
     /// The programs that show a book, with this piece carried out first.
     pub fn shown(&mut self, book: &Book, path: &Path, piece: &[u8]) -> Result<(), String> {
-        if let Some(program) = self.programs.standings {
-            let want = print::standings_over(handed_over(book), piece);
-            self.settled("standings from a book", program, &[path], piece, &want)?;
-        }
-        if let Some(program) = self.programs.needs {
-            let want = print::needs_over(handed_over(book), piece);
-            self.settled("needs from a book", program, &[path], piece, &want)?;
-        }
-        if let Some(program) = self.programs.explain {
-            let want = explain::over(handed_over(book), piece);
-            self.settled("explain from a book", program, &[path], piece, &want)?;
-        }
-        if let Some(program) = self.programs.holdings {
-            let want = holdings::over(handed_over(book), piece);
-            self.settled("holdings from a book", program, &[path], piece, &want)?;
+        for (name, own) in SHOWN
+            .into_iter()
+            .chain([("explain", explain::over as fn(Book, &[u8]) -> Vec<u8>)])
+        {
+            if let Some(program) = self.run.program(&format!("--{name}")) {
+                let want = own(handed_over(book), piece);
+                self.settled(
+                    &format!("{name} from a book"),
+                    program,
+                    &[path],
+                    piece,
+                    &want,
+                )?;
+            }
         }
         self.as_text(path, book.serial, piece)?;
         self.closed_out(book, path, piece)
     }
 
     pub fn as_text(&mut self, path: &Path, serial: u16, piece: &[u8]) -> Result<(), String> {
-        let made = self.made_with(piece);
-        let programs = [self.programs.read, self.programs.write];
-        self.met.runs += programs.iter().flatten().count() as u64;
-        texts::there_and_back(self.programs, &made, Some(path), serial)
-    }
-
-    fn made_with(&self, piece: &[u8]) -> Made {
-        Made {
-            bytes: piece.to_vec(),
-            ..self.made
-        }
+        let programs = ["--read", "--write"].map(|name| self.run.program(name));
+        let many = programs.iter().flatten().count() as u64;
+        self.met.counts.count_many("runs", many);
+        texts::there_and_back(self.run, &self.made.with(piece), Some(path), serial)
     }
 
     fn closed_out(&mut self, book: &Book, path: &Path, piece: &[u8]) -> Result<(), String> {
-        if let Some(program) = self.programs.closeouts {
-            let losses = losses::make(book, self.rng.next());
-            let file = self.put("losses", &losses)?;
-            let want = print::closeouts_over(handed_over(book), piece, &losses);
-            self.settled(
-                "closeouts from a book",
-                program,
-                &[&file, path],
-                piece,
-                &want,
-            )?;
-            let run = lines::Run {
-                made: &self.made_with(piece),
-                from: Some(path),
-                start: handed_over(book),
-                aimed: book,
-            };
-            self.met.runs += 1;
-            lines::one(self.programs, program, run, &mut self.met.lines)?;
-        }
-        Ok(())
+        let program = match self.run.program("--closeouts") {
+            Some(program) => program,
+            None => return Ok(()),
+        };
+        let losses = losses::make(book, self.rng.next());
+        let file = self.run.put("losses", &losses)?;
+        let want = print::closeouts_over(handed_over(book), piece, &losses);
+        self.settled(
+            "closeouts from a book",
+            program,
+            &[&file, path],
+            piece,
+            &want,
+        )?;
+        let asked = lines::Asked {
+            made: &self.made.with(piece),
+            from: Some(path),
+            start: handed_over(book),
+            aimed: book,
+        };
+        self.met.counts.count("runs");
+        lines::one(self.run, program, asked, &mut self.met.lines)
     }
 
     /// A sound book whose modes need not fit its figures.
@@ -272,52 +252,41 @@ impl Night<'_> {
         let piece = with_steps(&table, &mut self.rng);
         let book = self.put_book(&table, place)?;
         let sound = table.book().ok_or("a book was made that isn't sound")?;
-        let to = self.path("to");
-        let _ = fs::remove_file(&to);
+        let to = self.run.path("to");
+        self.run.remove(&["to"]);
         self.shown(&sound, &book, &piece)?;
-        self.explained(&sound, &book)?;
+        if let Some(program) = self.run.program("--explain") {
+            // Records that are refused by a paisa.
+            let piece = refused::records(&sound, self.rng.next());
+            let want = explain::over(sound.clone(), &piece);
+            self.settled("explain from a book", program, &[&book], &piece, &want)?;
+        }
         let after = self.day(sound, &book, &to, &piece)?;
-        self.met.odd += 1;
+        self.met.counts.count("books with modes of their own");
         self.shown(&after, &to, &[])
-    }
-
-    /// Records that are refused by a paisa.
-    fn explained(&mut self, book: &Book, path: &Path) -> Result<(), String> {
-        let program = match self.programs.explain {
-            Some(program) => program,
-            None => return Ok(()),
-        };
-        let piece = refused::records(book, self.rng.next());
-        let want = explain::over(book.clone(), &piece);
-        self.settled("explain from a book", program, &[path], &piece, &want)
     }
 
     /// The refusal alone, standard input unread, and TO: the book taken over,
     /// or as it was.
     fn take_over(&mut self, program: &str, place: u64) -> Result<(), String> {
         let faults = Fault::all(Rule::Old);
+        let fault = faults[place as usize / 3 * 13 % faults.len()];
         let table = match place % 3 {
-            0 => unsound(
-                faults[place as usize / 3 * 13 % faults.len()],
-                Rule::Old,
-                &mut self.rng,
-            ),
+            0 => unsound(fault, Rule::Old, &mut self.rng),
             _ => to_take_over(place, &mut self.rng),
         };
-        let book = self.put("book", &bookfile::bytes(&table))?;
-        let to = self.put("to", b"as it was")?;
+        let book = self.run.put("book", &bookfile::bytes(&table))?;
+        let to = self.run.put("to", b"as it was")?;
         let after = table.taken_over();
         let want: &[u8] = if after.is_some() { b"0\n" } else { b"1\n" };
         let got = ask_held(program, &[&book, &to]);
-        settle(&self.programs.folder, &self.made, "take_over", want, got)?;
-        self.met.over[usize::from(after.is_none())] += 1;
+        settle(self.run, &self.made, "take_over", want, got)?;
+        self.met
+            .counts
+            .count(["taken over", "not taken over"][usize::from(after.is_none())]);
         match after {
             None => self.untouched(&to),
-            Some(after) if fs::read(&to).unwrap_or_default() == bookfile::bytes(&after) => Ok(()),
-            Some(after) => {
-                let kept = fs::read(&to).unwrap_or_default();
-                Err(self.told(&book_difference(&kept, &after)))
-            }
+            Some(after) => self.kept(&to, &after),
         }
     }
 }
@@ -327,7 +296,7 @@ pub fn handed_over(book: &Book) -> Book {
     Table::of(book).book().unwrap_or_else(|| book.clone())
 }
 
-pub fn book_difference(kept: &[u8], want: &Table) -> String {
+fn book_difference(kept: &[u8], want: &Table) -> String {
     let got = match bookfile::table(kept) {
         Some(got) => got,
         None => return "what was kept is no book".to_string(),

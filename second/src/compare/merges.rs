@@ -1,51 +1,43 @@
 //! The program `merge` against this one, on many made-up pairs of day files: what
 //! it writes, and what it tells.
 
-mod met;
-
-use super::{froms, Programs};
-use crate::child::{ask, Pace};
+use super::child::Pace;
+use super::{all_met, ran, Run};
+use crate::kinds::merges::{Met, KINDS};
+use crate::make::froms::From;
 use crate::make::merges::{make, whole_round, Merging};
-use crate::merge::records;
-use crate::options::Options;
-use crate::programs::merge;
+use crate::model::merge::records;
+use crate::model::*;
+use crate::tally::names;
 use crate::Output;
-use met::Met;
 use std::ffi::OsString;
-use std::fs;
-use std::io;
-use std::path::{Path, PathBuf};
+use std::path::PathBuf;
 
 /// How many mergings, where it isn't said.
 pub const USUAL: u64 = 120;
 
-/// Where a whole round was asked for, all of it must have been met.
-pub fn all_merges(options: &Options, programs: &Programs, program: &str) -> Result<Met, String> {
-    let seed = options.number("--seed", 1)?;
-    let merges = options.number("--merges", USUAL)?;
-    let mut met = Met::new();
-    for place in 0..merges {
-        one_merge(programs, program, seed.wrapping_add(place), &mut met)?;
+pub fn all_merges(run: &Run, program: &str) -> Result<Vec<String>, String> {
+    let (seeds, merges) = run.seeds("--merges", USUAL)?;
+    let mut met = Met::default();
+    for (_, seed) in seeds {
+        one_merge(run, program, seed, &mut met)?;
     }
-    let missed = met.kinds.missed();
-    if merges >= whole_round() && !missed.is_empty() {
-        return Err(format!("not met by mergings: {}", missed.join(", ")));
-    }
-    for name in ["a", "b", "book"] {
-        let _ = fs::remove_file(programs.folder.join(name));
-    }
-    Ok(met)
+    all_met(
+        " by mergings",
+        merges >= whole_round(),
+        &met.kinds,
+        names(KINDS),
+    )?;
+    run.remove(&["a", "b", "book"]);
+    Ok(vec![met.line()])
 }
 
-fn one_merge(programs: &Programs, program: &str, seed: u64, met: &mut Met) -> Result<(), String> {
+fn one_merge(run: &Run, program: &str, seed: u64, met: &mut Met) -> Result<(), String> {
     let merging = make(seed);
-    let words = laid_down(&merging, &programs.folder).map_err(|error| error.to_string())?;
+    let words = laid_down(&merging, run)?;
     let own: Vec<OsString> = words.iter().map(OsString::from).collect();
-    let want = merge(&own);
-    let paths: Vec<&Path> = words.iter().map(PathBuf::as_path).collect();
-    let got = ask(program, &paths, &[], Pace::Whole);
-    let got = got.map_err(|error| format!("merge: cannot run: {error}"))?;
-    let said = String::from_utf8_lossy(&got.stderr).into_owned();
+    let want = programs::merge(&own);
+    let (got, said) = ran("merge", program, &words, &[], Pace::Whole)?;
     let fits = match &want {
         Ok(bytes) => got.stdout == *bytes && said.is_empty(),
         Err(line) => got.stdout.is_empty() && is_told(line, &said),
@@ -62,39 +54,32 @@ fn one_merge(programs: &Programs, program: &str, seed: u64, met: &mut Met) -> Re
 }
 
 /// The files, and the words that name them.
-fn laid_down(merging: &Merging, folder: &Path) -> io::Result<Vec<PathBuf>> {
-    let mut words = vec![folder.join("a"), folder.join("b")];
-    for (name, file) in words.iter().zip(&merging.files) {
-        match file {
-            Some(bytes) => fs::write(name, bytes)?,
-            None => {
-                let _ = fs::remove_file(name);
-            }
-        }
+fn laid_down(merging: &Merging, run: &Run) -> Result<Vec<PathBuf>, String> {
+    let mut words = Vec::new();
+    for (name, file) in ["a", "b"].into_iter().zip(&merging.files) {
+        run.remove(&[name]);
+        words.push(match file {
+            Some(bytes) => run.put(name, bytes)?,
+            None => run.path(name),
+        });
     }
-    words.extend(froms::laid_down(&merging.from, folder)?);
+    words.extend(merging.from.laid_down(run)?);
     Ok(words)
 }
 
 const NO_BOOK: &str = "merge: cannot read the book";
 
 /// Just this line; but how a file of a book is called is free, and so are the
-/// system's words for a file that can't be opened.
+/// system's words for a file that can't be opened, behind the file's name.
 fn is_told(line: &str, said: &str) -> bool {
     let begin = if line.starts_with(NO_BOOK) {
         NO_BOOK
     } else if line.contains("(os error") {
-        reasonless(line)
+        &line[..line.rfind(": ").map_or(line.len(), |place| place + 2)]
     } else {
         return said == format!("{line}\n");
     };
     said.starts_with(begin) && said.ends_with('\n') && said.lines().count() == 1
-}
-
-/// Up to the file's name and the colon behind it.
-fn reasonless(line: &str) -> &str {
-    let end = line.rfind(": ").map_or(line.len(), |place| place + 2);
-    &line[..end]
 }
 
 fn shown(answer: &Output) -> String {
@@ -103,6 +88,17 @@ fn shown(answer: &Output) -> String {
         Ok(bytes) => {
             let many = records(bytes).map_or_else(|(_, many)| many, |records| records.len());
             format!("{} bytes, {many} good records", bytes.len())
+        }
+    }
+}
+
+impl From {
+    /// The word for it, if any, with its file where there is one.
+    pub fn laid_down(&self, run: &Run) -> Result<Option<PathBuf>, String> {
+        match self {
+            From::Nowhere => Ok(None),
+            From::Dash => Ok(Some(PathBuf::from("-"))),
+            From::File(bytes) => run.put("book", bytes).map(Some),
         }
     }
 }

@@ -2,21 +2,59 @@
 //! one.
 
 use super::books::Night;
-use crate::bookfile::{self, Version};
-use crate::child::{ask, ask_held, Pace};
-use crate::difference::settle;
+use super::child::{ask, ask_held, Pace};
+use super::difference::settle;
 use crate::make::asked::unsound;
-use crate::print;
-use crate::rng::Rng;
-use crate::rule::Rule;
-use crate::table::{Fault, Table, LIVE, MODE};
+use crate::make::rng::Rng;
+use crate::model::bookfile::Version;
+use crate::model::table::{LIVE, MODE};
+use crate::model::*;
 use std::fs;
-use std::path::Path;
+use std::path::{Path, PathBuf};
 
-/// A program's name, the program, and its words.
-type Run<'n, 'p> = (&'static str, &'n str, Vec<&'p Path>);
+/// Programs that take a book, each with its words.
+const RUNS: [(&str, &[&str]); 11] = [
+    ("archive", &["book", "to", "archive"]),
+    ("take-over", &["book", "to"]),
+    ("day", &["book", "to"]),
+    ("standings", &["book"]),
+    ("needs", &["book"]),
+    ("explain", &["book"]),
+    ("holdings", &["book"]),
+    ("read", &["book"]),
+    ("write", &["lines", "book"]),
+    ("closeouts", &["losses", "book"]),
+    ("closeouts --lines", &["--lines", "lines", "book"]),
+];
 
 impl Night<'_> {
+    /// The programs there are, with this book and files that are to stay.
+    fn runs(
+        &self,
+        book: &Path,
+        losses: &[u8],
+    ) -> Result<Vec<(&'static str, &str, Vec<PathBuf>)>, String> {
+        for (name, bytes) in [
+            ("to", &b"as it was"[..]),
+            ("archive", b"as it was"),
+            ("losses", losses),
+            ("lines", b"0 5"),
+        ] {
+            self.run.put(name, bytes)?;
+        }
+        let word = |&word: &&str| match word {
+            "book" => book.to_path_buf(),
+            "--lines" => PathBuf::from(word),
+            _ => self.run.path(word),
+        };
+        let runs = RUNS.iter().filter_map(|&(name, words)| {
+            let option = name.split(' ').next().unwrap_or(name);
+            let program = self.run.program(&format!("--{option}"))?;
+            Some((name, program, words.iter().map(word).collect()))
+        });
+        Ok(runs.collect())
+    }
+
     /// "The closing line is `1 0 0`, standard input isn't read": it is held
     /// open, so that a program that waits for it is found out.
     pub fn not_sound(&mut self, place: u64) -> Result<(), String> {
@@ -26,51 +64,30 @@ impl Night<'_> {
             Rule::New,
             &mut self.rng,
         );
-        let book = self.put("book", &bookfile::bytes(&table))?;
-        let to = self.put("to", b"as it was")?;
-        let losses = self.put("losses", &vec![0; 8 * table.held()])?;
-        let archive = self.put("archive", b"as it was")?;
+        let book = self.run.put("book", &bookfile::bytes(&table))?;
         let closed = [print::UNSOUND, print::UNSOUND_CLOSE_OUT].concat();
-        let lines = self.put("lines", b"0 5")?;
-        for (name, program, words) in self.runs([&book, &to, &losses, &archive, &lines]) {
+        for (name, program, words) in self.runs(&book, &vec![0; 8 * table.held()])? {
             let want = match name {
                 "closeouts" | "closeouts --lines" => &closed,
                 "archive" => &b"1 0\n"[..],
                 // It judges by the old rule; a serial alone asks for no soundness.
-                "take_over" | "write" | "read" => continue,
+                "take-over" | "write" | "read" => continue,
                 _ => print::UNSOUND,
             };
-            let got = ask_held(program, &words);
+            let words: Vec<&Path> = words.iter().map(PathBuf::as_path).collect();
             let what = format!("{name} from a book that isn't sound");
-            settle(&self.programs.folder, &self.made, &what, want, got)?;
+            settle(self.run, &self.made, &what, want, ask_held(program, &words))?;
         }
         let made = self.made.bytes.clone();
         self.as_text(&book, table.serial, &made)?;
-        self.met.unsound += 1;
-        self.untouched(&to)?;
-        self.untouched(&archive)
+        self.met.counts.count("not sound");
+        self.all_untouched()
     }
 
-    /// The programs there are, each with its words.
-    fn runs<'p>(&self, files: [&'p Path; 5]) -> Vec<Run<'_, 'p>> {
-        let [book, to, losses, archive, lines] = files;
-        let as_lines = vec![Path::new("--lines"), lines, book];
-        let all = [
-            ("archive", self.programs.archive, vec![book, to, archive]),
-            ("take_over", self.programs.take_over, vec![book, to]),
-            ("day", self.programs.day, vec![book, to]),
-            ("standings", self.programs.standings, vec![book]),
-            ("needs", self.programs.needs, vec![book]),
-            ("explain", self.programs.explain, vec![book]),
-            ("holdings", self.programs.holdings, vec![book]),
-            ("read", self.programs.read, vec![book]),
-            ("write", self.programs.write, vec![lines, book]),
-            ("closeouts", self.programs.closeouts, vec![losses, book]),
-            ("closeouts --lines", self.programs.closeouts, as_lines),
-        ];
-        all.into_iter()
-            .filter_map(|(name, program, words)| Some((name, program?, words)))
-            .collect()
+    fn all_untouched(&self) -> Result<(), String> {
+        ["to", "archive"]
+            .iter()
+            .try_for_each(|name| self.untouched(&self.run.path(name)))
     }
 
     pub fn untouched(&self, file: &Path) -> Result<(), String> {
@@ -82,30 +99,25 @@ impl Night<'_> {
 
     /// Nothing on standard output, something on standard error.
     pub fn no_book(&mut self, place: u64) -> Result<(), String> {
-        let (bytes, path) = (bookfile::bytes(&Table::fresh()), self.path("book"));
-        let _ = fs::remove_file(&path);
-        let bad = no_book_bytes(place, bytes, &mut self.rng);
+        self.run.remove(&["book"]);
+        let bad = no_book_bytes(place, bookfile::bytes(&Table::fresh()), &mut self.rng);
         let book = match (&bad, place % 2) {
-            (Some(bytes), _) => self.put("book", bytes)?,
-            (None, 0) => path,
-            (None, _) => self.programs.folder.clone(),
+            (Some(bytes), _) => self.run.put("book", bytes)?,
+            (None, 0) => self.run.path("book"),
+            (None, _) => self.run.folder.clone(),
         };
-        let to = self.put("to", b"as it was")?;
-        let losses = self.put("losses", &[0; 8])?;
-        let archive = self.put("archive", b"as it was")?;
-        let lines = self.put("lines", b"0 5")?;
-        for (name, program, words) in self.runs([&book, &to, &losses, &archive, &lines]) {
+        for (name, program, words) in self.runs(&book, &[0; 8])? {
+            let words: Vec<&Path> = words.iter().map(PathBuf::as_path).collect();
             let got = ask(program, &words, &self.made.bytes, Pace::Whole);
             let silent = got.as_ref().map_or(false, |got| got.stderr.is_empty());
             let what = format!("{name} from what is no book");
-            settle(&self.programs.folder, &self.made, &what, b"", got)?;
+            settle(self.run, &self.made, &what, b"", got)?;
             if silent {
                 return Err(self.told(&format!("{what} says nothing on standard error")));
             }
         }
-        self.met.none += 1;
-        self.untouched(&to)?;
-        self.untouched(&archive)
+        self.met.counts.count("none");
+        self.all_untouched()
     }
 }
 

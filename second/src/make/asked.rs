@@ -18,14 +18,11 @@ mod pieces;
 mod records;
 pub mod statements;
 
-use crate::bookfile;
-use crate::calls::Call;
-use crate::dayfile::{Values, OPEN_CLIENT, OPEN_CP, OPEN_TM, RETIRE};
 use crate::make::maker::Maker;
 use crate::make::mixed::any_step;
-use crate::rng::Rng;
-use crate::rule::Rule;
-use crate::table::{Fault, Table};
+use crate::make::rng::Rng;
+use crate::model::calls::Call;
+use crate::model::*;
 use aims::Aim;
 pub use endings::ENDINGS;
 
@@ -90,8 +87,8 @@ pub fn to_take_over(place: u64, rng: &mut Rng) -> Table {
 
 /// A sound book that is to be archived, a kind of it for each place.
 pub fn to_archive(place: u64, rng: &mut Rng) -> Table {
-    let retired = archives::RETIRED[place as usize % archives::RETIRED.len()];
-    let gaps = numbers::GAPS[place as usize % numbers::GAPS.len()];
+    let retired = archives::Retired::ALL[place as usize % archives::Retired::ALL.len()];
+    let gaps = numbers::Gaps::ALL[place as usize % numbers::Gaps::ALL.len()];
     archives::with_retired(retired, gaps, rng)
 }
 

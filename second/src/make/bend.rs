@@ -2,8 +2,7 @@
 
 use super::maker::Maker;
 use super::steer::{begin, busy, open_any, step};
-use crate::book::CEILING;
-use crate::dayfile::*;
+use crate::model::*;
 
 /// Amounts at the edges of a range, a word or a sign.
 const EDGES: [u64; 14] = [

@@ -4,8 +4,7 @@
 
 use super::maker::Maker;
 use super::steer::fund_account;
-use crate::book::{Sort, CEILING};
-use crate::dayfile::*;
+use crate::model::*;
 
 /// TMs and the CM are left with something blocked and something free.
 pub fn shared(maker: &mut Maker) {

@@ -1,10 +1,9 @@
 //! Made-up books to number records from.
 
 use super::asked::{any_sound, unsound};
-use crate::bookfile::{self, Version};
-use crate::rng::Rng;
-use crate::rule::Rule;
-use crate::table::{Fault, Table};
+use crate::make::rng::Rng;
+use crate::model::bookfile::Version;
+use crate::model::*;
 
 /// FROM, as a program is told it.
 pub enum From {

@@ -4,9 +4,7 @@
 use super::deemed::{fund_by_sort, open_groups};
 use super::maker::Maker;
 use super::steer::{costing, open_any, release_free, step, unpledge_free};
-use crate::book::{Sort, CEILING, SECURITIES};
-use crate::dayfile::*;
-use crate::rule::Rule;
+use crate::model::*;
 
 /// Every kind of turn on the tenth in every day, whatever the seed, by a
 /// client, a CP, a TM and the CM.

@@ -3,10 +3,8 @@
 
 use super::maker::Maker;
 use super::steer::open_any;
-use crate::book::{KINDS, SECURITIES};
-use crate::dayfile::*;
-use crate::holds::Way;
-use crate::rule::Rule;
+use crate::kinds::holds::Way;
+use crate::model::*;
 
 /// The member has twenty parts of collateral, so that 90% and 85% of it are
 /// whole paise; the one under it has ten units.

@@ -2,9 +2,7 @@
 
 use super::maker::Maker;
 use super::steer::{any_good_record, begin, busy, step};
-use crate::book::MOST_ACCOUNTS;
-use crate::day::MILLION;
-use crate::dayfile::*;
+use crate::model::*;
 
 /// A good day cut short: at a length near its start that goes on with the
 /// seed, within its last record, or anywhere. 211 is a prime, so seeds in

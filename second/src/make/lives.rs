@@ -4,8 +4,7 @@ use super::maker::Maker;
 use super::steer::{
     any_good_record, fund_account, open_any, step, stranger, wind_down, wind_down_account,
 };
-use crate::book::{Sort, MOST_ACCOUNTS};
-use crate::dayfile::*;
+use crate::model::*;
 
 /// More openings than there are numbers, then work on the last accounts.
 pub fn openings(maker: &mut Maker) {

@@ -3,9 +3,9 @@
 
 use super::losses;
 use super::texts::said::dressed;
-use crate::book::Book;
-use crate::losses::MOST;
-use crate::rng::Rng;
+use crate::make::rng::Rng;
+use crate::model::losses::MOST;
+use crate::model::*;
 
 #[derive(Clone, Copy)]
 pub struct Case {

@@ -1,8 +1,8 @@
 //! Made-up losses for the book at the end of a day: mostly good ones where
 //! the two rounds of a close-out turn, some that must be refused.
 
-use crate::book::{Book, Sort, CEILING};
-use crate::rng::Rng;
+use crate::make::rng::Rng;
+use crate::model::*;
 
 type Way = fn(&mut Sheet, usize) -> u64;
 

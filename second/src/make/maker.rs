@@ -2,10 +2,8 @@
 //! can steer at the edges of the rules. Steps name accounts by row; a record is
 //! laid down with the row's number.
 
-use crate::book::{Book, Sort};
-use crate::carry::{carry, Outcome};
-use crate::dayfile::*;
-use crate::rng::Rng;
+use crate::make::rng::Rng;
+use crate::model::*;
 
 pub struct Maker {
     pub seed: u64,

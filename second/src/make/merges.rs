@@ -2,10 +2,10 @@
 
 use super::asked::good_record;
 use super::froms::{From, Held};
-use crate::book::CEILING;
-use crate::dayfile::*;
-use crate::programs::MERGE_MOST;
-use crate::rng::Rng;
+use crate::listed;
+use crate::make::rng::Rng;
+use crate::model::programs::MERGE_MOST;
+use crate::model::*;
 
 /// Files of A and B, None for one that isn't there, and FROM.
 pub struct Merging {
@@ -21,18 +21,11 @@ enum Spot {
     Last,
 }
 
-/// What is wrong with a record: 2, 4, 5, and 6 for an amount above the ceiling or
-/// for one of 0.
-#[derive(Clone, Copy, PartialEq, Eq)]
-enum Bad {
-    Cut,
-    Code,
-    Mark,
-    Above,
-    Nothing,
+listed! {
+    /// What is wrong with a record: 2, 4, 5, and 6 for an amount above the ceiling or
+    /// for one of 0.
+    Bad: Cut, Code, Mark, Above, Nothing
 }
-
-const BADS: [Bad; 5] = [Bad::Cut, Bad::Code, Bad::Mark, Bad::Above, Bad::Nothing];
 
 #[derive(Clone, Copy)]
 enum Sheet {
@@ -85,14 +78,14 @@ fn round() -> Vec<Case> {
     let mut cases: Vec<Case> = STARTS.map(|start| ([good, good], start)).to_vec();
     let mut starts = STARTS[..5].iter().copied().cycle();
     let mut put = |files| cases.extend(starts.next().map(|start| (files, start)));
-    for bad in BADS {
+    for bad in Bad::ALL {
         for spot in [Spot::First, Spot::Between, Spot::Last] {
             let fault = Sheet::Fault(bad, spot);
             put([fault, good]);
             put([good, fault]);
         }
     }
-    let last = BADS.map(|bad| Sheet::Fault(bad, Spot::Last));
+    let last = Bad::ALL.map(|bad| Sheet::Fault(bad, Spot::Last));
     for (place, first) in last.into_iter().enumerate() {
         put([first, last[(place + 1) % last.len()]]);
     }
@@ -167,7 +160,7 @@ fn with_fault(bad: Bad, spot: Spot, many: u64, rng: &mut Rng) -> Vec<u8> {
         Spot::Last => last,
     };
     if rng.one_in(2) {
-        let other = rng.pick(&BADS);
+        let other = rng.pick(&Bad::ALL);
         records[last] = faulty(other, rng);
     }
     if bad == Bad::Cut {

@@ -6,7 +6,7 @@ use super::lives::retire_step;
 use super::maker::Maker;
 use super::steer::{begin, step, stranger};
 use super::uses::waver;
-use crate::book::MOST_ACCOUNTS;
+use crate::model::*;
 
 pub fn any_step(maker: &mut Maker) {
     match maker.rng.below(16) {

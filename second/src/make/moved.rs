@@ -4,9 +4,7 @@
 use super::deemed::{fund_by_sort, open_groups};
 use super::maker::Maker;
 use super::steer::{open_any, release_free, step, unpledge_free, wind_down_account};
-use crate::book::{Sort, CEILING, KINDS, SECURITIES};
-use crate::dayfile::*;
-use crate::rule::Rule;
+use crate::model::*;
 
 /// Every kind of move in every day, whatever the seed. At the end TMs stand
 /// about their collateral by what a client of each is deemed.

@@ -8,12 +8,9 @@ use super::short::slack;
 use super::steer::{fund_account, open_any, step, wind_down_account};
 use super::uses::{put_in, waver};
 use super::{make as make_day, Kind, ROUND};
-use crate::book::{Book, CEILING, MOST_ACCOUNTS};
-use crate::carry::carry_values;
-use crate::day::run_fresh;
-use crate::dayfile::*;
-use crate::orders::carried;
-use crate::rng::Rng;
+use crate::make::rng::Rng;
+use crate::model::orders::carried;
+use crate::model::*;
 
 pub struct Counters {
     /// The day that sets the book up.

@@ -2,10 +2,9 @@
 //! amount otherwise: for the program that explains it.
 
 use super::maker::Maker;
-use crate::book::Book;
-use crate::dayfile::*;
-use crate::most::kinds::{bits, CODES};
-use crate::most::most;
+use crate::kinds::most::{bits, CODES};
+use crate::model::most::most;
+use crate::model::*;
 
 /// Codes without an amount, and some that there aren't.
 const STRANGE: [u8; 7] = [0, OPEN_TM, OPEN_CLIENT, OPEN_CP, RETIRE, LAST_CODE + 1, 255];

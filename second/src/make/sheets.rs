@@ -2,42 +2,22 @@
 
 use super::asked::desk::Case;
 use super::asked::figures::{good, EDGES};
-use crate::desk::lines::{line, MOST};
-use crate::rng::Rng;
+use crate::listed;
+use crate::make::rng::Rng;
+use crate::model::desk::lines::{line, MOST};
 
-/// What a run has besides its positions.
-#[derive(Clone, Copy, PartialEq, Eq, PartialOrd, Ord, Debug)]
-pub enum Odd {
-    Plain,
+listed! {
+    /// What a run has besides its positions.
+    Odd: Plain,
     /// Comments and empty lines between the others.
-    Remarks,
-    NoLastNewline,
-    LeadingZeros,
+    Remarks, NoLastNewline, LeadingZeros,
     /// Numbers of more digits than any word holds.
     Huge,
     /// A line of figures: two, four, out of range, past their type.
-    Figures,
-    BadLine,
+    Figures, BadLine,
     /// As long as it may be, and a byte longer.
-    Longest,
-    TooLong,
-    BadWords,
-    Help,
+    Longest, TooLong, BadWords, Help
 }
-
-pub const ODDS: [Odd; 11] = [
-    Odd::Plain,
-    Odd::Remarks,
-    Odd::NoLastNewline,
-    Odd::LeadingZeros,
-    Odd::Huge,
-    Odd::Figures,
-    Odd::BadLine,
-    Odd::Longest,
-    Odd::TooLong,
-    Odd::BadWords,
-    Odd::Help,
-];
 
 pub struct Sheet {
     pub odd: Odd,
@@ -103,7 +83,7 @@ const BAD_WORDS: [&[&str]; 14] = [
 
 pub fn make(seed: u64) -> Sheet {
     let mut rng = Rng::new(seed, 0x5EE7);
-    let odd = ODDS[seed as usize % ODDS.len()];
+    let odd = Odd::ALL[seed as usize % Odd::ALL.len()];
     let cases = Case::all();
     // A prime, so that seeds that follow one another go over cases of every kind.
     let case = cases[(seed as usize).wrapping_mul(13) % cases.len()];

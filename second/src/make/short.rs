@@ -5,8 +5,7 @@
 use super::deemed::{fund_by_sort, open_groups, spent};
 use super::maker::Maker;
 use super::steer::{cure, open_any, revalue, revise, step};
-use crate::book::{Sort, CEILING, SECURITIES};
-use crate::dayfile::*;
+use crate::model::*;
 
 /// A TM, a client of it and a CP.
 type Three = [u16; 3];

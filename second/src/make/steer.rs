@@ -2,9 +2,7 @@
 //! them, one over and one under, and now and then at a shortfall.
 
 use super::maker::Maker;
-use crate::book::{Sort, CEILING, MOST_ACCOUNTS, SECURITIES};
-use crate::dayfile::*;
-use crate::rule::Rule;
+use crate::model::*;
 
 type Aim = (u64, fn(&mut Maker));
 

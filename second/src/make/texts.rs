@@ -5,8 +5,8 @@ mod cases;
 pub mod said;
 
 use super::froms::{From, Held};
-use crate::rng::Rng;
-use crate::text;
+use crate::make::rng::Rng;
+use crate::model::*;
 pub use cases::{all, Case};
 use said::{dressed, filled, padded};
 

@@ -2,9 +2,7 @@
 //! way of an account under it, or one paisa over and under.
 
 use super::maker::Maker;
-use crate::book::{Sort, CEILING};
-use crate::dayfile::*;
-use crate::mode::Mode;
+use crate::model::*;
 
 /// Where a use is to stand.
 #[derive(Clone, Copy, PartialEq, Eq)]

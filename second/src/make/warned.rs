@@ -4,8 +4,7 @@ use super::deemed::{fund_by_sort, open_groups};
 use super::maker::Maker;
 use super::steer::{open_any, step, wind_down_account};
 use super::uses::{put_in, stand, take_out, waver, Mark};
-use crate::dayfile::*;
-use crate::mode::Mode;
+use crate::model::*;
 
 /// Each mark from each side.
 const STANDS: [(Mark, Mode); 10] = [

@@ -3,12 +3,11 @@
 mod numbers;
 
 use super::{books, breaches, desk, figures, lists, most, overs, pieces, records, statements};
-use crate::calls::Call;
-use crate::dayfile::*;
-use crate::most::kinds::Kind;
-use crate::rng::Rng;
-use crate::rule::Rule;
-use crate::table::{Fault, Table, CLIENT, CM, CP, TRADING};
+use crate::kinds::most::Kind;
+use crate::make::rng::Rng;
+use crate::model::calls::Call;
+use crate::model::table::{CLIENT, CM, CP, TRADING};
+use crate::model::*;
 
 #[derive(Clone, Copy)]
 pub enum Aim {
@@ -110,9 +109,9 @@ impl Aim {
 
     fn without_book() -> Vec<Aim> {
         let mut aims = Vec::new();
-        aims.extend(pieces::SPOTS.map(Aim::ReadAt));
+        aims.extend(pieces::Spot::ALL.map(Aim::ReadAt));
         aims.extend([0, 0, 0, 0, 2, 4, 5, 6].map(Aim::Read));
-        for room in records::ROOMS {
+        for room in records::Room::ALL {
             aims.extend(records::FITS.map(|fit| Aim::Write(fit, room)));
         }
         aims
@@ -144,9 +143,9 @@ impl Aim {
             aims.extend([CM, TRADING].map(|sort| Aim::Paisa(sort, costs, 1)));
         }
         aims.extend([Aim::StandingShort; 4]);
-        aims.extend(pieces::SPOTS.map(Aim::NextAt));
-        for day in pieces::DAYS {
-            aims.extend(pieces::NUMBERS.map(|number| Aim::Day(day, number)));
+        aims.extend(pieces::Spot::ALL.map(Aim::NextAt));
+        for day in pieces::Day::ALL {
+            aims.extend(pieces::Number::ALL.map(|number| Aim::Day(day, number)));
         }
         for length in lists::LENGTHS {
             aims.extend(lists::LOSSES.map(|losses| Aim::CloseOut(losses, length)));

@@ -2,14 +2,14 @@
 
 use super::books::{self, append, find, row};
 use super::numbers::{renumber, Gaps};
-use crate::book::MOST_ACCOUNTS;
-use crate::calls::{Call, LIST_MOST};
-use crate::rng::Rng;
-use crate::table::*;
+use crate::listed;
+use crate::make::rng::Rng;
+use crate::model::calls::{Call, LIST_MOST};
+use crate::model::table::*;
+use crate::model::*;
 
-#[derive(Clone, Copy)]
-pub enum Retired {
-    Nobody,
+listed! {
+    Retired: Nobody,
     /// One account.
     One,
     /// A client of a live TM at least.
@@ -19,37 +19,13 @@ pub enum Retired {
     /// All but the CM.
     All,
     /// Some of 256 rows.
-    OfFull,
+    OfFull
 }
 
-pub const RETIRED: [Retired; 6] = [
-    Retired::Nobody,
-    Retired::One,
-    Retired::Client,
-    Retired::Family,
-    Retired::All,
-    Retired::OfFull,
-];
-
-/// The room beside three for each retired row.
-#[derive(Clone, Copy)]
-pub enum Room {
-    Exact,
-    OneLess,
-    OneMore,
-    ThreeMore,
-    Nothing,
-    Most,
+listed! {
+    /// The room beside three for each retired row.
+    Room: Exact, OneLess, OneMore, ThreeMore, Nothing, Most
 }
-
-pub const ROOMS: [Room; 6] = [
-    Room::Exact,
-    Room::OneLess,
-    Room::OneMore,
-    Room::ThreeMore,
-    Room::Nothing,
-    Room::Most,
-];
 
 pub fn call(retired: Retired, room: Room, gaps: Gaps, rng: &mut Rng) -> Call {
     let book = with_retired(retired, gaps, rng);

@@ -1,12 +1,11 @@
 //! Books to hand over: grown by a made-up day, or put together word by word.
 
 use super::numbers::{renumber, renumber_anyhow, Gaps};
-use crate::book::{CEILING, KINDS, MOST_ACCOUNTS, MOST_NUMBERS};
-use crate::day;
+use crate::make::rng::Rng;
 use crate::make::{make, Kind, ROUND};
-use crate::rng::Rng;
-use crate::rule::Rule;
-use crate::table::*;
+use crate::model::table::*;
+use crate::model::table::{MARGIN, PLEDGED, SECURITIES};
+use crate::model::*;
 
 pub fn sound(rng: &mut Rng) -> Table {
     sound_by(Rule::New, rng)

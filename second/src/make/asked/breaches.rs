@@ -3,10 +3,10 @@
 mod numbers;
 
 use super::books::*;
-use crate::book::{CEILING, KINDS, MOST_ACCOUNTS};
-use crate::rng::Rng;
-use crate::rule::Rule;
-use crate::table::*;
+use crate::make::rng::Rng;
+use crate::model::table::MARGIN;
+use crate::model::table::*;
+use crate::model::*;
 
 /// How often another book is tried where the last one wouldn't do.
 const TRIES: usize = 200;

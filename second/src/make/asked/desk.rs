@@ -1,40 +1,21 @@
 //! Positions for the currency desk: every product with every side about every
 //! rounding, and every refusal with its neighbour.
 
-use crate::book::CEILING;
-use crate::calls::Call;
-use crate::desk::{rate, Position, Side, MOST_POSITIONS, PRODUCTS, SIDES};
-use crate::rng::Rng;
+use crate::listed;
+use crate::make::rng::Rng;
+use crate::model::calls::Call;
+use crate::model::desk::{rate, Position, Side, MOST_POSITIONS, PRODUCTS, SIDES};
+use crate::model::*;
 
-/// Where a notional stands beside one whose charge is a whole number of paise.
-#[derive(Clone, Copy, PartialEq, Eq, PartialOrd, Ord, Debug)]
-pub enum Round {
-    Under,
-    Exact,
-    Over,
+listed! {
+    /// Where a notional stands beside one whose charge is a whole number of paise.
+    Round: Under, Exact, Over
 }
 
-pub const ROUNDS: [Round; 3] = [Round::Under, Round::Exact, Round::Over];
-
-/// What is wrong with one position, if anything.
-#[derive(Clone, Copy, PartialEq, Eq, PartialOrd, Ord, Debug)]
-pub enum Wrong {
-    Product,
-    Option,
-    Notional,
-    ProductAndNotional,
-    OptionAndNotional,
-    Nothing,
+listed! {
+    /// What is wrong with one position, if anything.
+    Wrong: Product, Option, Notional, ProductAndNotional, OptionAndNotional, Nothing
 }
-
-pub const WRONGS: [Wrong; 6] = [
-    Wrong::Product,
-    Wrong::Option,
-    Wrong::Notional,
-    Wrong::ProductAndNotional,
-    Wrong::OptionAndNotional,
-    Wrong::Nothing,
-];
 
 #[derive(Clone, Copy, PartialEq, Eq, PartialOrd, Ord, Debug)]
 pub enum Case {
@@ -63,16 +44,16 @@ impl Case {
         let mut all = Vec::new();
         for product in 0..PRODUCTS.len() as u8 {
             for (_, side) in SIDES {
-                all.extend(ROUNDS.map(|round| Case::Charged(product, side, round)));
+                all.extend(Round::ALL.map(|round| Case::Charged(product, side, round)));
             }
         }
         all.extend(NOTIONALS.map(Case::Notional));
         all.extend(COUNTS.map(Case::Many));
         all.extend([0, 1, 2].map(Case::Sum));
         all.extend(INITIALS.map(Case::Initial));
-        for one in WRONGS {
+        for one in Wrong::ALL {
             all.push(Case::ManyWrong(one));
-            for other in WRONGS {
+            for other in Wrong::ALL {
                 all.extend([true, false].map(|initial| Case::Two(one, other, initial)));
             }
         }

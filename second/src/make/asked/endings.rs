@@ -3,11 +3,11 @@
 
 use super::desk::good;
 use super::{any_call, books, figures};
-use crate::bookfile::{self, Version};
-use crate::calls::{Call, LIST_MOST, PIECE_MOST};
-use crate::dayfile::Values;
-use crate::rng::Rng;
-use crate::table::{LIVE, MODE};
+use crate::make::rng::Rng;
+use crate::model::bookfile::Version;
+use crate::model::calls::{Call, LIST_MOST, PIECE_MOST};
+use crate::model::table::{LIVE, MODE};
+use crate::model::*;
 
 type Ending = (&'static str, fn(&mut Vec<u8>, &mut Rng));
 

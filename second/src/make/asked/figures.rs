@@ -2,9 +2,10 @@
 //! the type, faults beside those of positions, lists of clients.
 
 use super::desk::{at_fault, few, Wrong};
-use crate::book::CEILING;
-use crate::calls::{Call, LIST_MOST};
-use crate::rng::Rng;
+use crate::listed;
+use crate::make::rng::Rng;
+use crate::model::calls::{Call, LIST_MOST};
+use crate::model::*;
 
 const LIMIT: i64 = CEILING as i64;
 
@@ -39,35 +40,17 @@ pub const AHEAD: [Ahead; 6] = [
     Ahead::Nothing,
 ];
 
-/// What a list's room is beside two for each client.
-#[derive(Clone, Copy, PartialEq, Eq, PartialOrd, Ord, Debug)]
-pub enum Room {
-    Right,
-    OneLess,
-    OneMore,
+listed! {
+    /// What a list's room is beside two for each client.
+    Room: Right, OneLess, OneMore,
     /// One for each client, or none at all.
-    Half,
+    Half
 }
 
-pub const ROOMS: [Room; 4] = [Room::Right, Room::OneLess, Room::OneMore, Room::Half];
-
-/// Where a client's figure is out of range.
-#[derive(Clone, Copy, PartialEq, Eq, PartialOrd, Ord, Debug)]
-pub enum Faulty {
-    Nobody,
-    First,
-    Last,
-    Between,
-    All,
+listed! {
+    /// Where a client's figure is out of range.
+    Faulty: Nobody, First, Last, Between, All
 }
-
-pub const FAULTY: [Faulty; 5] = [
-    Faulty::Nobody,
-    Faulty::First,
-    Faulty::Last,
-    Faulty::Between,
-    Faulty::All,
-];
 
 #[derive(Clone, Copy, PartialEq, Eq, PartialOrd, Ord, Debug)]
 pub enum Case {
@@ -110,8 +93,8 @@ impl Case {
             }
             all.extend([0, 1].map(|more| Case::Level(many, more)));
             all.extend(CLIENTS.map(|clients| Case::Clients(many, clients)));
-            all.extend(ROOMS.map(|room| Case::Room(many, room)));
-            all.extend(FAULTY.map(|faulty| Case::Faulty(many, faulty)));
+            all.extend(Room::ALL.map(|room| Case::Room(many, room)));
+            all.extend(Faulty::ALL.map(|faulty| Case::Faulty(many, faulty)));
             all.push(Case::Uneven(many));
         }
         all

@@ -6,13 +6,12 @@ use super::books::{self, append, cover, find, row};
 use super::numbers::{archived, renumber, Gaps};
 use super::pieces;
 use super::records::good_of;
-use crate::book::MOST_ACCOUNTS;
-use crate::calls::Call;
-use crate::dayfile::*;
+use crate::listed;
 use crate::make::losses;
-use crate::rng::Rng;
-use crate::rule::Rule;
-use crate::table::{Table, CP, NUMBER, TRADING};
+use crate::make::rng::Rng;
+use crate::model::calls::Call;
+use crate::model::table::{CP, NUMBER, TRADING};
+use crate::model::*;
 
 /// An opening into a book with rows free, or with none.
 pub fn opening(code: u8, gaps: Gaps, is_full: bool, rng: &mut Rng) -> Call {
@@ -84,25 +83,10 @@ pub fn gone(book: &Table, rng: &mut Rng) -> u16 {
     rng.pick(&[gone[0], gone[0], drawn, gone[gone.len() - 1]]) as u16
 }
 
-/// Calls that go by row, or by number, whatever is missing.
-#[derive(Clone, Copy)]
-pub enum By {
-    Needs,
-    Losses,
-    Day,
-    Next,
-    Standing,
-    TakeOver,
+listed! {
+    /// Calls that go by row, or by number, whatever is missing.
+    By: Needs, Losses, Day, Next, Standing, TakeOver
 }
-
-pub const BYS: [By; 6] = [
-    By::Needs,
-    By::Losses,
-    By::Day,
-    By::Next,
-    By::Standing,
-    By::TakeOver,
-];
 
 pub fn over(by: By, gaps: Gaps, rng: &mut Rng) -> Call {
     let (book, tm) = with_tm(gaps, false, rng);

@@ -2,12 +2,12 @@
 
 use super::books::{self, append, find, row, settle};
 use super::given::{gone, with_archive};
-use crate::book::{CEILING, MOST_ACCOUNTS};
-use crate::calls::Call;
 use crate::make::losses;
-use crate::rng::Rng;
-use crate::rule::Rule;
-use crate::table::*;
+use crate::make::rng::Rng;
+use crate::model::calls::Call;
+use crate::model::table::MARGIN;
+use crate::model::table::*;
+use crate::model::*;
 
 /// Whose standing is asked for.
 #[derive(Clone, Copy)]

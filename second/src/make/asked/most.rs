@@ -6,16 +6,14 @@ mod scenes;
 
 use super::numbers::{renumber, Gaps};
 use super::{books, breaches, given, lists};
-use crate::book::{Sort, CEILING, SECURITIES};
-use crate::calls::Call;
-use crate::dayfile::*;
-use crate::most::kinds::{
+use crate::kinds::most::{
     bits, kinds, Gone, Kind, Mark, Stand, Unseen, CODES, LIMITS, SORTS, STRANGE,
 };
-use crate::most::{most, Asked};
-use crate::rng::Rng;
-use crate::rule::Rule;
-use crate::table::{Fault, Table, CP, NUMBER, TRADING};
+use crate::make::rng::Rng;
+use crate::model::calls::Call;
+use crate::model::most::{most, Asked};
+use crate::model::table::{CP, NUMBER, TRADING};
+use crate::model::*;
 use scenes::Scene;
 
 /// How often another book is tried where the last one wouldn't do.

@@ -1,12 +1,13 @@
 //! Numbers of books that had archivings: gaps where rows were, and how many
 //! numbers are left to give.
 
-use crate::book::MOST_NUMBERS;
-use crate::rng::Rng;
-use crate::table::{Table, NUMBER};
+use crate::listed;
+use crate::make::rng::Rng;
+use crate::model::table::NUMBER;
+use crate::model::*;
 
-#[derive(Clone, Copy, PartialEq, Eq, PartialOrd, Ord, Debug)]
-pub enum Gaps {
+listed! {
+    Gaps:
     /// No number is missing.
     Nowhere,
     /// Behind the CM's.
@@ -14,30 +15,18 @@ pub enum Gaps {
     /// Between two others.
     Middle,
     /// Behind the last row's.
-    End,
-    Everywhere,
+    End, Everywhere,
     /// The next number is 65,535.
     OneLeft,
     /// Every number is given, the last one to a row that is gone.
     NoneLeft,
     /// The last row has 65,535.
-    LastHeld,
+    LastHeld
 }
-
-pub const GAPS: [Gaps; 8] = [
-    Gaps::Nowhere,
-    Gaps::Start,
-    Gaps::Middle,
-    Gaps::End,
-    Gaps::Everywhere,
-    Gaps::OneLeft,
-    Gaps::NoneLeft,
-    Gaps::LastHeld,
-];
 
 /// Any of them, half of the time none.
 pub fn renumber_anyhow(table: &mut Table, rng: &mut Rng) {
-    let gaps = rng.pick(&GAPS);
+    let gaps = rng.pick(&Gaps::ALL);
     let gaps = if rng.one_in(2) { Gaps::Nowhere } else { gaps };
     renumber(table, gaps, rng);
 }

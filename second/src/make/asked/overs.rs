@@ -2,10 +2,10 @@
 
 use super::books::{self, cover, direct, fund, settle};
 use super::breaches;
-use crate::book::{CEILING, KINDS};
-use crate::rng::Rng;
-use crate::rule::Rule;
-use crate::table::*;
+use crate::make::rng::Rng;
+use crate::model::table::*;
+use crate::model::table::{MARGIN, SECURITIES};
+use crate::model::*;
 
 #[derive(Clone, Copy, PartialEq, Eq, Debug)]
 pub enum Over {

@@ -1,95 +1,41 @@
 //! Pieces of day files, places in them and stated numbers.
 
 use super::{books, records};
-use crate::calls::{Call, PIECE_MOST};
-use crate::dayfile::{self, Next, Reader};
+use crate::listed;
 use crate::make::maker::Maker;
 use crate::make::mixed::any_step;
+use crate::make::rng::Rng;
 use crate::make::{make, ROUND};
-use crate::rng::Rng;
-use crate::table::Table;
+use crate::model::calls::{Call, PIECE_MOST};
+use crate::model::*;
 
-/// Where in a piece a record is looked for.
-#[derive(Clone, Copy)]
-pub enum Spot {
-    Start,
-    Record,
-    Inside,
+listed! {
+    /// Where in a piece a record is looked for.
+    Spot: Start, Record, Inside,
     /// Within the last record.
-    LastBytes,
-    End,
-    PastEnd,
-    Largest,
-    NearLargest,
+    LastBytes, End, PastEnd, Largest, NearLargest,
     /// Far past the end, with a record's start in its lower half.
-    Wide,
-    Empty,
+    Wide, Empty,
     /// In a piece whose last record is cut.
-    Cut,
+    Cut
 }
-
-pub const SPOTS: [Spot; 11] = [
-    Spot::Start,
-    Spot::Record,
-    Spot::Inside,
-    Spot::LastBytes,
-    Spot::End,
-    Spot::PastEnd,
-    Spot::Largest,
-    Spot::NearLargest,
-    Spot::Wide,
-    Spot::Empty,
-    Spot::Cut,
-];
 
 /// A word of 16, 31, 32 or 63 bits shows nothing of these.
 const WIDE: [u64; 5] = [1 << 16, 1 << 31, 1 << 32, 1 << 48, 1 << 63];
 
-/// What a day's piece is like.
-#[derive(Clone, Copy)]
-pub enum Day {
-    Good,
-    Bent,
-    Cut,
-    Empty,
-    Garbage,
+listed! {
+    /// What a day's piece is like.
+    Day: Good, Bent, Cut, Empty, Garbage,
     /// As long as a piece may be.
-    Longest,
+    Longest
 }
 
-pub const DAYS: [Day; 6] = [
-    Day::Good,
-    Day::Bent,
-    Day::Cut,
-    Day::Empty,
-    Day::Garbage,
-    Day::Longest,
-];
-
-/// The stated number beside the records in the piece.
-#[derive(Clone, Copy)]
-pub enum Number {
-    Zero,
-    One,
-    Few,
-    OneLess,
-    Exact,
-    OneMore,
-    Largest,
+listed! {
+    /// The stated number beside the records in the piece.
+    Number: Zero, One, Few, OneLess, Exact, OneMore, Largest,
     /// Far more, with a small number in its lower half.
-    Wide,
+    Wide
 }
-
-pub const NUMBERS: [Number; 8] = [
-    Number::Zero,
-    Number::One,
-    Number::Few,
-    Number::OneLess,
-    Number::Exact,
-    Number::OneMore,
-    Number::Largest,
-    Number::Wide,
-];
 
 /// Any bytes, most of them a day.
 pub fn some_piece(rng: &mut Rng) -> Vec<u8> {

@@ -1,15 +1,13 @@
 //! Records as values: with every refusal, and for the writer.
 
 use super::books;
-use crate::book::{Book, CEILING, KINDS};
-use crate::calls::Call;
-use crate::carry::{carry, Answer};
-use crate::dayfile::*;
+use crate::listed;
 use crate::make::maker::Maker;
 use crate::make::mixed::any_step;
-use crate::rng::Rng;
-use crate::rule::Rule;
-use crate::table::{self, Table, ALLOCATED, CLIENT, CP, MODE, SECURITIES, TRADING};
+use crate::make::rng::Rng;
+use crate::model::calls::Call;
+use crate::model::table::{ALLOCATED, CLIENT, CP, MODE, SECURITIES, TRADING};
+use crate::model::*;
 
 /// How many steps are tried on one book, and how many books.
 const STEPS: usize = 120;
@@ -210,23 +208,10 @@ pub const FITS: [Fit; 9] = [
     Fit::Unnamed,
 ];
 
-/// The writer's room beside the record's length.
-#[derive(Clone, Copy)]
-pub enum Room {
-    Exact,
-    OneLess,
-    OneMore,
-    None,
-    Most,
+listed! {
+    /// The writer's room beside the record's length.
+    Room: Exact, OneLess, OneMore, None, Most
 }
-
-pub const ROOMS: [Room; 5] = [
-    Room::Exact,
-    Room::OneLess,
-    Room::OneMore,
-    Room::None,
-    Room::Most,
-];
 
 pub fn write(fit: Fit, room: Room, rng: &mut Rng) -> Call {
     let record = fitted(fit, rng);

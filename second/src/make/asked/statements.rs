@@ -3,15 +3,17 @@
 mod bends;
 mod scenes;
 
-use super::numbers::{renumber, Gaps, GAPS};
+use super::numbers::{renumber, Gaps};
 use super::{unsound, Fault, Rule};
-use crate::calls::Call;
-use crate::rng::Rng;
-use crate::statement::{Record, Spot, SPOTS};
-use crate::table::{Table, NEED};
+use crate::kinds::statements::{Spot, SPOTS};
+use crate::make::rng::Rng;
+use crate::model::calls::Call;
+use crate::model::statement::Record;
+use crate::model::table::NEED;
+use crate::model::*;
 use bends::Paisa::{Less, More};
 use bends::{Bend, Draft, BENDS};
-use scenes::{Scene, Sheet, Who, SHEETS, WHO};
+use scenes::{Scene, Sheet, Who};
 
 /// A statement of a TM, for a book.
 pub struct Asked {
@@ -74,10 +76,10 @@ const SURPLUS: [Option<Bend>; 7] = [
 
 impl Case {
     pub fn all() -> Vec<Case> {
-        let mut all = SHEETS.map(Case::Right).to_vec();
-        all.extend(GAPS.map(Case::Gapped));
+        let mut all = Sheet::ALL.map(Case::Right).to_vec();
+        all.extend(Gaps::ALL.map(Case::Gapped));
         all.extend([Sheet::Empty, Sheet::Full].map(Case::Unsound));
-        all.extend(WHO.map(Case::Of));
+        all.extend(Who::ALL.map(Case::Of));
         all.extend([Case::Fresh; 2]);
         for spot in SPOTS {
             all.extend(BENDS.map(|bend| Case::Bent(bend, spot)));

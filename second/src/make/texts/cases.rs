@@ -1,7 +1,7 @@
 //! Kinds of lines, each with ways of saying it and the fault it must be told
 //! with.
 
-use crate::text::LINE_MOST;
+use crate::model::text::LINE_MOST;
 
 #[derive(Clone, Copy)]
 pub struct Case {

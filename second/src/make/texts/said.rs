@@ -1,9 +1,9 @@
 //! A line from one of its ways of saying it, and how it is dressed: other
 //! blanks, none where none is needed, and a comment.
 
-use crate::book::CEILING;
-use crate::rng::Rng;
-use crate::text::hex;
+use crate::make::rng::Rng;
+use crate::model::text::hex;
+use crate::model::*;
 
 const BLANKS: [u8; 5] = [b' ', b' ', b'\t', b'\t', b'\r'];
 

@@ -1,13 +1,11 @@
 //! What made-up calls aim at in K11: archives, and numbers that were given and
 //! are missing.
 
-use crate::calls::Call;
-use crate::dayfile::*;
-use crate::make::asked::numbers::{Gaps, GAPS};
+use crate::make::asked::numbers::Gaps;
 use crate::make::asked::{archives, breaches, given};
-use crate::rng::Rng;
-use crate::rule::Rule;
-use crate::table::Fault;
+use crate::make::rng::Rng;
+use crate::model::calls::Call;
+use crate::model::*;
 
 #[derive(Clone, Copy)]
 pub enum Aim {
@@ -29,15 +27,15 @@ pub enum Aim {
 impl Aim {
     pub fn round() -> Vec<Aim> {
         let mut aims = Vec::new();
-        let mut gaps = GAPS.into_iter().cycle();
-        for retired in archives::RETIRED {
-            for (room, gaps) in archives::ROOMS.into_iter().zip(&mut gaps) {
+        let mut gaps = Gaps::ALL.into_iter().cycle();
+        for retired in archives::Retired::ALL {
+            for (room, gaps) in archives::Room::ALL.into_iter().zip(&mut gaps) {
                 aims.push(Aim::Archive(retired, room, gaps));
             }
         }
-        for gaps in GAPS {
+        for gaps in Gaps::ALL {
             aims.extend([Aim::Gapped(gaps), Aim::Openings(gaps)]);
-            aims.extend(given::BYS.map(|by| Aim::Over(by, gaps)));
+            aims.extend(given::By::ALL.map(|by| Aim::Over(by, gaps)));
             for code in [OPEN_TM, OPEN_CLIENT, OPEN_CP] {
                 aims.push(Aim::Opening(code, gaps, false));
             }

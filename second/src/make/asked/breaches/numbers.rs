@@ -1,11 +1,10 @@
 //! Books whose numbers aren't those of a sound one, in one way alone.
 
-use crate::book::MOST_NUMBERS;
 use crate::make::asked::books::cover;
 use crate::make::asked::numbers::{archived, renumber, Gaps};
-use crate::rng::Rng;
-use crate::rule::Rule;
-use crate::table::*;
+use crate::make::rng::Rng;
+use crate::model::table::*;
+use crate::model::*;
 
 /// None where the book has no room for it.
 pub fn breach(table: &mut Table, fault: Fault, rule: Rule, rng: &mut Rng) -> Option<()> {

@@ -4,11 +4,10 @@
 use super::super::books::{self, append, collateral, fund, row, settle};
 use super::super::breaches::an_account;
 use super::super::overs::fund_with_securities;
-use crate::book::{Sort, CEILING, KINDS, MOST_ACCOUNTS};
-use crate::dayfile::{ALLOCATE, HAND_BACK, PLEDGE, RECEIVE, SET_MARGIN, UNPLEDGE};
-use crate::rng::Rng;
-use crate::rule::Rule;
-use crate::table::*;
+use crate::make::rng::Rng;
+use crate::model::table::*;
+use crate::model::table::{MARGIN, PLEDGED, SECURITIES};
+use crate::model::*;
 
 /// A book and the place of an account in it.
 pub struct Scene {

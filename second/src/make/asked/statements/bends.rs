@@ -1,9 +1,9 @@
 //! What a right statement is bent by: a byte, a paisa or an account.
 
 use super::scenes::{Has, Scene};
-use crate::rng::Rng;
-use crate::statement::{Record, AMOUNTS, MOST};
-use crate::table::*;
+use crate::make::rng::Rng;
+use crate::model::statement::{Record, AMOUNTS, MOST};
+use crate::model::table::*;
 
 /// A record of a statement as its bytes will be. Whatever bits its set has, an amount
 /// stands for each of its five.

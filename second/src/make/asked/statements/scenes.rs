@@ -1,20 +1,20 @@
 //! Books for statements: a TM with live clients, a retired one and another TM's
 //! between them, and what its right statement says.
 
-use crate::book::{CEILING, KINDS, MOST_ACCOUNTS, MOST_NUMBERS};
+use crate::listed;
 use crate::make::asked::books::{append, fill, find, row, settle, sound};
-use crate::make::asked::numbers::{archived, renumber, Gaps, GAPS};
-use crate::rng::Rng;
-use crate::rule::Rule;
-use crate::statement::Record;
-use crate::table::*;
+use crate::make::asked::numbers::{archived, renumber, Gaps};
+use crate::make::rng::Rng;
+use crate::model::statement::Record;
+use crate::model::table::PLEDGED;
+use crate::model::table::*;
+use crate::model::*;
 
-/// What a TM's clients are like.
-#[derive(Clone, Copy, PartialEq, Eq)]
-pub enum Sheet {
+listed! {
+    /// What a TM's clients are like.
+    Sheet:
     /// No live client.
-    Empty,
-    Several,
+    Empty, Several,
     /// As many as the book has rows for.
     Full,
     /// One with nothing.
@@ -22,17 +22,8 @@ pub enum Sheet {
     /// One whose record says that all that is allocated is placed.
     JustAllocated,
     /// One with four ceilings received.
-    Most,
+    Most
 }
-
-pub const SHEETS: [Sheet; 6] = [
-    Sheet::Empty,
-    Sheet::Several,
-    Sheet::Full,
-    Sheet::Nothing,
-    Sheet::JustAllocated,
-    Sheet::Most,
-];
 
 /// What one client has.
 #[derive(Clone, Copy, PartialEq, Eq)]
@@ -44,27 +35,10 @@ pub enum Has {
     Nothing,
 }
 
-/// An account that is no live TM.
-#[derive(Clone, Copy)]
-pub enum Who {
-    RetiredTm,
-    RetiredClient,
-    Archived,
-    NeverGiven,
-    Cm,
-    Client,
-    Cp,
+listed! {
+    /// An account that is no live TM.
+    Who: RetiredTm, RetiredClient, Archived, NeverGiven, Cm, Client, Cp
 }
-
-pub const WHO: [Who; 7] = [
-    Who::RetiredTm,
-    Who::RetiredClient,
-    Who::Archived,
-    Who::NeverGiven,
-    Who::Cm,
-    Who::Client,
-    Who::Cp,
-];
 
 /// A sound book, a TM of it and its live clients, by place.
 pub struct Scene {
@@ -85,7 +59,7 @@ impl Scene {
             (_, Some(tm)) => tm,
         };
         put_rows(&mut book, tm, sheet, rng);
-        let gaps = rng.pick(&GAPS);
+        let gaps = rng.pick(&Gaps::ALL);
         if rng.one_in(2) {
             renumber(&mut book, gaps, rng);
         }

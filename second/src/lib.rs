@@ -1,0 +1,21 @@
+//! An independent second program for the collateral book of one clearing
+//! member, written from documents 01 and 02 and the decisions on their open
+//! points, and made to be compared with the first.
+
+pub mod compare;
+pub mod kinds;
+pub mod make;
+pub mod model;
+pub mod tally;
+pub mod usage;
+
+use std::io::{self, Write};
+
+pub type Output = Result<Vec<u8>, String>;
+
+pub fn put_out(bytes: &[u8]) -> Result<(), String> {
+    let mut out = io::stdout().lock();
+    out.write_all(bytes)
+        .and_then(|()| out.flush())
+        .map_err(|error| error.to_string())
+}
