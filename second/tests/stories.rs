@@ -11,6 +11,7 @@ use second::kinds::statements;
 use second::make::asked::desk::Case;
 use second::make::asked::{any_sound, figures, make, unsound, whole_round, with_steps, ENDINGS};
 use second::model::calls::{answer, answered, answered_seen, Call, Calls};
+use second::tally::names;
 
 #[test]
 fn made_books_are_sound() {
@@ -51,7 +52,11 @@ fn a_whole_round_meets_everything() {
             let out = answered_seen(&asked.bytes, |call, answered| met.count(call, answered));
             let text = utf(out);
             let ending = text.lines().last().unwrap();
-            assert_eq!(ending.starts_with("bad "), asked.ending != 0, "seed {seed}");
+            assert_eq!(
+                ending.starts_with("bad "),
+                asked.ending != "the end",
+                "seed {seed}"
+            );
             met.count_input(&asked);
         }
         assert_eq!((met.missed(), &met.wrong), (Vec::new(), &Vec::new()));
@@ -61,7 +66,7 @@ fn a_whole_round_meets_everything() {
     let (taken_over, numbers) = (2 + 3 + 6, 9 + 7 + 4 + 7 + 2 + 6 + 13 + 3 + 4);
     let faults = Fault::all(Rule::Old).len() + Fault::all(Rule::New).len();
     // And a book of version 1.
-    let all = outcomes + edges + taken_over + numbers + faults + ENDINGS.len() + 1;
+    let all = outcomes + edges + taken_over + numbers + faults + names(ENDINGS).count() + 1;
     let all = all + Case::all().len() + figures::Case::all().len();
     let all = all + statements::Met::default().missed().len() + Kind::all().len() + 36;
     assert_eq!(Counted::default().missed().len(), all);

@@ -25,7 +25,7 @@ fn one_input(run: &Run, program: &str, place: u64, seed: u64, met: &mut Met) -> 
     let want = answered_seen(&asked.bytes, |call, answered| met.count(call, answered));
     let ending = want.split_inclusive(|&byte| byte == b'\n').next_back();
     let is_bad = ending.map_or(false, |line| line.starts_with(b"bad "));
-    if is_bad == (asked.ending == 0) {
+    if is_bad == (asked.ending == "the end") {
         return Err(format!("calls, seed {seed}: made with another ending"));
     }
     met.count_input(&asked);

@@ -109,7 +109,7 @@ impl Met {
 
     pub fn count_input(&mut self, asked: &Asked) {
         self.inputs += 1;
-        self.endings.count(ENDINGS[asked.ending].0);
+        self.endings.count(asked.ending);
         self.first_versions += asked.first_versions;
     }
 
@@ -129,10 +129,7 @@ impl Met {
             let unmet = faults.filter(|&fault| self.alone.times((rule, fault)) == 0);
             missed.extend(unmet.map(|fault| format!("alone, {rule:?}: {fault:?}")));
         }
-        missed.extend(
-            self.endings
-                .missed("", ENDINGS.iter().map(|ending| ending.0)),
-        );
+        missed.extend(self.endings.missed("", names(ENDINGS)));
         if self.first_versions == 0 {
             missed.push("a book of version 1".to_string());
         }
@@ -180,7 +177,7 @@ impl Met {
             sums(self.at_paisa.sums()),
             self.pairs
         ));
-        let endings = ENDINGS.iter().map(|ending| ending.0);
+        let endings = names(ENDINGS);
         lines.push(format!("endings, {}", self.endings.line(endings)));
         lines
     }

@@ -18,12 +18,13 @@ mod pieces;
 mod records;
 pub mod statements;
 
+use crate::listed;
 use crate::make::maker::Maker;
 use crate::make::mixed::any_step;
 use crate::make::rng::Rng;
-use crate::model::calls::Call;
+use crate::model::calls::{Call, LIST_MOST};
 use crate::model::*;
-use aims::Aim;
+use crate::tally::names;
 pub use endings::ENDINGS;
 
 /// How many calls an input has before its ending.
@@ -33,20 +34,19 @@ pub const CALLS: usize = 80;
 /// `ENDINGS`, the first of which is none at all.
 pub struct Asked {
     pub bytes: Vec<u8>,
-    pub ending: usize,
+    pub ending: &'static str,
     /// How many of its books are of version 1.
     pub first_versions: u64,
 }
 
 pub fn make(seed: u64) -> Asked {
     let mut rng = Rng::new(seed, 0xA5CED);
-    let aims = Aim::round();
+    let aims = aims::round();
     let start = (seed as usize).wrapping_mul(CALLS);
     let mut bytes = Vec::new();
     let mut first_versions = 0;
     for place in 0..CALLS {
-        let aim = aims[start.wrapping_add(place) % aims.len()];
-        let call = aim.call(&mut rng);
+        let call = aims[start.wrapping_add(place) % aims.len()](&mut rng);
         let first = call.book().and_then(bookfile::first_bytes);
         let first = first.filter(|_| rng.one_in(4));
         first_versions += u64::from(first.is_some());
@@ -55,7 +55,8 @@ pub fn make(seed: u64) -> Asked {
             None => call.lay(&mut bytes),
         }
     }
-    let ending = seed as usize % ENDINGS.len();
+    let all: Vec<&str> = names(ENDINGS).collect();
+    let ending = all[seed as usize % all.len()];
     endings::put(ending, &mut bytes, &mut rng);
     Asked {
         bytes,
@@ -66,8 +67,26 @@ pub fn make(seed: u64) -> Asked {
 
 /// How many inputs it takes to go over all aims and all endings.
 pub fn whole_round() -> usize {
-    let inputs = (Aim::round().len() + CALLS - 1) / CALLS;
-    inputs.max(ENDINGS.len())
+    let inputs = (aims::round().len() + CALLS - 1) / CALLS;
+    inputs.max(names(ENDINGS).count())
+}
+
+listed! {
+    /// A room beside the length wanted.
+    Room: Exact, OneLess, OneMore, ThreeMore, Nothing, Most
+}
+
+impl Room {
+    fn of(self, wanted: usize) -> usize {
+        match self {
+            Room::Exact => wanted,
+            Room::OneLess => wanted.saturating_sub(1),
+            Room::OneMore => wanted + 1,
+            Room::ThreeMore => wanted + 3,
+            Room::Nothing => 0,
+            Room::Most => LIST_MOST,
+        }
+    }
 }
 
 /// A sound book of any kind.
@@ -127,7 +146,7 @@ pub fn with_retirings(book: &Table, rng: &mut Rng) -> Vec<u8> {
 
 /// Any call on any book.
 fn any_call(rng: &mut Rng) -> Call {
-    let aims = Aim::round();
-    let aim = rng.pick(&aims);
-    aim.call(rng)
+    let aims = aims::round();
+    let aim = rng.below(aims.len() as u64) as usize;
+    aims[aim](rng)
 }

@@ -176,7 +176,7 @@ fn edge(maker: &mut Maker, in_range: bool) -> u64 {
 /// Everything of one account up to the ceiling, and its margin as well.
 fn fill(maker: &mut Maker) {
     let account = maker.live();
-    let row = maker.book.rows[usize::from(account)];
+    let row = maker.row(account);
     maker.say_kinds(
         RECEIVE,
         account,

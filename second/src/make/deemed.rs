@@ -53,7 +53,7 @@ pub fn open_groups(maker: &mut Maker) {
 
 /// The more, the more others an account answers for.
 pub fn fund_by_sort(maker: &mut Maker, account: u16) {
-    let times = match maker.book.rows[usize::from(account)].sort {
+    let times = match maker.row(account).sort {
         Sort::Cm => 8,
         Sort::Tm => 4,
         _ => maker.rng.below(3),
@@ -64,11 +64,8 @@ pub fn fund_by_sort(maker: &mut Maker, account: u16) {
 }
 
 fn margin_by_sort(maker: &mut Maker, account: u16) {
-    let row = maker.book.rows[usize::from(account)];
-    let (own, cm_free) = (
-        maker.book.collateral(usize::from(account)),
-        maker.book.free(0),
-    );
+    let row = maker.row(account);
+    let (own, cm_free) = (maker.own(account), maker.book.free(0));
     let margin = match row.sort {
         Sort::Cm => maker.rng.below(cm_free / 3 + 1),
         Sort::Tm if maker.rng.one_in(4) => own + maker.rng.below(cm_free / 4 + 1),

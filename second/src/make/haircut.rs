@@ -46,7 +46,7 @@ pub fn tens(maker: &mut Maker) {
                 maker.say_kinds(RELEASE, account, [0, 0, 0, few]);
             }
             4 => {
-                let margin = maker.rng.beside(own(maker, account)).min(CEILING);
+                let margin = maker.rng.beside(maker.own(account)).min(CEILING);
                 maker.say_margin(account, margin);
             }
             5 => unpledge_free(maker),
@@ -56,11 +56,7 @@ pub fn tens(maker: &mut Maker) {
 }
 
 fn securities(maker: &Maker, account: u16) -> u64 {
-    maker.book.rows[usize::from(account)].allocated[SECURITIES]
-}
-
-fn own(maker: &Maker, account: u16) -> u64 {
-    maker.book.collateral(usize::from(account))
+    maker.row(account).allocated[SECURITIES]
 }
 
 fn allocate(maker: &mut Maker, account: u16, kinds: [u64; 4]) {
@@ -90,7 +86,7 @@ fn fund(maker: &mut Maker, account: u16) {
 /// A margin come to from none, so that a member is not in the mode, that
 /// leaves so much free: more than an eighth of its collateral.
 fn leave_free(maker: &mut Maker, account: u16) -> u64 {
-    let own = own(maker, account);
+    let own = maker.own(account);
     let free = maker.rng.between(own / 8 + 1, own / 8 + own / 12);
     maker.say_margin(account, 0);
     maker.say_margin(account, own - free);
@@ -124,12 +120,12 @@ fn a_paisa(maker: &mut Maker, account: u16) {
     for over in overs {
         let more = 10 - (securities(maker, account) + 9) % 10;
         allocate(maker, account, [0, 0, 0, more]);
-        let margin = own(maker, account) + over;
+        let margin = maker.own(account) + over;
         maker.say_margin(account, margin);
         maker.say_kinds(RELEASE, account, [0, 0, 0, 1]);
         if is_member {
             allocate(maker, account, [0, 0, 0, 9]);
-            let margin = own(maker, account);
+            let margin = maker.own(account);
             maker.say_margin(account, margin);
         }
         maker.say_kinds(RELEASE, account, [0, 0, 0, 1]);
@@ -154,12 +150,12 @@ fn up_to_cover(maker: &mut Maker, account: u16) {
         }
         at = maker.book.answers_for(at);
     }
-    let margin = maker.book.rows[usize::from(account)].margin + free;
+    let margin = maker.row(account).margin + free;
     let deemed = maker.book.deemed(usize::from(account));
     for margin in [margin + deemed + 1, margin + deemed] {
         maker.say_margin(account, margin);
     }
-    if maker.book.rows[usize::from(account)].sort != Sort::Cm {
+    if maker.row(account).sort != Sort::Cm {
         maker.say_margin(account, 0);
     }
 }

@@ -78,7 +78,7 @@ fn fund(maker: &mut Maker, account: u16, tenth: u64, more: u64) {
     for code in [RECEIVE, ALLOCATE] {
         say_of(maker, code, account, SECURITIES, face);
     }
-    let there = maker.book.collateral(usize::from(account));
+    let there = maker.own(account);
     maker.say_pledge(PLEDGE, account, 10 * tenth - there);
 }
 
@@ -90,13 +90,13 @@ fn say_of(maker: &mut Maker, code: u8, account: u16, kind: usize, amount: u64) {
 
 /// The kind that the account was funded in.
 fn kind_of(maker: &Maker, account: u16) -> usize {
-    let received = maker.book.rows[usize::from(account)].received;
+    let received = maker.row(account).received;
     let kind = received.iter().position(|&amount| amount != 0);
     kind.unwrap_or(0)
 }
 
 fn there(maker: &Maker, account: u16, way: Way) -> u64 {
-    let row = &maker.book.rows[usize::from(account)];
+    let row = maker.row(account);
     match way {
         Way::Release => row.allocated[kind_of(maker, account)],
         Way::Unpledge => row.pledged,
@@ -125,11 +125,11 @@ fn put_in(maker: &mut Maker, account: u16, way: Way, amount: u64) {
 /// a paisa, and all that is free then. What went out comes back.
 fn ask(maker: &mut Maker, account: u16, way: Way) {
     let whole = there(maker, account, way);
-    let free = maker.book.free(usize::from(account));
+    let free = maker.free(account);
     for amount in [whole + 1, whole, free + 1, 1] {
         take_out(maker, account, way, amount);
     }
-    let free = maker.book.free(usize::from(account));
+    let free = maker.free(account);
     take_out(maker, account, way, free);
     let gone = whole - there(maker, account, way);
     if gone != 0 {
@@ -174,7 +174,7 @@ fn while_on(maker: &mut Maker, scene: &Scene) {
             ask(maker, account, way);
         }
     }
-    let (kind, row) = (kind_of(maker, member), maker.book.rows[usize::from(member)]);
+    let (kind, row) = (kind_of(maker, member), maker.row(member));
     let left = row.received[kind] - row.allocated[kind];
     for (code, amount) in [(HAND_BACK, left + 1), (HAND_BACK, left), (RECEIVE, left)] {
         say_of(maker, code, member, kind, amount);

@@ -177,6 +177,24 @@ impl Maker {
         self.book.count as u16 - 1
     }
 
+    pub fn row(&self, account: u16) -> Row {
+        self.book.rows[usize::from(account)]
+    }
+
+    /// The account's own collateral.
+    pub fn own(&self, account: u16) -> u64 {
+        self.book.collateral(usize::from(account))
+    }
+
+    pub fn free(&self, account: u16) -> u64 {
+        self.book.free(usize::from(account))
+    }
+
+    /// Received and allocated at once.
+    pub fn put_in(&mut self, account: u16, kinds: [u64; 4]) -> bool {
+        self.say_kinds(RECEIVE, account, kinds) && self.say_kinds(ALLOCATE, account, kinds)
+    }
+
     pub fn amount(&mut self) -> u64 {
         let most = self.scale;
         self.rng.between(1, most)

@@ -41,10 +41,6 @@ fn amount(maker: &mut Maker) -> u64 {
     maker.amount() + 5
 }
 
-fn own(maker: &Maker, account: u16) -> u64 {
-    maker.book.collateral(usize::from(account))
-}
-
 fn of_one_kind(kind: usize, amount: u64) -> [u64; KINDS] {
     let mut kinds = [0; KINDS];
     kinds[kind] = amount;
@@ -86,7 +82,7 @@ fn about(maker: &mut Maker, account: u16) {
     allocate_new(maker, account, SECURITIES, securities);
     allocate_new(maker, account, kind, part);
     maker.say_pledge(PLEDGE, account, pledged);
-    let whole = own(maker, account);
+    let whole = maker.own(account);
     for margin in [whole - 1, whole, whole + 1, whole, whole, whole + 1] {
         maker.say_margin(account, margin);
     }
@@ -110,7 +106,7 @@ fn take_out_free(maker: &mut Maker, account: u16, kind: usize, parts: [u64; 2]) 
 /// More than an eighth of its collateral, by a margin come to from none, so
 /// that a member is not in risk reduction mode then (17).
 fn leave_free(maker: &mut Maker, account: u16, most: u64) -> u64 {
-    let own = own(maker, account);
+    let own = maker.own(account);
     let free = maker.rng.between(own / 8 + 1, most - 1);
     maker.say_margin(account, 0);
     maker.say_margin(account, own.saturating_sub(free));
@@ -119,7 +115,7 @@ fn leave_free(maker: &mut Maker, account: u16, most: u64) -> u64 {
 
 /// About the TM's collateral by what the client is deemed, likewise.
 fn about_tm(maker: &mut Maker, tm: u16, client: u16) {
-    let whole = own(maker, client) + maker.book.free(usize::from(tm));
+    let whole = maker.own(client) + maker.free(tm);
     for margin in [whole, whole + 1, whole, whole + 1] {
         maker.say_margin(client, margin);
     }
@@ -136,11 +132,11 @@ fn at_full_use(maker: &mut Maker, [client, tm, cp]: [u16; 3]) {
     let cm_margin = maker.book.rows[0].margin;
     for (account, part) in [(client, 6), (tm, 5), (cp, 4), (0, 1)] {
         let more = free_below_cm(maker, account) + maker.book.free(0) / part;
-        let margin = maker.book.rows[usize::from(account)].margin;
+        let margin = maker.row(account).margin;
         maker.say_margin(account, margin + more);
     }
     for account in [client, tm, cp, 0] {
-        let margin = maker.book.rows[usize::from(account)].margin;
+        let margin = maker.row(account).margin;
         let lower = maker.rng.below(margin);
         for margin in [margin, margin + 1, lower, margin] {
             maker.say_margin(account, margin);
@@ -171,7 +167,7 @@ fn stay(maker: &mut Maker, stand: u64) {
         3 => 3 + maker.rng.below(maker.book.free(0) / 2),
         _ => stand,
     };
-    let margin = (own(maker, tm) + own(maker, client) + more).saturating_sub(1);
+    let margin = (maker.own(tm) + maker.own(client) + more).saturating_sub(1);
     maker.say_margin(client, margin.min(CEILING));
 }
 
@@ -200,7 +196,7 @@ fn take_out_of_member(maker: &mut Maker) {
         Some(tm) if !maker.rng.one_in(3) => tm,
         _ => 0,
     };
-    let (row, kind) = (maker.book.rows[usize::from(member)], full_kind(maker));
+    let (row, kind) = (maker.row(member), full_kind(maker));
     let is_release = row.allocated[kind] > 0 && maker.rng.one_in(2);
     let there = if is_release {
         row.allocated[kind]
@@ -208,11 +204,11 @@ fn take_out_of_member(maker: &mut Maker) {
         row.pledged
     };
     maker.say_margin(member, 0);
-    let free = maker.book.free(usize::from(member));
-    let least = (own(maker, member) / 8 + 1).min(there);
+    let free = maker.free(member);
+    let least = (maker.own(member) / 8 + 1).min(there);
     let kept = free.saturating_sub(maker.rng.between(least, there));
     maker.say_margin(member, kept.min(CEILING));
-    let amount = maker.rng.beside(maker.book.free(usize::from(member)));
+    let amount = maker.rng.beside(maker.free(member));
     if is_release {
         maker.say_kinds(RELEASE, member, of_one_kind(kind, amount));
     } else {

@@ -159,7 +159,7 @@ fn work(aim: Aim, maker: &mut Maker, [one, other]: [u16; 2]) {
 /// Nine tenths of a member's collateral are used, and then there is more of it, but
 /// not so much that the use is under 85%: on in this order, off in the other.
 fn by_order(maker: &mut Maker, member: u16, under: u16) {
-    let collateral = maker.book.collateral(usize::from(member));
+    let collateral = maker.own(member);
     let margin = collateral - collateral / 10;
     maker.say_margin(under, margin);
     let most = (collateral / 18).max(1);
@@ -173,7 +173,7 @@ fn by_order(maker: &mut Maker, member: u16, under: u16) {
 /// its own that falls.
 fn covered_first(maker: &mut Maker, giver: u16, taker: u16) {
     let before = level(maker, taker);
-    let margin = maker.book.rows[usize::from(giver)].margin;
+    let margin = maker.row(giver).margin;
     let given = 1 + maker.rng.below(margin.clamp(1, 1_000_000));
     if margin > 0 && maker.book.deemed(usize::from(giver)) > 0 {
         maker.say_margin(giver, margin - given);
@@ -189,7 +189,7 @@ fn covered_first(maker: &mut Maker, giver: u16, taker: u16) {
 }
 
 fn give(maker: &mut Maker, giver: u16, given: u64) {
-    let pledged = maker.book.rows[usize::from(giver)].pledged;
+    let pledged = maker.row(giver).pledged;
     match maker.rng.below(3) {
         0 => {
             maker.say_value(giver, pledged + given);
@@ -200,7 +200,7 @@ fn give(maker: &mut Maker, giver: u16, given: u64) {
 
 /// The largest margin that 13 lets pass.
 fn level(maker: &Maker, account: u16) -> u64 {
-    maker.book.rows[usize::from(account)].margin + slack(maker, account)
+    maker.row(account).margin + slack(maker, account)
 }
 
 fn noise(maker: &mut Maker) {

@@ -5,6 +5,7 @@ use super::asked::figures::{good, EDGES};
 use crate::listed;
 use crate::make::rng::Rng;
 use crate::model::desk::lines::{line, MOST};
+use crate::tally::names;
 
 listed! {
     /// What a run has besides its positions.
@@ -26,60 +27,23 @@ pub struct Sheet {
 }
 
 /// Lines that are no position.
-const BAD_LINES: [&[u8]; 34] = [
-    b"USDINR",
-    b"USDINR futures",
-    b"USDINR futures 5 6",
-    b" USDINR futures 5",
-    b"USDINR futures 5 ",
-    b"USDINR  futures 5",
-    b"USDINR futures  5",
-    b"usdinr futures 5",
-    b"USDINr futures 5",
-    b"USDINR Futures 5",
-    b"USDINR option 5",
-    b"USDINR futures -5",
-    b"USDINR futures +5",
-    b"USDINR futures 5x",
-    b"USDINR futures ",
-    b" ",
-    b"USDINR\tfutures\t5",
-    b"USDINR futures 5\r",
-    b"US-INR futures 5",
-    b" # a remark",
-    b"USDINR futures \xFF",
-    b"\x00",
-    b"figures",
-    b"figures ",
-    b"figures 1",
-    b"figures 1 2 3",
-    b"figures 1 2 3 4 5",
-    b"figures +1 2",
-    b"figures - 2",
-    b"figures --1 2",
-    b"figures 1  2",
-    b"figures 1 2 ",
-    b"Figures 1 2",
-    b"figures 1 2x",
-];
+const BAD_LINES: &str = "\
+USDINR|USDINR futures|USDINR futures 5 6| USDINR futures 5|USDINR futures 5 |USDINR  futures 5|\
+USDINR futures  5|usdinr futures 5|USDINr futures 5|USDINR Futures 5|USDINR option 5|\
+USDINR futures -5|USDINR futures +5|USDINR futures 5x|USDINR futures | |USDINR\tfutures\t5|\
+USDINR futures 5\r|US-INR futures 5| # a remark|\0|figures|figures |figures 1|figures 1 2 3|\
+figures 1 2 3 4 5|figures +1 2|figures - 2|figures --1 2|figures 1  2|figures 1 2 |Figures 1 2|\
+figures 1 2x";
 
 /// Words that are none of the program's.
-const BAD_WORDS: [&[&str]; 14] = [
-    &[],
-    &["1"],
-    &["1", "2"],
-    &["1", "2", "3", "4"],
-    &["--record"],
-    &["--record", "1", "2"],
-    &["--record", "1", "2", "3", "4"],
-    &["65536", "2", "3"],
-    &["1", "65536", "3"],
-    &["1", "2", "-3"],
-    &["1", "2", ""],
-    &["1x", "2", "3"],
-    &["1", "2", "3", "--record"],
-    &["99999999999999999999999", "2", "3"],
-];
+const BAD_WORDS: &str = "|1|1 2|1 2 3 4|--record|--record 1 2|--record 1 2 3 4|65536 2 3|\
+1 65536 3|1 2 -3|1 2 |1x 2 3|1 2 3 --record|99999999999999999999999 2 3";
+
+/// One of a list with `|` between them.
+fn one_of(list: &'static str, rng: &mut Rng) -> &'static str {
+    let all: Vec<&str> = names(list).collect();
+    rng.pick(&all)
+}
 
 pub fn make(seed: u64) -> Sheet {
     let mut rng = Rng::new(seed, 0x5EE7);
@@ -139,11 +103,19 @@ fn bend(odd: Odd, words: &mut Vec<String>, lines: &mut Vec<Vec<u8>>, rng: &mut R
         }
         Odd::BadLine => put_bad_line(at, lines, rng),
         Odd::BadWords => {
-            let bad = rng.pick(&BAD_WORDS);
-            *words = bad.iter().map(|word| word.to_string()).collect();
+            let bad = one_of(BAD_WORDS, rng);
+            let split = bad.split(' ').filter(|_| !bad.is_empty());
+            *words = split.map(String::from).collect();
         }
         Odd::Help => words.insert(0, "--help".to_string()),
         _ => {}
+    }
+}
+
+fn bad_line(rng: &mut Rng) -> Vec<u8> {
+    match rng.below(34) {
+        0 => b"USDINR futures \xFF".to_vec(),
+        _ => one_of(BAD_LINES, rng).as_bytes().to_vec(),
     }
 }
 
@@ -154,9 +126,9 @@ fn put_bad_line(at: usize, lines: &mut Vec<Vec<u8>>, rng: &mut Rng) {
         lines.insert(0, b"figures 1 2".to_vec());
         return;
     }
-    lines.insert(at, rng.pick(&BAD_LINES).to_vec());
+    lines.insert(at, bad_line(rng));
     if rng.one_in(3) {
-        lines.push(rng.pick(&BAD_LINES).to_vec());
+        lines.push(bad_line(rng));
     }
 }
 

@@ -23,23 +23,19 @@ fn unit(maker: &mut Maker) -> u64 {
 
 /// Ten units of cash, of securities that count as nine, and pledged.
 fn fund(maker: &mut Maker, account: u16, unit: u64) {
-    let had = maker.book.rows[usize::from(account)].allocated[SECURITIES];
+    let had = maker.row(account).allocated[SECURITIES];
     let kinds = [10 * unit, 0, 0, 10 * unit + 1 - had];
     maker.say_kinds(RECEIVE, account, kinds);
     maker.say_kinds(ALLOCATE, account, kinds);
     maker.say_pledge(PLEDGE, account, 10 * unit);
 }
 
-fn own(maker: &Maker, account: u16) -> u64 {
-    maker.book.collateral(usize::from(account))
-}
-
 fn margin(maker: &Maker, account: u16) -> u64 {
-    maker.book.rows[usize::from(account)].margin
+    maker.row(account).margin
 }
 
 fn pledged(maker: &Maker, account: u16) -> u64 {
-    maker.book.rows[usize::from(account)].pledged
+    maker.row(account).pledged
 }
 
 /// What the account and those that answer for it have free.
@@ -69,7 +65,7 @@ pub fn valued(maker: &mut Maker) {
         about(maker, account, 0);
         maker.say_revision(account, 0);
     }
-    let room = maker.book.free(usize::from(tm));
+    let room = maker.free(tm);
     about(maker, client, room);
     maker.say_revision(client, 0);
     about(maker, 0, 0);
@@ -79,7 +75,7 @@ pub fn valued(maker: &mut Maker) {
 /// Margins and values about the account's collateral, or past it by what its
 /// TM has free: up to it, a paisa over, back, and the same once more.
 fn about(maker: &mut Maker, account: u16, past: u64) {
-    let whole = own(maker, account) + past;
+    let whole = maker.own(account) + past;
     for margin in [
         whole - 1,
         whole,
@@ -108,7 +104,7 @@ fn about(maker: &mut Maker, account: u16, past: u64) {
 /// The CM, a paisa short, has its cover back by a margin that falls, by an
 /// allocation and by a pledge.
 fn about_cover(maker: &mut Maker) {
-    let whole = own(maker, 0);
+    let whole = maker.own(0);
     maker.say_revision(0, whole + 1);
     maker.say_margin(0, whole);
     maker.say_revision(0, whole + 1);
@@ -194,7 +190,7 @@ fn begin_shortfall(maker: &mut Maker, three: Three, unit: u64) {
 fn under_shortfall(maker: &mut Maker, three: Three) {
     for account in three {
         margins_under(maker, account);
-        let free = maker.book.free(usize::from(account));
+        let free = maker.free(account);
         maker.say_pledge(UNPLEDGE, account, free + 1);
         maker.say_pledge(UNPLEDGE, account, 1);
         maker.say_kinds(RELEASE, account, [free, 0, 0, 0]);

@@ -109,12 +109,12 @@ pub fn fund_account(maker: &mut Maker, account: u16) {
 /// Up to the ceiling, past it, and back again so that the day goes on.
 fn at_ceiling(maker: &mut Maker) {
     let account = maker.live();
-    let row = maker.book.rows[usize::from(account)];
+    let row = maker.row(account);
     if maker.rng.one_in(2) {
         let added = maker.rng.near(CEILING - row.pledged);
         maker.say_pledge(PLEDGE, account, added);
         maker.say_pledge(PLEDGE, account, 1);
-        let over = maker.book.rows[usize::from(account)].pledged - row.pledged;
+        let over = maker.row(account).pledged - row.pledged;
         maker.say_pledge(UNPLEDGE, account, over);
         return;
     }
@@ -126,7 +126,7 @@ fn at_ceiling(maker: &mut Maker) {
     kinds[(kind + 1) % 4] = 1;
     maker.say_kinds(RECEIVE, account, kinds);
     kinds[(kind + 1) % 4] = 0;
-    let now = maker.book.rows[usize::from(account)];
+    let now = maker.row(account);
     kinds[kind] = now.received[kind] - row.received[kind];
     maker.say_kinds(HAND_BACK, account, kinds);
 }
@@ -154,12 +154,12 @@ fn with_something(maker: &mut Maker, bounds: fn(&Maker, u16) -> [u64; 4]) -> (u1
 }
 
 fn unallocated(maker: &Maker, account: u16) -> [u64; 4] {
-    let row = &maker.book.rows[usize::from(account)];
+    let row = maker.row(account);
     std::array::from_fn(|kind| row.received[kind] - row.allocated[kind])
 }
 
 fn allocated(maker: &Maker, account: u16) -> [u64; 4] {
-    maker.book.rows[usize::from(account)].allocated
+    maker.row(account).allocated
 }
 
 fn hand_back(maker: &mut Maker) {
@@ -185,7 +185,7 @@ fn release_there(maker: &mut Maker) {
 /// last of which cost nothing, and now and then one more.
 pub fn release_free(maker: &mut Maker) {
     let (account, bounds) = with_something(maker, allocated);
-    let mut left = maker.rng.near(maker.book.free(usize::from(account)));
+    let mut left = maker.rng.near(maker.free(account));
     let mut kinds = [0; 4];
     let first = maker.rng.below(4) as usize;
     for kind in (first..first + 4).map(|kind| kind % 4) {
@@ -220,7 +220,7 @@ pub fn costing(by: Rule, there: u64, cost: u64) -> u64 {
 }
 
 fn pledged(maker: &Maker, account: u16) -> [u64; 4] {
-    [maker.book.rows[usize::from(account)].pledged, 0, 0, 0]
+    [maker.row(account).pledged, 0, 0, 0]
 }
 
 fn unpledge_there(maker: &mut Maker) {
@@ -231,7 +231,7 @@ fn unpledge_there(maker: &mut Maker) {
 
 pub fn unpledge_free(maker: &mut Maker) {
     let (account, bounds) = with_something(maker, pledged);
-    let free = maker.book.free(usize::from(account));
+    let free = maker.free(account);
     let amount = maker.rng.near(free.min(bounds[0]));
     maker.say_pledge(UNPLEDGE, account, amount);
 }
@@ -289,7 +289,7 @@ pub fn cure(maker: &mut Maker) {
     let pledged = maker.book.rows[0].pledged;
     let value = maker.rng.near(pledged + short).min(CEILING);
     let (more, fewer) = (maker.rng.near(short), maker.rng.near(short));
-    let margin = maker.book.rows[usize::from(account)].margin;
+    let margin = maker.row(account).margin;
     match maker.rng.below(5) {
         0 => maker.say_value(0, value),
         1 => maker.say_margin(account, margin.saturating_sub(fewer)),
@@ -312,7 +312,7 @@ fn margin_at_edge(maker: &mut Maker) {
 /// Near the account's own collateral, or with what its TM has free.
 fn margin_at_own(maker: &mut Maker) {
     let account = maker.live();
-    let mut edge = maker.book.collateral(usize::from(account));
+    let mut edge = maker.own(account);
     let above = maker.book.answers_for(usize::from(account));
     if above != 0 && maker.rng.one_in(2) {
         edge += maker.book.free(above);
@@ -324,7 +324,7 @@ fn margin_at_own(maker: &mut Maker) {
 /// Room for later margins.
 fn margin_down(maker: &mut Maker) {
     let account = maker.live();
-    let margin = maker.book.rows[usize::from(account)].margin;
+    let margin = maker.row(account).margin;
     let lower = if maker.rng.one_in(2) {
         0
     } else {
@@ -335,7 +335,7 @@ fn margin_down(maker: &mut Maker) {
 
 fn margin_same(maker: &mut Maker) {
     let account = maker.live();
-    let margin = maker.book.rows[usize::from(account)].margin;
+    let margin = maker.row(account).margin;
     maker.say_margin(account, margin);
 }
 
@@ -353,7 +353,7 @@ pub fn wind_down(maker: &mut Maker) {
 
 pub fn wind_down_account(maker: &mut Maker, account: u16) {
     maker.say_margin(account, 0);
-    let row = maker.book.rows[usize::from(account)];
+    let row = maker.row(account);
     maker.say_kinds(RELEASE, account, row.allocated);
     if row.pledged != 0 {
         maker.say_pledge(UNPLEDGE, account, row.pledged);

@@ -42,7 +42,7 @@ impl Mark {
 /// Off or on first, then to the mark in one record, the member's own margin.
 /// Its lever, an account under it, has the odd tenths.
 pub fn stand(maker: &mut Maker, member: u16, lever: u16, mark: Mark, from: Mode) {
-    let collateral = maker.book.collateral(usize::from(member));
+    let collateral = maker.own(member);
     no_margin(maker, lever);
     match from {
         Mode::Off => no_margin(maker, member),
@@ -58,7 +58,7 @@ pub fn stand(maker: &mut Maker, member: u16, lever: u16, mark: Mark, from: Mode)
 }
 
 fn no_margin(maker: &mut Maker, account: u16) {
-    if maker.book.rows[usize::from(account)].margin != 0 {
+    if maker.row(account).margin != 0 {
         maker.say_margin(account, 0);
     }
 }
@@ -73,7 +73,7 @@ fn others(maker: &Maker, member: u16) -> u64 {
 /// of collateral and odd + 9 tens of margin.
 fn set_lever(maker: &mut Maker, lever: u16, odd: u64) {
     let tens = maker.rng.below(3);
-    let (pledged, wanted) = (maker.book.rows[usize::from(lever)].pledged, odd + 10 * tens);
+    let (pledged, wanted) = (maker.row(lever).pledged, odd + 10 * tens);
     if wanted > pledged {
         maker.say_pledge(PLEDGE, lever, wanted - pledged);
     }
@@ -131,7 +131,7 @@ fn one_under(maker: &mut Maker, member: u16) -> Option<u16> {
 }
 
 fn own_margin(maker: &mut Maker, member: u16, mark: Mark) {
-    let collateral = maker.book.collateral(usize::from(member));
+    let collateral = maker.own(member);
     let tenths = mark.tenths(collateral);
     let edge = tenths.saturating_sub(others(maker, member)) / 10;
     let margin = maker.rng.beside(edge).min(CEILING);
@@ -156,8 +156,8 @@ fn move_collateral(maker: &mut Maker, member: u16, mark: Mark) {
         _ => 2 * used / 17,
     };
     let wanted = maker.rng.beside(edge);
-    let row = maker.book.rows[usize::from(member)];
-    let now = maker.book.collateral(usize::from(member));
+    let row = maker.row(member);
+    let now = maker.own(member);
     if wanted > now {
         let in_cash = maker.rng.one_in(2);
         put_in(maker, member, (wanted - now).min(CEILING), in_cash);

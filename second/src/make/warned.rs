@@ -83,7 +83,7 @@ fn tm_to_and_fro(maker: &mut Maker) {
 /// once as a pledge.
 fn to_and_fro(maker: &mut Maker, member: u16, lever: u16) {
     stand(maker, member, lever, Mark::Nine, Mode::Off);
-    let part = maker.book.collateral(usize::from(member)) / 17;
+    let part = maker.own(member) / 17;
     for in_cash in [true, false] {
         put_in(maker, member, part, in_cash);
         put_in(maker, member, 1, in_cash);

@@ -2,50 +2,7 @@
 //!
 //! A story has one book, fresh at first. Some lines change it; a call is
 //! handed the book as it is then and leaves it. `#` begins a comment.
-//!
-//!     fresh                         the CM alone, with nothing
-//!     do RECORD                     carries a record out; it is an error if it is refused
-//!     set PLACE WORD VALUE          one word: sort live tm received.cash received.deposits
-//!                                   received.guarantees received.securities allocated.cash
-//!                                   (and so on) pledged margin mode need number
-//!     count N, serial N, next N     the number of accounts, the next serial, the next number
-//!     do archive                    moves its retired rows to an archive
-//!     version 1, version 2          the version of its written form: 1 at first and when fresh,
-//!                                   where numbers are the places of rows and the next number is
-//!                                   the count; 2 from the first line on that speaks of numbers:
-//!                                   `set PLACE number`, `next` or `do archive`
-//!     settle                        kept needs worked out afresh
-//!     settle old                    the same by the old rule, for a book to be taken over
-//!     byte AT VALUE                 one byte of the written form, counted from 0
-//!
-//!     is_sound
-//!     standing ACCOUNT
-//!     carry_out RECORD
-//!     carry_out_next PLACE PIECE
-//!     day NUMBER PIECE
-//!     read_at PLACE PIECE
-//!     write RECORD room N
-//!     close_out room N losses LOSS ..
-//!     needs room N
-//!     take_over
-//!     archive room N
-//!     margin SERIAL ACCOUNT INITIAL POSITION ; ..
-//!                                   POSITION: PRODUCT SIDE NOTIONAL, the product by name or number
-//!     margin_with SERIAL ACCOUNT INITIAL FIGURES POSITION ; ..
-//!                                   FIGURES: two or four with commas between them, 50,-30
-//!     exposure FIGURES
-//!     exposures EACH room N FIGURE ..
-//!     statement TM RECORD ; ..      RECORD: as `second write-statement` takes it
-//!     most RECORD                   its serial and amounts are not looked at
-//!
-//!     bytes HEX                     bytes as they stand, for what is no call
-//!     cut N                         takes the last N bytes off again
-//!
-//! RECORD is a line as `second write` takes it, but good or not: `margin 3
-//! 60000`, with `serial N` ahead of it for another serial than the book's, or
-//! `raw HEX`; or all of it: `values SERIAL CODE MARK ACCOUNT` and six amounts.
-//! PIECE is any number of such lines and of `zeros N`, with `;` between them;
-//! nothing is an empty piece. Serials run on from the book's.
+//! `second --help` has its lines.
 
 mod book;
 mod desk;

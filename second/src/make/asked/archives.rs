@@ -2,9 +2,10 @@
 
 use super::books::{self, append, find, row};
 use super::numbers::{renumber, Gaps};
+use super::Room;
 use crate::listed;
 use crate::make::rng::Rng;
-use crate::model::calls::{Call, LIST_MOST};
+use crate::model::calls::Call;
 use crate::model::table::*;
 use crate::model::*;
 
@@ -22,22 +23,9 @@ listed! {
     OfFull
 }
 
-listed! {
-    /// The room beside three for each retired row.
-    Room: Exact, OneLess, OneMore, ThreeMore, Nothing, Most
-}
-
 pub fn call(retired: Retired, room: Room, gaps: Gaps, rng: &mut Rng) -> Call {
     let book = with_retired(retired, gaps, rng);
-    let wanted = wanted(&book);
-    let room = match room {
-        Room::Exact => wanted,
-        Room::OneLess => wanted.saturating_sub(1),
-        Room::OneMore => wanted + 1,
-        Room::ThreeMore => wanted + 3,
-        Room::Nothing => 0,
-        Room::Most => LIST_MOST,
-    };
+    let room = room.of(wanted(&book));
     Call::Archive(book, room)
 }
 

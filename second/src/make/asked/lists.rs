@@ -2,6 +2,7 @@
 
 use super::books::{self, append, find, row, settle};
 use super::given::{gone, with_archive};
+use super::Room;
 use crate::make::losses;
 use crate::make::rng::Rng;
 use crate::model::calls::Call;
@@ -118,43 +119,24 @@ pub const LOSSES: [Losses; 14] = [
     Losses::PastAndMore,
 ];
 
-/// A room beside the length wanted.
-#[derive(Clone, Copy)]
-pub enum Length {
-    Right,
-    OneLess,
-    OneMore,
-    Nothing,
-    Most,
-}
-
-pub const LENGTHS: [Length; 7] = [
-    Length::Right,
-    Length::Right,
-    Length::Right,
-    Length::OneLess,
-    Length::OneMore,
-    Length::Nothing,
-    Length::Most,
+/// Rooms beside the length wanted, mostly that.
+pub const LENGTHS: [Room; 7] = [
+    Room::Exact,
+    Room::Exact,
+    Room::Exact,
+    Room::OneLess,
+    Room::OneMore,
+    Room::Nothing,
+    Room::Most,
 ];
 
-fn room(length: Length, wanted: usize) -> usize {
-    match length {
-        Length::Right => wanted,
-        Length::OneLess => wanted - 1,
-        Length::OneMore => wanted + 1,
-        Length::Nothing => 0,
-        Length::Most => 4_096,
-    }
-}
-
-pub fn needs(length: Length, rng: &mut Rng) -> Call {
+pub fn needs(length: Room, rng: &mut Rng) -> Call {
     let book = books::sound(rng);
-    let room = room(length, book.held());
+    let room = length.of(book.held());
     Call::Needs(book, room)
 }
 
-pub fn close_out(losses: Losses, length: Length, rng: &mut Rng) -> Call {
+pub fn close_out(losses: Losses, length: Room, rng: &mut Rng) -> Call {
     let mut book = match losses {
         Losses::AtMargins => books::short_by(0, rng),
         Losses::AtMarginsShort => books::short(rng),
@@ -190,7 +172,7 @@ pub fn close_out(losses: Losses, length: Length, rng: &mut Rng) -> Call {
         }
     }
     // 4,097 numbers would be no room any more.
-    let room = room(length, 4 * book.held()).min(4_096);
+    let room = length.of(4 * book.held()).min(4_096);
     Call::CloseOut(book, list, room)
 }
 

@@ -1,7 +1,6 @@
 //! Records as values: with every refusal, and for the writer.
 
-use super::books;
-use crate::listed;
+use super::{books, Room};
 use crate::make::maker::Maker;
 use crate::make::mixed::any_step;
 use crate::make::rng::Rng;
@@ -208,21 +207,9 @@ pub const FITS: [Fit; 9] = [
     Fit::Unnamed,
 ];
 
-listed! {
-    /// The writer's room beside the record's length.
-    Room: Exact, OneLess, OneMore, None, Most
-}
-
 pub fn write(fit: Fit, room: Room, rng: &mut Rng) -> Call {
     let record = fitted(fit, rng);
-    let length = length(record.mark);
-    let room = match room {
-        Room::Exact => length,
-        Room::OneLess => length - 1,
-        Room::OneMore => length + 1,
-        Room::None => 0,
-        Room::Most => 4_096,
-    };
+    let room = room.of(length(record.mark));
     Call::Write(record, room)
 }
 

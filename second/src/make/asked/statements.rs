@@ -12,7 +12,7 @@ use crate::model::statement::Record;
 use crate::model::table::NEED;
 use crate::model::*;
 use bends::Paisa::{Less, More};
-use bends::{Bend, Draft, BENDS};
+use bends::{all_bends, Bend, Draft};
 use scenes::{Scene, Sheet, Who};
 
 /// A statement of a TM, for a book.
@@ -82,7 +82,7 @@ impl Case {
         all.extend(Who::ALL.map(Case::Of));
         all.extend([Case::Fresh; 2]);
         for spot in SPOTS {
-            all.extend(BENDS.map(|bend| Case::Bent(bend, spot)));
+            all.extend(all_bends().into_iter().map(|bend| Case::Bent(bend, spot)));
         }
         all.extend(TWICE.map(|(one, other)| Case::BentTwice(one, other)));
         all.extend(BOTH.map(|(one, other)| Case::BothBent(one, other)));

@@ -114,51 +114,35 @@ pub enum Bend {
     Lodged,
 }
 
-pub const BENDS: [Bend; 43] = [
-    Bend::Bytes(1),
-    Bend::Bytes(2),
-    Bend::Bytes(3),
-    Bend::FirstByte,
-    Bend::Bit(5),
-    Bend::Bit(6),
-    Bend::Bit(7),
-    Bend::ByteShort,
-    Bend::Short,
-    Bend::Zero(0),
-    Bend::Zero(1),
-    Bend::Zero(2),
-    Bend::Zero(3),
-    Bend::Zero(4),
-    Bend::ZeroOfNothing(0),
-    Bend::ZeroOfNothing(3),
-    Bend::Above(0),
-    Bend::Above(1),
-    Bend::Above(2),
-    Bend::Above(3),
-    Bend::Above(4),
-    Bend::Most(0),
-    Bend::Most(1),
-    Bend::Most(2),
-    Bend::Most(3),
-    Bend::Most(4),
-    Bend::Account(1),
-    Bend::Account(-1),
-    Bend::LeftOut,
-    Bend::Again,
-    Bend::RetiredClient,
-    Bend::AnothersClient,
-    Bend::Retained(More),
-    Bend::Retained(Less),
-    Bend::ReceivedAlone(More),
-    Bend::ReceivedAlone(Less),
-    Bend::Held(More),
-    Bend::Held(Less),
-    Bend::LodgedAlone(More),
-    Bend::LodgedAlone(Less),
-    Bend::Received(More),
-    Bend::Received(Less),
-    Bend::Lodged,
-];
+pub fn all_bends() -> Vec<Bend> {
+    let mut all: Vec<Bend> = (1..=3)
+        .map(Bend::Bytes)
+        .chain((5..=7).map(Bend::Bit))
+        .collect();
+    all.extend([Bend::FirstByte, Bend::ByteShort, Bend::Short]);
+    for kind in [Bend::Zero, Bend::Above, Bend::Most] {
+        all.extend((0..AMOUNTS).map(kind));
+    }
+    all.extend([0, 3].map(Bend::ZeroOfNothing));
+    all.extend([1, -1].map(Bend::Account));
+    all.extend([
+        Bend::LeftOut,
+        Bend::Again,
+        Bend::RetiredClient,
+        Bend::AnothersClient,
+        Bend::Lodged,
+    ]);
+    for kind in [
+        Bend::Retained,
+        Bend::ReceivedAlone,
+        Bend::Held,
+        Bend::LodgedAlone,
+        Bend::Received,
+    ] {
+        all.extend([More, Less].map(kind));
+    }
+    all
+}
 
 impl Bend {
     /// What the client has whose record it bends.
