@@ -143,9 +143,8 @@ pub fn compare(words: &[String]) -> Result<String, String> {
         folder: std::env::temp_dir().join(format!("second-compare-{}", std::process::id())),
     };
     if !run.has_any(&OF_DAYS) && !run.has_any(&OTHERS) {
-        let (last, names) = ([&OF_DAYS[..], &OTHERS].concat().join(", "), OTHERS[3]);
-        let names = last.replace(&format!(", {names}"), &format!(" or {names}"));
-        return Err(format!("compare: name a program with {names}"));
+        let (last, others) = (OTHERS[3], [&OF_DAYS[..], &OTHERS[..3]].concat().join(", "));
+        return Err(format!("compare: name a program with {others} or {last}"));
     }
     fs::create_dir_all(&run.folder).map_err(|error| error.to_string())?;
     let lines = all(&run);

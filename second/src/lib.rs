@@ -1,6 +1,11 @@
 //! An independent second program for the collateral book of one clearing
 //! member, written from documents 01 and 02 and the decisions on their open
 //! points, and made to be compared with the first.
+//!
+//! `model` has the rules, and knows nothing of the rest; `make` makes up days,
+//! books, calls and files; `kinds` says of which kinds they are, and holds answers
+//! against the rules by the letter; `tally` counts the kinds that were met; and
+//! `compare` runs other programs beside this one.
 
 pub mod compare;
 pub mod kinds;

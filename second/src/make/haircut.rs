@@ -39,7 +39,7 @@ pub fn tens(maker: &mut Maker) {
             0 => step(maker),
             1 | 2 => {
                 let more = maker.rng.between(1, 21);
-                allocate(maker, account, [0, 0, 0, more]);
+                maker.put_in(account, [0, 0, 0, more]);
             }
             3 => {
                 let few = maker.rng.between(1, 3);
@@ -59,15 +59,10 @@ fn securities(maker: &Maker, account: u16) -> u64 {
     maker.row(account).allocated[SECURITIES]
 }
 
-fn allocate(maker: &mut Maker, account: u16, kinds: [u64; 4]) {
-    maker.say_kinds(RECEIVE, account, kinds);
-    maker.say_kinds(ALLOCATE, account, kinds);
-}
-
 fn little_by_little(maker: &mut Maker, account: u16) {
     for paise in [1, 9, 10, 11, 19, 20, 21] {
         let more = paise - securities(maker, account).min(paise);
-        allocate(maker, account, [0, 0, 0, more]);
+        maker.put_in(account, [0, 0, 0, more]);
     }
 }
 
@@ -78,7 +73,7 @@ fn fund(maker: &mut Maker, account: u16) {
     let odd = 1 + (maker.seed + u64::from(account)) % 9;
     let more = 10 * tens + odd - securities(maker, account).min(10 * tens);
     let cash = maker.rng.between(2 * tens, 3 * tens);
-    allocate(maker, account, [cash, 0, 0, more]);
+    maker.put_in(account, [cash, 0, 0, more]);
     let pledged = maker.rng.between(4 * tens, 5 * tens);
     maker.say_pledge(PLEDGE, account, pledged);
 }
@@ -119,12 +114,12 @@ fn a_paisa(maker: &mut Maker, account: u16) {
     let overs: &[u64] = if is_member { &[0] } else { &[0, 1] };
     for over in overs {
         let more = 10 - (securities(maker, account) + 9) % 10;
-        allocate(maker, account, [0, 0, 0, more]);
+        maker.put_in(account, [0, 0, 0, more]);
         let margin = maker.own(account) + over;
         maker.say_margin(account, margin);
         maker.say_kinds(RELEASE, account, [0, 0, 0, 1]);
         if is_member {
-            allocate(maker, account, [0, 0, 0, 9]);
+            maker.put_in(account, [0, 0, 0, 9]);
             let margin = maker.own(account);
             maker.say_margin(account, margin);
         }
@@ -139,7 +134,7 @@ fn up_to_cover(maker: &mut Maker, account: u16) {
     for account in [0, account] {
         if securities(maker, account) % 10 == 0 {
             let odd = maker.rng.between(1, 9);
-            allocate(maker, account, [0, 0, 0, odd]);
+            maker.put_in(account, [0, 0, 0, odd]);
         }
     }
     let (mut at, mut free) = (usize::from(account), 0);

@@ -159,6 +159,19 @@ impl Maker {
         self.say(REVISE, 1 << MARGIN, account, &[margin])
     }
 
+    /// One record after another, each with this amount and so much more or less.
+    pub fn say_around(
+        &mut self,
+        say: fn(&mut Maker, u16, u64) -> bool,
+        account: u16,
+        amount: u64,
+        by: &[i64],
+    ) {
+        for more in by {
+            say(self, account, (amount as i64 + more) as u64);
+        }
+    }
+
     /// What the CM is short of.
     pub fn shortfall(&self) -> u64 {
         self.book.deemed(0)

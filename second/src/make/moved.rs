@@ -48,8 +48,7 @@ fn of_one_kind(kind: usize, amount: u64) -> [u64; KINDS] {
 }
 
 fn allocate_new(maker: &mut Maker, account: u16, kind: usize, amount: u64) {
-    maker.say_kinds(RECEIVE, account, of_one_kind(kind, amount));
-    maker.say_kinds(ALLOCATE, account, of_one_kind(kind, amount));
+    maker.put_in(account, of_one_kind(kind, amount));
 }
 
 /// As an allocation, or as a pledge. Securities of so much count as the
@@ -83,9 +82,7 @@ fn about(maker: &mut Maker, account: u16) {
     allocate_new(maker, account, kind, part);
     maker.say_pledge(PLEDGE, account, pledged);
     let whole = maker.own(account);
-    for margin in [whole - 1, whole, whole + 1, whole, whole, whole + 1] {
-        maker.say_margin(account, margin);
-    }
+    maker.say_around(Maker::say_margin, account, whole, &[-1, 0, 1, 0, 0, 1]);
     allocate_new(maker, account, kind, 1);
     maker.say_margin(account, whole + 2);
     maker.say_pledge(PLEDGE, account, 1);
@@ -116,9 +113,7 @@ fn leave_free(maker: &mut Maker, account: u16, most: u64) -> u64 {
 /// About the TM's collateral by what the client is deemed, likewise.
 fn about_tm(maker: &mut Maker, tm: u16, client: u16) {
     let whole = maker.own(client) + maker.free(tm);
-    for margin in [whole, whole + 1, whole, whole + 1] {
-        maker.say_margin(client, margin);
-    }
+    maker.say_around(Maker::say_margin, client, whole, &[0, 1, 0, 1]);
     let kind = full_kind(maker);
     allocate_new(maker, client, kind, 1);
     maker.say_margin(client, whole + 2);

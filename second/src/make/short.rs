@@ -25,8 +25,7 @@ fn unit(maker: &mut Maker) -> u64 {
 fn fund(maker: &mut Maker, account: u16, unit: u64) {
     let had = maker.row(account).allocated[SECURITIES];
     let kinds = [10 * unit, 0, 0, 10 * unit + 1 - had];
-    maker.say_kinds(RECEIVE, account, kinds);
-    maker.say_kinds(ALLOCATE, account, kinds);
+    maker.put_in(account, kinds);
     maker.say_pledge(PLEDGE, account, 10 * unit);
 }
 
@@ -76,29 +75,14 @@ pub fn valued(maker: &mut Maker) {
 /// TM has free: up to it, a paisa over, back, and the same once more.
 fn about(maker: &mut Maker, account: u16, past: u64) {
     let whole = maker.own(account) + past;
-    for margin in [
-        whole - 1,
+    maker.say_around(
+        Maker::say_revision,
+        account,
         whole,
-        whole + 1,
-        whole,
-        whole - 1,
-        whole - 1,
-        whole,
-    ] {
-        maker.say_revision(account, margin);
-    }
+        &[-1, 0, 1, 0, -1, -1, 0],
+    );
     let value = pledged(maker, account);
-    for value in [
-        value + 2,
-        value + 1,
-        value,
-        value - 1,
-        value,
-        value + 1,
-        value + 1,
-    ] {
-        maker.say_value(account, value);
-    }
+    maker.say_around(Maker::say_value, account, value, &[2, 1, 0, -1, 0, 1, 1]);
 }
 
 /// The CM, a paisa short, has its cover back by a margin that falls, by an
@@ -108,8 +92,7 @@ fn about_cover(maker: &mut Maker) {
     maker.say_revision(0, whole + 1);
     maker.say_margin(0, whole);
     maker.say_revision(0, whole + 1);
-    maker.say_kinds(RECEIVE, 0, [1, 0, 0, 0]);
-    maker.say_kinds(ALLOCATE, 0, [1, 0, 0, 0]);
+    maker.put_in(0, [1, 0, 0, 0]);
     maker.say_revision(0, whole + 2);
     maker.say_pledge(PLEDGE, 0, 1);
 }
@@ -133,27 +116,14 @@ pub fn short(maker: &mut Maker) {
 fn to_and_fro(maker: &mut Maker, account: u16) {
     let start = margin(maker, account);
     let level = start + slack(maker, account);
-    for over in [0, 1, 3, 2, 0, 5] {
-        maker.say_revision(account, level + over);
-    }
+    maker.say_around(Maker::say_revision, account, level, &[0, 1, 3, 2, 0, 5]);
     maker.say_margin(account, level);
     maker.say_revision(account, level + 5);
-    maker.say_kinds(RECEIVE, account, [5, 0, 0, 0]);
-    maker.say_kinds(ALLOCATE, account, [5, 0, 0, 0]);
+    maker.put_in(account, [5, 0, 0, 0]);
     maker.say_revision(account, level + 10);
     maker.say_pledge(PLEDGE, account, 5);
     let value = pledged(maker, account);
-    for value in [
-        value + 1,
-        value,
-        value - 1,
-        value - 3,
-        value - 2,
-        value,
-        value - 5,
-    ] {
-        maker.say_value(account, value);
-    }
+    maker.say_around(Maker::say_value, account, value, &[1, 0, -1, -3, -2, 0, -5]);
     maker.say_revision(account, start);
     maker.say_value(account, value);
 }
