@@ -8,10 +8,7 @@ use crate::model::*;
 
 /// TMs and the CM are left with something blocked and something free.
 pub fn shared(maker: &mut Maker) {
-    open_groups(maker);
-    for account in 0..maker.book.count as u16 {
-        fund_by_sort(maker, account);
-    }
+    open_funded(maker);
     for _ in 0..2 * maker.book.count {
         let account = maker.live();
         margin_by_sort(maker, account);
@@ -33,8 +30,16 @@ pub fn spent(maker: &mut Maker) {
     }
 }
 
+/// Groups of accounts that have something.
+pub fn open_funded(maker: &mut Maker) {
+    open_groups(maker);
+    for account in 0..maker.book.count as u16 {
+        fund_by_sort(maker, account);
+    }
+}
+
 /// A few TMs with many clients, and CPs between them; some retire.
-pub fn open_groups(maker: &mut Maker) {
+fn open_groups(maker: &mut Maker) {
     maker.say(OPEN_TM, 0, 0, &[]);
     maker.say(OPEN_CP, 0, 0, &[]);
     let most = if maker.rng.one_in(6) { 120 } else { 20 };
@@ -52,7 +57,7 @@ pub fn open_groups(maker: &mut Maker) {
 }
 
 /// The more, the more others an account answers for.
-pub fn fund_by_sort(maker: &mut Maker, account: u16) {
+fn fund_by_sort(maker: &mut Maker, account: u16) {
     let times = match maker.row(account).sort {
         Sort::Cm => 8,
         Sort::Tm => 4,

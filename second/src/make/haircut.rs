@@ -1,20 +1,17 @@
 //! Days about K7: what government securities count as, to the paisa. They are
 //! short enough for a bundle.
 
-use super::deemed::{fund_by_sort, open_groups};
+use super::deemed::open_funded;
 use super::maker::Maker;
-use super::steer::{costing, open_any, release_free, step, unpledge_free};
+use super::short::level;
+use super::steer::{costing, open_some, release_free, step, unpledge_free};
 use crate::model::*;
 
 /// Every kind of turn on the tenth in every day, whatever the seed, by a
 /// client, a CP, a TM and the CM.
 pub fn haircut(maker: &mut Maker) {
-    for _ in 0..maker.rng.below(3) {
-        open_any(maker);
-    }
-    let tm = maker.opened(OPEN_TM, 0);
-    let client = maker.opened(OPEN_CLIENT, tm);
-    let cp = maker.opened(OPEN_CP, 0);
+    open_some(maker, 3);
+    let [tm, client, cp] = maker.opened_three();
     for account in [0, tm, client, cp] {
         little_by_little(maker, account);
         fund(maker, account);
@@ -29,10 +26,7 @@ pub fn haircut(maker: &mut Maker) {
 /// Many accounts with a few paise of securities, and takings out about what is
 /// blocked.
 pub fn tens(maker: &mut Maker) {
-    open_groups(maker);
-    for account in 0..maker.book.count as u16 {
-        fund_by_sort(maker, account);
-    }
+    open_funded(maker);
     for _ in 0..maker.usual_length() {
         let account = maker.live();
         match maker.rng.below(8) {
@@ -137,15 +131,7 @@ fn up_to_cover(maker: &mut Maker, account: u16) {
             maker.put_in(account, [0, 0, 0, odd]);
         }
     }
-    let (mut at, mut free) = (usize::from(account), 0);
-    loop {
-        free += maker.book.free(at);
-        if at == 0 {
-            break;
-        }
-        at = maker.book.answers_for(at);
-    }
-    let margin = maker.row(account).margin + free;
+    let margin = level(maker, account);
     let deemed = maker.book.deemed(usize::from(account));
     for margin in [margin + deemed + 1, margin + deemed] {
         maker.say_margin(account, margin);

@@ -2,7 +2,7 @@
 //! what it and one under it take out. They are short enough for a bundle.
 
 use super::maker::Maker;
-use super::steer::open_any;
+use super::steer::open_some;
 use crate::kinds::holds::Way;
 use crate::model::*;
 
@@ -20,7 +20,7 @@ struct Scene {
 /// Every kind of taking out by a TM and by its client in every day, whatever
 /// the seed; the CM stands beside.
 pub fn held(maker: &mut Maker) {
-    open_some(maker);
+    open_some(maker, 4);
     let member = maker.opened(OPEN_TM, 0);
     let under = maker.opened(OPEN_CLIENT, member);
     play(maker, member, under, 0);
@@ -28,16 +28,10 @@ pub fn held(maker: &mut Maker) {
 
 /// The same by the CM and by a CP; a TM stands beside.
 pub fn withheld(maker: &mut Maker) {
-    open_some(maker);
+    open_some(maker, 4);
     let beside = maker.opened(OPEN_TM, 0);
     let under = maker.opened(OPEN_CP, 0);
     play(maker, 0, under, beside);
-}
-
-fn open_some(maker: &mut Maker) {
-    for _ in 0..maker.rng.below(4) {
-        open_any(maker);
-    }
 }
 
 fn play(maker: &mut Maker, member: u16, under: u16, beside: u16) {
@@ -71,21 +65,15 @@ fn fund(maker: &mut Maker, account: u16, tenth: u64, more: u64) {
     let kind = maker.rng.below(SECURITIES as u64) as usize;
     let allocated = maker.rng.between(4 * tenth, 6 * tenth);
     for (code, amount) in [(RECEIVE, allocated + more), (ALLOCATE, allocated)] {
-        say_of(maker, code, account, kind, amount);
+        maker.say_kind(code, account, kind, amount);
     }
     let counted = maker.rng.below(tenth / 2);
     let face = Rule::New.face(counted).max(1);
     for code in [RECEIVE, ALLOCATE] {
-        say_of(maker, code, account, SECURITIES, face);
+        maker.say_kind(code, account, SECURITIES, face);
     }
     let there = maker.own(account);
     maker.say_pledge(PLEDGE, account, 10 * tenth - there);
-}
-
-fn say_of(maker: &mut Maker, code: u8, account: u16, kind: usize, amount: u64) {
-    let mut kinds = [0; KINDS];
-    kinds[kind] = amount;
-    maker.say_kinds(code, account, kinds);
 }
 
 /// The kind that the account was funded in.
@@ -105,20 +93,16 @@ fn there(maker: &Maker, account: u16, way: Way) -> u64 {
 
 fn take_out(maker: &mut Maker, account: u16, way: Way, amount: u64) {
     match way {
-        Way::Release => say_of(maker, RELEASE, account, kind_of(maker, account), amount),
-        Way::Unpledge => {
-            maker.say_pledge(UNPLEDGE, account, amount);
-        }
-    }
+        Way::Release => maker.say_kind(RELEASE, account, kind_of(maker, account), amount),
+        Way::Unpledge => maker.say_pledge(UNPLEDGE, account, amount),
+    };
 }
 
 fn put_in(maker: &mut Maker, account: u16, way: Way, amount: u64) {
     match way {
-        Way::Release => say_of(maker, ALLOCATE, account, kind_of(maker, account), amount),
-        Way::Unpledge => {
-            maker.say_pledge(PLEDGE, account, amount);
-        }
-    }
+        Way::Release => maker.say_kind(ALLOCATE, account, kind_of(maker, account), amount),
+        Way::Unpledge => maker.say_pledge(PLEDGE, account, amount),
+    };
 }
 
 /// A paisa more than is there, all that is there, a paisa more than is free,
@@ -177,7 +161,7 @@ fn while_on(maker: &mut Maker, scene: &Scene) {
     let (kind, row) = (kind_of(maker, member), maker.row(member));
     let left = row.received[kind] - row.allocated[kind];
     for (code, amount) in [(HAND_BACK, left + 1), (HAND_BACK, left), (RECEIVE, left)] {
-        say_of(maker, code, member, kind, amount);
+        maker.say_kind(code, member, kind, amount);
     }
     for margin in [18 * part + 1, 18 * part - 1, 17 * part + 1, 17 * part] {
         maker.say_margin(member, margin);

@@ -86,8 +86,7 @@ fn name_retired(maker: &mut Maker) {
     let retired: Vec<u16> = (0..rows.len() as u16)
         .filter(|&account| !rows[usize::from(account)].live)
         .collect();
-    if !retired.is_empty() {
-        let account = maker.rng.pick(&retired);
+    if let Some(account) = maker.rng.any(&retired) {
         any_good_record(maker, account);
     }
 }

@@ -141,6 +141,11 @@ impl Maker {
         !named.is_empty() && self.say(code, mark, account, &named)
     }
 
+    /// Names this kind.
+    pub fn say_kind(&mut self, code: u8, account: u16, kind: usize, amount: u64) -> bool {
+        amount != 0 && self.say(code, 1 << kind, account, &[amount])
+    }
+
     pub fn say_pledge(&mut self, code: u8, account: u16, amount: u64) -> bool {
         self.say(code, 1 << PLEDGED, account, &[amount.max(1)])
     }
@@ -203,6 +208,20 @@ impl Maker {
         self.book.free(usize::from(account))
     }
 
+    /// Opens a TM, a client of it and a CP.
+    pub fn opened_three(&mut self) -> [u16; 3] {
+        let tm = self.opened(OPEN_TM, 0);
+        [tm, self.opened(OPEN_CLIENT, tm), self.opened(OPEN_CP, 0)]
+    }
+
+    /// What the account and its TM have free; the CM's isn't counted.
+    pub fn free_below_cm(&self, account: u16) -> u64 {
+        let above = |&at: &usize| Some(self.book.answers_for(at));
+        let all = std::iter::successors(Some(usize::from(account)), above);
+        let below = all.take_while(|&at| at != 0);
+        below.map(|at| self.book.free(at)).sum()
+    }
+
     /// Received and allocated at once.
     pub fn put_in(&mut self, account: u16, kinds: [u64; 4]) -> bool {
         self.say_kinds(RECEIVE, account, kinds) && self.say_kinds(ALLOCATE, account, kinds)
@@ -225,17 +244,25 @@ impl Maker {
         0
     }
 
+    /// A live account that fits, if one is found soon.
+    pub fn live_with(&mut self, fits: impl Fn(&Maker, u16) -> bool) -> u16 {
+        let mut account = self.live();
+        for _ in 0..12 {
+            if fits(self, account) {
+                break;
+            }
+            account = self.live();
+        }
+        account
+    }
+
     pub fn live_of(&mut self, sort: Sort) -> Option<u16> {
         let rows = &self.book.rows[..self.book.count];
         let fitting: Vec<u16> = (0..rows.len() as u16)
             .filter(|&account| rows[usize::from(account)].live)
             .filter(|&account| rows[usize::from(account)].sort == sort)
             .collect();
-        if fitting.is_empty() {
-            None
-        } else {
-            Some(self.rng.pick(&fitting))
-        }
+        self.rng.any(&fitting)
     }
 
     /// A number that was given and that no row held has; None in a book without

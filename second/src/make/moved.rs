@@ -1,17 +1,15 @@
 //! Days about needs that move with a record, or just don't: those of an
 //! account's TM and of the CM. They are short enough for a bundle.
 
-use super::deemed::{fund_by_sort, open_groups};
+use super::deemed::open_funded;
 use super::maker::Maker;
-use super::steer::{open_any, release_free, step, unpledge_free, wind_down_account};
+use super::steer::{open_some, release_free, step, unpledge_free, wind_down_account};
 use crate::model::*;
 
 /// Every kind of move in every day, whatever the seed. At the end TMs stand
 /// about their collateral by what a client of each is deemed.
 pub fn moved(maker: &mut Maker) {
-    for _ in 0..maker.rng.below(4) {
-        open_any(maker);
-    }
+    open_some(maker, 4);
     about(maker, 0);
     let for_all = 4 * amount(maker);
     maker.say_pledge(PLEDGE, 0, for_all);
@@ -41,14 +39,9 @@ fn amount(maker: &mut Maker) -> u64 {
     maker.amount() + 5
 }
 
-fn of_one_kind(kind: usize, amount: u64) -> [u64; KINDS] {
-    let mut kinds = [0; KINDS];
-    kinds[kind] = amount;
-    kinds
-}
-
-fn allocate_new(maker: &mut Maker, account: u16, kind: usize, amount: u64) {
-    maker.put_in(account, of_one_kind(kind, amount));
+fn allocate_new(maker: &mut Maker, account: u16, kind: usize, amount: u64) -> bool {
+    maker.say_kind(RECEIVE, account, kind, amount)
+        && maker.say_kind(ALLOCATE, account, kind, amount)
 }
 
 /// As an allocation, or as a pledge. Securities of so much count as the
@@ -56,15 +49,10 @@ fn allocate_new(maker: &mut Maker, account: u16, kind: usize, amount: u64) {
 fn deposit(maker: &mut Maker, account: u16, amount: u64) {
     let kind = maker.rng.below(4) as usize;
     match (maker.rng.one_in(2), kind) {
-        (true, SECURITIES) => {
-            let face = Rule::New.face(amount);
-            allocate_new(maker, account, kind, face);
-        }
+        (true, SECURITIES) => allocate_new(maker, account, kind, Rule::New.face(amount)),
         (true, _) => allocate_new(maker, account, kind, amount),
-        _ => {
-            maker.say_pledge(PLEDGE, account, amount);
-        }
-    }
+        _ => maker.say_pledge(PLEDGE, account, amount),
+    };
 }
 
 /// A kind that counts in full.
@@ -94,8 +82,8 @@ fn about(maker: &mut Maker, account: u16) {
 fn take_out_free(maker: &mut Maker, account: u16, kind: usize, parts: [u64; 2]) {
     let [allocated, pledged] = parts;
     let released = leave_free(maker, account, allocated);
-    maker.say_kinds(RELEASE, account, of_one_kind(kind, released));
-    maker.say_kinds(HAND_BACK, account, of_one_kind(kind, released));
+    maker.say_kind(RELEASE, account, kind, released);
+    maker.say_kind(HAND_BACK, account, kind, released);
     let unpledged = leave_free(maker, account, pledged);
     maker.say_pledge(UNPLEDGE, account, unpledged);
 }
@@ -126,7 +114,7 @@ fn about_tm(maker: &mut Maker, tm: u16, client: u16) {
 fn at_full_use(maker: &mut Maker, [client, tm, cp]: [u16; 3]) {
     let cm_margin = maker.book.rows[0].margin;
     for (account, part) in [(client, 6), (tm, 5), (cp, 4), (0, 1)] {
-        let more = free_below_cm(maker, account) + maker.book.free(0) / part;
+        let more = maker.free_below_cm(account) + maker.book.free(0) / part;
         let margin = maker.row(account).margin;
         maker.say_margin(account, margin + more);
     }
@@ -138,16 +126,6 @@ fn at_full_use(maker: &mut Maker, [client, tm, cp]: [u16; 3]) {
         }
     }
     maker.say_margin(0, cm_margin);
-}
-
-/// What the account and its TM have free.
-fn free_below_cm(maker: &Maker, account: u16) -> u64 {
-    let (mut at, mut free) = (usize::from(account), 0);
-    while at != 0 {
-        free += maker.book.free(at);
-        at = maker.book.answers_for(at);
-    }
-    free
 }
 
 /// A TM with a paisa free (0), with none (1), deemed a paisa (2) or more (3).
@@ -168,10 +146,7 @@ fn stay(maker: &mut Maker, stand: u64) {
 
 /// Many TMs, clients and CPs whose needs go to and fro about collaterals.
 pub fn moving(maker: &mut Maker) {
-    open_groups(maker);
-    for account in 0..maker.book.count as u16 {
-        fund_by_sort(maker, account);
-    }
+    open_funded(maker);
     for _ in 0..maker.usual_length() {
         match maker.rng.below(10) {
             0 => step(maker),
@@ -205,7 +180,7 @@ fn take_out_of_member(maker: &mut Maker) {
     maker.say_margin(member, kept.min(CEILING));
     let amount = maker.rng.beside(maker.free(member));
     if is_release {
-        maker.say_kinds(RELEASE, member, of_one_kind(kind, amount));
+        maker.say_kind(RELEASE, member, kind, amount);
     } else {
         maker.say_pledge(UNPLEDGE, member, amount);
     }
@@ -231,23 +206,11 @@ fn move_margin(maker: &mut Maker) {
 /// A deposit of what the account is deemed, or of what its TM is, or by one
 /// paisa more or less.
 fn lessen_deemed(maker: &mut Maker) {
-    let account = deemed_one(maker);
+    let account = maker.live_with(|maker, at| maker.book.deemed(usize::from(at)) > 0);
     let (book, at) = (&maker.book, usize::from(account));
     let (deemed, above) = (book.deemed(at), book.deemed(book.answers_for(at)));
     let is_through = 0 < above && above < deemed && maker.rng.one_in(2);
     let edge = if is_through { above } else { deemed };
     let amount = maker.rng.beside(edge).clamp(1, CEILING);
     deposit(maker, account, amount);
-}
-
-/// An account that is deemed something, if one is found soon.
-fn deemed_one(maker: &mut Maker) -> u16 {
-    let mut account = maker.live();
-    for _ in 0..12 {
-        if maker.book.deemed(usize::from(account)) > 0 {
-            break;
-        }
-        account = maker.live();
-    }
-    account
 }

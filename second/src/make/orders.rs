@@ -4,8 +4,8 @@
 
 use super::lives::retire_step;
 use super::maker::Maker;
-use super::short::slack;
-use super::steer::{fund_account, open_any, step, wind_down_account};
+use super::short::level;
+use super::steer::{fund_account, open_some, step, wind_down_account};
 use super::uses::{put_in, waver};
 use super::{make as make_day, Kind, ROUND};
 use crate::make::rng::Rng;
@@ -98,12 +98,8 @@ fn any_day(rng: &mut Rng) -> Vec<u8> {
 
 /// A book for the aim; gives the two accounts that it is about.
 fn set_up(aim: Aim, maker: &mut Maker) -> [u16; 2] {
-    for _ in 0..maker.rng.below(5) {
-        open_any(maker);
-    }
-    let tm = maker.opened(OPEN_TM, 0);
-    let client = maker.opened(OPEN_CLIENT, tm);
-    let cp = maker.opened(OPEN_CP, 0);
+    open_some(maker, 5);
+    let [tm, client, cp] = maker.opened_three();
     let size = maker.rng.between(40, 50_000_000_000);
     match aim {
         Aim::TmsMode => {
@@ -196,11 +192,6 @@ fn give(maker: &mut Maker, giver: u16, given: u64) {
         }
         way => put_in(maker, giver, given, way == 1),
     }
-}
-
-/// The largest margin that 13 lets pass.
-fn level(maker: &Maker, account: u16) -> u64 {
-    maker.row(account).margin + slack(maker, account)
 }
 
 fn noise(maker: &mut Maker) {

@@ -35,6 +35,11 @@ impl Rng {
         list[self.below(list.len() as u64) as usize]
     }
 
+    /// None of an empty list.
+    pub fn any<T: Copy>(&mut self, list: &[T]) -> Option<T> {
+        list.first().map(|_| self.pick(list))
+    }
+
     pub fn byte(&mut self) -> u8 {
         self.next() as u8
     }

@@ -2,20 +2,13 @@
 //! is refused then and what isn't, and how it is cured. All but `falling` are
 //! short enough for a bundle.
 
-use super::deemed::{fund_by_sort, open_groups, spent};
+use super::deemed::{open_funded, spent};
 use super::maker::Maker;
-use super::steer::{cure, open_any, revalue, revise, step};
+use super::steer::{cure, open_some, revalue, revise, step};
 use crate::model::*;
 
 /// A TM, a client of it and a CP.
 type Three = [u16; 3];
-
-fn opened_three(maker: &mut Maker) -> Three {
-    let tm = maker.opened(OPEN_TM, 0);
-    let client = maker.opened(OPEN_CLIENT, tm);
-    let cp = maker.opened(OPEN_CP, 0);
-    [tm, client, cp]
-}
 
 fn unit(maker: &mut Maker) -> u64 {
     4 + maker.amount() / 64
@@ -37,23 +30,17 @@ fn pledged(maker: &Maker, account: u16) -> u64 {
     maker.row(account).pledged
 }
 
-/// What the account and those that answer for it have free.
-pub fn slack(maker: &Maker, account: u16) -> u64 {
-    let (mut at, mut free) = (usize::from(account), maker.book.free(0));
-    while at != 0 {
-        free += maker.book.free(at);
-        at = maker.book.answers_for(at);
-    }
-    free
+/// The largest margin that 13 lets pass: with all that the account and those that
+/// answer for it have free.
+pub fn level(maker: &Maker, account: u16) -> u64 {
+    margin(maker, account) + maker.free_below_cm(account) + maker.book.free(0)
 }
 
 /// K3's needs by codes 12 and 13, every kind of move in every day: about each
 /// account's own collateral, and about a TM's by way of its client.
 pub fn valued(maker: &mut Maker) {
-    for _ in 0..maker.rng.below(4) {
-        open_any(maker);
-    }
-    let [tm, client, cp] = opened_three(maker);
+    open_some(maker, 4);
+    let [tm, client, cp] = maker.opened_three();
     let unit = unit(maker);
     for account in [0, tm, client, cp] {
         fund(maker, account, unit);
@@ -99,7 +86,7 @@ fn about_cover(maker: &mut Maker) {
 
 /// Every kind of shortfall in every day, whatever the seed. It ends with one.
 pub fn short(maker: &mut Maker) {
-    let three = opened_three(maker);
+    let three = maker.opened_three();
     let unit = unit(maker);
     for account in [0].into_iter().chain(three) {
         fund(maker, account, unit);
@@ -114,8 +101,7 @@ pub fn short(maker: &mut Maker) {
 
 /// To cover, past it and back, by revisions and by values, with every cure.
 fn to_and_fro(maker: &mut Maker, account: u16) {
-    let start = margin(maker, account);
-    let level = start + slack(maker, account);
+    let (start, level) = (margin(maker, account), level(maker, account));
     maker.say_around(Maker::say_revision, account, level, &[0, 1, 3, 2, 0, 5]);
     maker.say_margin(account, level);
     maker.say_revision(account, level + 5);
@@ -179,7 +165,7 @@ fn under_shortfall(maker: &mut Maker, three: Three) {
 /// down (0).
 fn margins_under(maker: &mut Maker, account: u16) {
     let now = margin(maker, account);
-    let past = now + 1 + slack(maker, account);
+    let past = level(maker, account) + 1;
     for margin in [now + 1, past, now, now - 1] {
         maker.say_margin(account, margin);
     }
@@ -191,8 +177,7 @@ pub fn wanting(maker: &mut Maker) {
     spent(maker);
     for _ in 0..maker.rng.between(1, 3) {
         let account = maker.live();
-        let more = slack(maker, account) + maker.amount();
-        let revised = (margin(maker, account) + more).min(CEILING);
+        let revised = (level(maker, account) + maker.amount()).min(CEILING);
         maker.say_revision(account, revised);
     }
     if maker.rng.one_in(3) {
@@ -201,7 +186,7 @@ pub fn wanting(maker: &mut Maker) {
     }
     for account in 0..maker.book.count as u16 {
         if maker.shortfall() == 0 {
-            let level = margin(maker, account) + slack(maker, account);
+            let level = level(maker, account);
             maker.say_revision(account, (level + 1).min(CEILING));
         }
     }
@@ -212,10 +197,7 @@ pub fn wanting(maker: &mut Maker) {
 
 /// Many accounts whose prices and margins move to and fro about cover.
 pub fn falling(maker: &mut Maker) {
-    open_groups(maker);
-    for account in 0..maker.book.count as u16 {
-        fund_by_sort(maker, account);
-    }
+    open_funded(maker);
     for _ in 0..maker.usual_length() {
         match maker.rng.below(8) {
             0 | 1 => revalue(maker),

@@ -77,6 +77,13 @@ pub fn open_any(maker: &mut Maker) {
     };
 }
 
+/// Less than so many.
+pub fn open_some(maker: &mut Maker, many: u64) {
+    for _ in 0..maker.rng.below(many) {
+        open_any(maker);
+    }
+}
+
 fn open(maker: &mut Maker) {
     if maker.book.count < maker.wanted || maker.rng.one_in(6) {
         open_any(maker);
@@ -143,13 +150,7 @@ fn near_kinds(maker: &mut Maker, bounds: [u64; 4]) -> [u64; 4] {
 
 /// An account where the bound isn't 0 throughout, if one is found soon.
 fn with_something(maker: &mut Maker, bounds: fn(&Maker, u16) -> [u64; 4]) -> (u16, [u64; 4]) {
-    let mut account = maker.live();
-    for _ in 0..12 {
-        if bounds(maker, account) != [0; 4] {
-            break;
-        }
-        account = maker.live();
-    }
+    let account = maker.live_with(|maker, account| bounds(maker, account) != [0; 4]);
     (account, bounds(maker, account))
 }
 

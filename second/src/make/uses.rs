@@ -123,11 +123,7 @@ fn one_under(maker: &mut Maker, member: u16) -> Option<u16> {
         .filter(|&account| maker.book.answers_for(account) == usize::from(member))
         .map(|account| account as u16)
         .collect();
-    if under.is_empty() {
-        None
-    } else {
-        Some(maker.rng.pick(&under))
-    }
+    maker.rng.any(&under)
 }
 
 fn own_margin(maker: &mut Maker, member: u16, mark: Mark) {

@@ -1,6 +1,6 @@
 //! Days about risk reduction mode. They are short enough for a bundle.
 
-use super::deemed::{fund_by_sort, open_groups};
+use super::deemed::open_funded;
 use super::maker::Maker;
 use super::steer::{open_any, step, wind_down_account};
 use super::uses::{put_in, stand, take_out, waver, Mark};
@@ -134,10 +134,7 @@ fn lever_of_cm(maker: &mut Maker) -> u16 {
 
 /// Many TMs and CPs whose uses go to and fro about the thresholds.
 pub fn wavering(maker: &mut Maker) {
-    open_groups(maker);
-    for account in 0..maker.book.count as u16 {
-        fund_by_sort(maker, account);
-    }
+    open_funded(maker);
     for _ in 0..maker.usual_length() {
         if maker.rng.one_in(6) {
             step(maker);

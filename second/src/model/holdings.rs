@@ -18,10 +18,6 @@ pub fn over(book: Book, piece: &[u8]) -> Vec<u8> {
     out
 }
 
-pub fn holdings(piece: &[u8]) -> Vec<u8> {
-    over(Book::fresh(), piece)
-}
-
 fn line(book: &Book, account: usize) -> String {
     let row = &book.rows[account];
     let kinds = row.received.iter().chain(&row.allocated);

@@ -131,9 +131,8 @@ pub fn read(refusal: u8, rng: &mut Rng) -> Call {
             Next::Record(record) => record.checked().map_or_else(|no| no as u8, |_| 0) == refusal,
         };
         let places: Vec<usize> = starts(&piece).into_iter().filter(given).collect();
-        if !places.is_empty() {
-            let place = rng.pick(&places) as u64;
-            return Call::ReadAt(piece, place);
+        if let Some(place) = rng.any(&places) {
+            return Call::ReadAt(piece, place as u64);
         }
     }
     Call::ReadAt(Vec::new(), 0)
