@@ -3,7 +3,7 @@
 
 pub mod archives;
 mod books;
-mod calls;
+pub mod calls;
 pub mod child;
 mod days;
 pub mod difference;
@@ -33,8 +33,8 @@ const OF_DAYS: [&str; 10] = [
 const OTHERS: [&str; 4] = ["--margins", "--merge", "--statements", "--calls"];
 
 #[rustfmt::skip]
-const NUMBERS: [&str; 9] = [
-    "--text-runs", "--margin-runs", "--merges", "--statement-runs", "--call-inputs", "--books", "--days",
+const VALUES: [&str; 10] = [
+    "--text-runs", "--margin-runs", "--merges", "--statement-runs", "--call-inputs", "--without", "--books", "--days",
     "--seed", "--millions",
 ];
 
@@ -137,7 +137,7 @@ pub fn all_met<K: Ord + Copy + Debug>(
 /// The closing line on success; a readable account of the first difference
 /// otherwise.
 pub fn compare(words: &[String]) -> Result<String, String> {
-    let valued = [&OF_DAYS[..], &OTHERS, &NUMBERS].concat();
+    let valued = [&OF_DAYS[..], &OTHERS, &VALUES].concat();
     let run = Run {
         options: Options::of(words, &valued, &["--trickle"])?,
         folder: std::env::temp_dir().join(format!("second-compare-{}", std::process::id())),

@@ -41,9 +41,11 @@ second compare [--day P] [--standings P] [--closeouts P] [--needs P] [--explain 
                [--take-over P] [--archive P] [--margins P] [--merge P] [--statements P] [--calls P]
                [--days N] [--seed S] [--millions K] [--books N] [--trickle]
                [--text-runs N] [--margin-runs N] [--merges N] [--statement-runs N] [--call-inputs N]
+               [--without CALLS]
                                          other programs against this one: on made-up days, on N days
                                          in two pieces with book files, on N made-up texts, on N inputs
-                                         of made-up calls, on N mergings, on N statements; with --merge,
+                                         of made-up calls, on N mergings, on N statements; with --without
+                                         12,14 these calls are to be answered with empty lines; with --merge,
                                          --day and --standings, on two orders of N pairs of counters' files
 second bundle --days N --seed S > BUNDLE many small days in one file
 second bundled < BUNDLE > ANSWERS        the answers to all of them

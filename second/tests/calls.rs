@@ -2,6 +2,7 @@
 
 mod common;
 use common::*;
+use second::compare::calls::emptied;
 use second::model::bookfile::Version;
 use second::model::calls::{answered, Call, Calls};
 use second::model::table::{LIVE, MODE, NEED, SORT, TM};
@@ -263,4 +264,11 @@ fn the_largest_words() {
         assert_eq!(utf(answered(&bytes)), want);
         assert_eq!(Calls::of(&bytes).count(), 7);
     }
+}
+
+#[test]
+fn lines_of_calls_left_out_are_empty() {
+    let lines = b"0 80\n1\n0 50\nbad 3\n";
+    assert_eq!(emptied(lines, &[12, 1, 14], &[12, 14]), b"\n1\n\nbad 3\n");
+    assert_eq!(emptied(lines, &[12, 1, 14], &[]), lines);
 }
