@@ -28,6 +28,7 @@ fn put_figures(figures: &mut [u64], f: Figures)
     figures[6] = f.shortfall;
 }
 
+// An account's seven figures, put where there are none of the refusals 1, 15, 7.
 #[no_mangle]
 pub extern "C" fn loft_standing(book: &[u8], account: u16, figures: &mut [u64]) -> u8
     ensures { λ r. ⌜ r ≡ standingRefusal (now (book .entry)) account (now (figures .entry)) ⌝ }
@@ -49,6 +50,7 @@ pub extern "C" fn loft_standing(book: &[u8], account: u16, figures: &mut [u64]) 
     0
 }
 
+// The largest amount with which such a record is carried out; neither its serial nor its amounts are looked at.
 #[no_mangle]
 pub extern "C" fn loft_most(book: &[u8], code: u8, named: u8, account: u16, amount: &mut u64) -> u8
     ensures { λ r. ⌜ r ≡ largestIn (now (book .entry)) code named account .refusal ⌝ }
@@ -67,6 +69,7 @@ pub extern "C" fn loft_most(book: &[u8], code: u8, named: u8, account: u16, amou
     0
 }
 
+// Every account's need: the book's own call refuses 15 too.
 #[no_mangle]
 pub extern "C" fn loft_needs(book: &[u8], needs: &mut [u64]) -> u8
     ensures { λ r. ⌜ r ≡ needsRefused (now (book .entry)) (now (needs .entry)) ⌝ }
@@ -80,6 +83,7 @@ pub extern "C" fn loft_needs(book: &[u8], needs: &mut [u64]) -> u8
     book::needs(table, needs)
 }
 
+// A TM's statement held against the book.
 #[no_mangle]
 pub extern "C" fn loft_statement(book: &[u8], tm: u16, piece: &[u8]) -> u8
     ensures { λ r. ⌜ r ≡ statementRefusal (now (book .entry)) tm (now (piece .entry)) ⌝ }

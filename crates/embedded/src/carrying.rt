@@ -37,6 +37,7 @@ fn carry(book: &mut [u8], r: Record, answer: &mut [u16]) -> u8
     refusal
 }
 
+// A record handed over as values. The lists are looked at first, so that nothing is put where one is too short.
 #[no_mangle]
 pub extern "C" fn loft_carry_out(
     book: &mut [u8],

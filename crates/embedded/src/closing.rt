@@ -3,6 +3,7 @@ ghost use mathlib.Core.Path.{_≡_};
 ghost use Rattle.embedded.specs.Closing.{closedIn, paysAfter, totalAfter};
 use lent::book_in;
 
+// Who pays what; the close-out's own call refuses 15 too, and puts the amounts.
 #[no_mangle]
 pub extern "C" fn loft_close_out(
     book: &[u8],

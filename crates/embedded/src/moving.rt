@@ -4,6 +4,7 @@ ghost use Rattle.embedded.specs.Moving.{archiveRefused, archiveBook, arc
 use lent::book_in;
 use lent::put_back;
 
+// The archive's own call leaves the entries with a refusal; the book and the number are put only without one.
 #[no_mangle]
 pub extern "C" fn loft_archive(book: &mut [u8], entries: &mut [u16], moved: &mut u16) -> u8
     ensures { λ r. ⌜ r ≡ archiveRefused (now (book .entry)) (now (entries .entry)) ⌝ }
@@ -26,6 +27,7 @@ pub extern "C" fn loft_archive(book: &mut [u8], entries: &mut [u16], moved: &mut
     0
 }
 
+// The book by the new rule (K7).
 #[no_mangle]
 pub extern "C" fn loft_take_over(book: &mut [u8]) -> u8
     ensures { λ r. ⌜ r ≡ takeOverRefused (now (book .entry)) ⌝ }

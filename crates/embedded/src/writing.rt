@@ -9,6 +9,7 @@ use dayfile::Read;
 use dayfile::Record;
 use dayfile::Wrote;
 
+// A record's bytes at the start of a room, and how many they are.
 #[no_mangle]
 pub extern "C" fn loft_write_record(
     serial: u16,
@@ -55,6 +56,7 @@ fn put_record(numbers: &mut [u64], next: usize, r: Record)
     numbers[10] = r.margin;
 }
 
+// The record at a place. With 4 to 6 its head is told, behind the place after it.
 #[no_mangle]
 pub extern "C" fn loft_read_record(piece: &[u8], place: usize, numbers: &mut [u64]) -> u8
     ensures { λ r. ⌜ r ≡ readRefusal (now (piece .entry)) place (now (numbers .entry)) ⌝ }

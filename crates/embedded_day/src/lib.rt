@@ -29,6 +29,7 @@ fn put_told(told: &mut [u64], word: u64, place: usize, read: u64, done: u64)
     told[3] = done;
 }
 
+// The records of a piece, as many as there is room for. The run puts the answers itself, and leaves them at an unsound book.
 #[no_mangle]
 pub extern "C" fn loft_day(
     book: &mut [u8],
