@@ -16,7 +16,7 @@ number that doesn't fit its place raises OverflowError before the library is ask
     0
     >>> book.standing(2)
     Traceback (most recent call last):
-    loft.refusals.Refused: 7: the account is not live, or its number was never given, or it is in the archive
+    loft.refusals.Refused: 7: the account isn't live, or its number was never given, or it is in the archive
 """
 
 from loft.answers import Answer, Archived, Closing, CloseOut, DayEnd, Payment, Standing

@@ -85,7 +85,7 @@ class OfRecords(unittest.TestCase):
             self.assertEqual(refusal_of(margin, 0, 1, 0, positions, figures), number)
 
     def test_refusals_have_the_texts_of_the_page(self) -> None:
-        page = Path(__file__).resolve().parents[3] / "docs" / "API.md"
+        page = Path(__file__).resolve().parents[3] / "docs" / "BOOK.md"
         lines = page.read_text(encoding="utf-8").splitlines()
         self.assertEqual(len(TEXTS), 29)
         for number, text in enumerate(TEXTS, 1):

@@ -69,37 +69,37 @@ pub enum Refusal {
 
 use Refusal::*;
 
-/// Every refusal in the order of numbers, with the text of docs/API.md.
+/// Every refusal in the order of numbers, with the text of docs/BOOK.md.
 const ALL: [(Refusal, &str); 29] = [
-    (NotSound, "the book isn't sound; its modes, kept needs and numbers count too; taking over: by the old rule, cover too"),
-    (Cut, "bytes are left, but too few for the record's first six bytes or for its amounts"),
-    (WrongSerial, "the serial is not the next one"),
-    (UnknownCode, "the code is not 1 to 13"),
+    (NotSound, "the book isn't sound (programs meet this only with a book file)"),
+    (Cut, "the bytes end within a record (`cut`)"),
+    (WrongSerial, "the serial isn't the next one; the first is 0, and 0 follows 65,535"),
+    (UnknownCode, "there is no such code"),
     (UnsuitedMark, "the second mark byte doesn't suit the code"),
-    (OutOfRange, "an amount is out of range; also an amount that isn't named and isn't 0"),
-    (NotLive, "the account is not live, or its number was never given, or it is in the archive"),
-    (WrongSort, "opening: the account named is of the wrong sort; retiring: account 0; statement: not a TM"),
-    (NoNumberLeft, "opening with 256 rows held, or every number to 65,535 given"),
-    (PastCeiling, "receive or pledge would carry an amount past the ceiling"),
-    (MoreThanThere, "more than there is, in any kind: hand back, allocate (received less allocated), release, unpledge"),
-    (MoreThanFree, "the collateral left after a release or unpledge would be below what was blocked of the account before it"),
-    (MarginUncovered, "code 10: after a rising margin the CM's need would be above its collateral, also where it is so before"),
-    (NotEmpty, "retiring an account with any amount not zero, or a TM with a live client"),
-    (WrongLength, "a room too short or not as asked (see each call); losses not one for each account; over 64 positions"),
-    (WrongLoss, "close-out: a loss passes the ceiling, or a retired account has a loss other than 0"),
-    (KeptIn, "release or unpledge from a TM's or the CM's account whose risk reduction mode is on"),
-    (UnknownProduct, "currency desk: unknown product"),
-    (UnlistedOption, "currency desk: an option, short or long, on a product of which none is listed"),
-    (NotionalPastCeiling, "currency desk: a notional, or the initial margin, past the ceiling"),
-    (SumPastCeiling, "currency desk: the sum past the ceiling"),
-    (FigureOutOfRange, "currency desk: a figure out of range, before 21"),
-    (ArchiveTooShort, "archive: the room is shorter than three numbers for each retired row, after 1"),
-    (BadStatement, "statement: a record is cut, or its mark is bad"),
-    (StatementAmount, "statement: an amount that is named is 0 or above four ceilings"),
-    (StatementAccount, "statement: the account isn't the TM's next live client; at the end: one still wanting"),
-    (StatementSum, "statement: a sum doesn't come out"),
-    (StatementReceived, "statement: what was received isn't the book's total"),
-    (StatementPlaced, "statement: the book's allocated total is below what is placed with the clearing corporation"),
+    (OutOfRange, "an amount isn't 1 to the ceiling (a margin, and what code 12 sets, may be 0), or one not named is other than 0"),
+    (NotLive, "the account isn't live, or its number was never given, or it is in the archive"),
+    (WrongSort, "an opening names an account of the wrong sort; account 0 is to be retired; a statement names no TM"),
+    (NoNumberLeft, "an opening where 256 accounts are held, retired ones too, or every number to 65,535 is given"),
+    (PastCeiling, "received or pledged would be above the ceiling"),
+    (MoreThanThere, "more than there is: hand back or allocate of received less allocated, release of allocated, unpledge of pledged"),
+    (MoreThanFree, "after a release or unpledge the collateral left would be below what was blocked of the account"),
+    (MarginUncovered, "after a margin that rises by code 10 the CM's need would be above its collateral"),
+    (NotEmpty, "an account with an amount that isn't 0, or a TM with a live client, is to be retired"),
+    (WrongLength, "a list handed over, such as that of losses, has the wrong length; more than 64 positions"),
+    (WrongLoss, "a loss is above the ceiling, or a retired account's isn't 0"),
+    (KeptIn, "release or unpledge from a TM's or the CM's account that is in risk reduction mode"),
+    (UnknownProduct, "currency desk: there is no such product"),
+    (UnlistedOption, "currency desk: an option, short or long, on a product that has none"),
+    (NotionalPastCeiling, "currency desk: a notional, or after all positions the initial margin, is above the ceiling"),
+    (SumPastCeiling, "currency desk: the sum is above the ceiling"),
+    (FigureOutOfRange, "currency desk: a figure is below minus the ceiling or above the ceiling"),
+    (ArchiveTooShort, "the list for the archive is too short for the retired accounts"),
+    (BadStatement, "a broker's statement: a record is cut, or its mark is bad"),
+    (StatementAmount, "a broker's statement: an amount named is 0 or above four ceilings"),
+    (StatementAccount, "a broker's statement: the account isn't the TM's next live client, or one is still missing at the end"),
+    (StatementSum, "a broker's statement: a sum doesn't come out"),
+    (StatementReceived, "a broker's statement: received isn't what the book has"),
+    (StatementPlaced, "a broker's statement: more is placed with the clearing corporation than the book has allocated"),
 ];
 
 impl Refusal {
@@ -120,7 +120,7 @@ impl Refusal {
         self as u8
     }
 
-    /// What it is given for, in the words of docs/API.md.
+    /// What it is given for, in the words of docs/BOOK.md.
     pub fn text(self) -> &'static str {
         ALL[usize::from(self.number()) - 1].1
     }

@@ -94,10 +94,10 @@ fn margins_are_refused_by_the_first_fault() {
     );
 }
 
-/// The table of docs/API.md, a line for each number.
+/// The table of docs/BOOK.md, a line for each number.
 #[test]
 fn refusals_have_the_texts_of_the_page() {
-    let path = concat!(env!("CARGO_MANIFEST_DIR"), "/../../docs/API.md");
+    let path = concat!(env!("CARGO_MANIFEST_DIR"), "/../../docs/BOOK.md");
     let page = fs::read_to_string(path).unwrap();
     for number in 1..=29 {
         let refusal = Refusal::numbered(number).unwrap();
