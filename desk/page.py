@@ -92,7 +92,7 @@ def key(parts: dict[str, str]) -> str:
 
 def _tree(sheet: Sheet) -> str:
     rows = [_row(sheet, depth, each) for depth, each in tree(sheet.standings)]
-    titles = "".join(f"<th>{title}</th>" for title in ("collateral", "blocked", "free", "deemed", "use", "mode"))
+    titles = "".join(f"<th>{title}</th>" for title in ("collateral", "blocked", "deemed", "free", "use", "mode"))
     return (
         "<h2>How the accounts stand</h2>"
         + key({"blocked": "blocked", "free": "free", "deemed": "deemed: blocked one level up"})
@@ -108,7 +108,7 @@ def _row(sheet: Sheet, depth: int, each: Standing) -> str:
     parts = [("blocked", each.blocked), ("free", each.free), ("deemed", each.deemed)]
     label = ", ".join(f"{part} {rupees(amount)}" for part, amount in parts)
     drawn = bar(parts, each.collateral + each.deemed, label)
-    amounts = "".join(_figure(each.number, what, getattr(each, what)) for what in ("collateral", "blocked", "free", "deemed"))
+    amounts = "".join(_figure(each.number, what, getattr(each, what)) for what in ("collateral", "blocked", "deemed", "free"))
     said = f'<td data-label="use" data-account="{each.number}" data-figure="use">{use(sheet.holdings.accounts[each.number])}</td>'
     mode = each.mode if each.sort in ("cm", "tm") else ""
     told = f'<td{" data-label=mode" if mode else ""} data-account="{each.number}" data-figure="mode" class="{mode}">{mode}</td>'
