@@ -100,6 +100,11 @@ textOfLines b numbers amounts = pick (soundB b && not (allHeld b numbers)) (word
 unfoldable pub faultText : ℕ → ℕ → List ℕ
 faultText line fault = bytesIn "closeouts: line " ++ (followed line 58 ++ faultWords fault)
 
+-- every line of a text says something
+unfoldable pub saysLosses : Told → Bool
+saysLosses (losses numbers amounts) = true
+saysLosses (wrong line n) = false
+
 -- these are the losses that a text says
 abbrev pub SaidBy : Losses → Told → Type 0
 SaidBy l told = losses (take (l .count) (l .numbers)) (take (l .count) (l .list)) ≡ told

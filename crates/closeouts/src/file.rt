@@ -3,7 +3,7 @@ ghost use mathlib.Core.Bool.{true};
 ghost use mathlib.Core.Path.{_≡_};
 ghost use Prim.Native.Nat.{_≤_};
 ghost use Rattle.closeouts.specs.Losses.{Came};
-ghost use Rattle.closeouts.specs.LossLines.{toldOf, SaidBy, LinesCame, CameAs};
+ghost use Rattle.closeouts.specs.LossLines.{toldOf, saysLosses, SaidBy, LinesCame, CameAs};
 use crate::lines::read_lines;
 use crate::losses::Losses;
 use crate::losses::list;
@@ -35,6 +35,7 @@ fn from_bytes() -> Losses
 fn from_text(text: &[u8]) -> Losses
     ensures { λ l. ⌜ l .count ≤ 256 ⌝ }
     ensures { λ l. ⌜ (l .readable ≡ true → SaidBy l (toldOf (now (text .entry)))) ⌝ }
+    ensures { λ l. ⌜ l .readable ≡ saysLosses (toldOf (now (text .entry))) ⌝ }
 {
     let said = read_lines(text);
     if said.good {

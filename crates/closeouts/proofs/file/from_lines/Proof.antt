@@ -21,4 +21,4 @@ from-lines-spec =
     tie.close
     (tie.spec (λ c. search needs) (λ c. search needs) (λ c. search needs) (λ c κs. search needs) (λ c κs. search needs)
     returns (λ c κs. search needs) (λ c κs. search needs) returns-2 array-share-prefix-text
-    (λ c. sym (length-take-le _ _ (array-share-prefix-text (c .before)))) (λ c κs. search needs) (λ c. (c .from-text .ensures .0, λ q. record { text = _; is = c .from-text .ensures .1 q })))
+    (λ c. sym (length-take-le _ _ (array-share-prefix-text (c .before)))) (λ c κs. search needs) (λ c. (c .from-text .ensures .0, λ q. record { text = _; is = c .from-text .ensures .1 .0 q })))
