@@ -1,4 +1,6 @@
 // The retired rows of a table moved to an archive that is lent (K11).
+#![tactic(auto)]
+
 ghost use Rattle.std.specs.Prelude.{◌≡◌};
 ghost use Rattle.table.specs.Words.{turned, turned_back};
 ghost use Rattle.book.specs.Facts.{Sound};
@@ -10,7 +12,7 @@ use gaps::close_gaps;
 pub use table::Table;
 
 // The refusal number or 0, how many rows moved, and the table after it.
-#[derive(Drop)]
+#[derive(Clone, Copy)]
 pub struct Archived {
     pub refusal: u8,
     pub moved: u16,

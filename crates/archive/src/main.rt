@@ -1,5 +1,7 @@
 // Moves the retired accounts out of the book in the file FROM (K11): a line for each goes into the text file ARCHIVE, then the book without them into the file TO; then the refusal and how
 // many moved are printed. Where the book isn't sound, nothing is written.
+#![tactic(auto)]
+
 use feed::Table;
 use libc::STDERR_FILENO;
 use streams::standard::write_output;

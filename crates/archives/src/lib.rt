@@ -1,4 +1,6 @@
 // The text file of archived accounts, a line each, in the room that it was read into (K11). Internal: only the program `archive` names it.
+#![tactic(auto)]
+
 ghost use Rattle.std.specs.Prelude.{◌≡◌, ◌+◌, ◌*◌, ◌/◌, ◌≤◌, ◌<◌, ltb, length, take};
 ghost use Rattle.archives.specs.Entries.{entry_line};
 ghost use Rattle.archives.specs.Files.{ended as Files·ended, with_line, filed};
@@ -12,7 +14,7 @@ mod entry;
 mod found;
 
 // Whether a line was put, and how many bytes the file then has.
-#[derive(Drop)]
+#[derive(Clone, Copy)]
 pub struct Filed {
     pub put: bool,
     pub count: usize,

@@ -1,4 +1,6 @@
 // The retired rows put into a lent archive (K11).
+#![tactic(auto)]
+
 ghost use Rattle.std.specs.Prelude.{false, not, [], ◌∷◌, ◌≡◌, ◌+◌, ◌≤◌, ◌<◌, eqb, length, get_or};
 ghost use Rattle.sums.specs.Sum.{sum, only};
 ghost use Rattle.sums.specs.Choice.{pick};

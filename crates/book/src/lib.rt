@@ -1,4 +1,6 @@
 // The collateral book of one clearing member, by amount: a fresh one, its soundness, an account's standing, all needs, the evening sums.
+#![tactic(auto)]
+
 ghost use Rattle.std.specs.Prelude.{◌≡◌};
 ghost use Rattle.rows.specs.Rows.{fresh_book};
 ghost use Rattle.table.specs.Words.{turned, turned_back};
@@ -20,7 +22,7 @@ pub use table::Table;
 use table::needs::{account_at, needs_afresh};
 
 // A standing's five figures, the account's mode and, of account 0, the shortfall (K8), behind the refusal number or 0.
-#[derive(Drop)]
+#[derive(Clone, Copy)]
 pub struct Figures {
     pub refusal: u8,
     pub collateral: u64,
@@ -33,7 +35,7 @@ pub struct Figures {
 }
 
 // An amount that every account has.
-#[derive(Drop)]
+#[derive(Clone, Copy)]
 pub enum Amount {
     ReceivedCash,
     ReceivedDeposits,
@@ -48,14 +50,14 @@ pub enum Amount {
 }
 
 // An amount of all accounts, behind the refusal number or 0.
-#[derive(Drop)]
+#[derive(Clone, Copy)]
 pub struct Summed {
     pub refusal: u8,
     pub total: u64,
 }
 
 // The refusal number or 0, and the table after it.
-#[derive(Drop)]
+#[derive(Clone, Copy)]
 pub struct Taken {
     pub refusal: u8,
     pub table: Table,

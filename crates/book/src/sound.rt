@@ -14,7 +14,7 @@ use table::needs::needs_kept;
 use table::places::{kinds_at, word_at};
 
 // What of an account is no amount.
-#[derive(Drop)]
+#[derive(Clone, Copy)]
 pub(crate) struct Mark {
     pub sort: u8,
     pub live: bool,

@@ -1,4 +1,6 @@
 // A book's written form: the file that a book is kept in.
+#![tactic(auto)]
+
 mod forms;
 mod listed;
 mod numbered;
@@ -14,14 +16,14 @@ pub use writing::write;
 pub const SIZE: usize = 24_332;
 
 // Which written form: the first one, which has no numbers and is only read, or the one with them (K11).
-#[derive(Drop)]
+#[derive(Clone, Copy)]
 pub(crate) enum Version {
     One,
     Two,
 }
 
 // What bytes hold: a book, or none, and then the fresh book stands here.
-#[derive(Drop)]
+#[derive(Clone, Copy)]
 pub struct Held {
     pub is_book: bool,
     pub table: Table,

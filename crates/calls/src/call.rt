@@ -5,7 +5,7 @@ use crate::{archived, asked, carried, checked, closed, exposed, margins, passed,
 use desk::Table;
 
 // Whether there is a call, how many bytes it takes, and how long its line is.
-#[derive(Drop)]
+#[derive(Clone, Copy)]
 pub(crate) struct Told {
     pub(crate) is_call: bool,
     pub(crate) size: usize,

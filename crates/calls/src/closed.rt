@@ -20,7 +20,7 @@ fn put_closed(room: &mut [u8], t: Table, losses: &[u64], n: usize) -> usize
 }
 
 // Where a list stands and how many numbers it has, how long a room is asked with, and where the call ends.
-#[derive(Drop)]
+#[derive(Clone, Copy)]
 pub(crate) struct Asked {
     pub(crate) is_call: bool,
     pub(crate) from: usize,

@@ -9,7 +9,7 @@ const SPACE: usize = 262_144;
 const LONGEST: usize = 89_881;
 
 // Where the next call begins, where what is held ends, whether the input ends there too, and whether a read failed.
-#[derive(Drop)]
+#[derive(Clone, Copy)]
 pub(crate) struct Stands {
     pub(crate) at: usize,
     pub(crate) end: usize,

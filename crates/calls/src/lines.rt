@@ -11,7 +11,7 @@ const ROOM: usize = 393_216;
 const HALF: usize = 196_608;
 
 // How many bytes are left to write, and whether a write failed.
-#[derive(Drop)]
+#[derive(Clone, Copy)]
 pub(crate) struct Wrote {
     pub(crate) left: usize,
     pub(crate) failed: bool,

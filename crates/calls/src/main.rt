@@ -1,5 +1,7 @@
 // Library calls from outside: calls one after the other on standard input, a line for each on standard output. So an
 // independent program can be held against every call on any book, sound or not.
+#![tactic(auto)]
+
 use held::more;
 use lines::written;
 

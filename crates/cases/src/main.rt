@@ -1,4 +1,6 @@
 // What no call from outside reaches, each subject under its heading. Amounts are in paise.
+#![tactic(auto)]
+
 mod books;
 mod ended;
 mod evening;

@@ -5,7 +5,7 @@ ghost use Rattle.cases.specs.Turns.{turn_of};
 use dayfile::{Read, reader};
 
 // What the reader sees, what it gives, and its place then.
-#[derive(Drop)]
+#[derive(Clone, Copy)]
 pub struct Turn {
     pub seen: Read,
     pub given: Read,

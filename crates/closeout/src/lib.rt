@@ -1,4 +1,6 @@
 // The close-out: who pays what when positions are closed out. The book stays as it is.
+#![tactic(auto)]
+
 ghost use Rattle.std.specs.Prelude.{◌≡◌, ◌≤◌, length};
 ghost use Rattle.sums.specs.Sum.{all};
 ghost use Rattle.book.specs.Facts.{Sound};
@@ -13,7 +15,7 @@ pub use table::Table;
 mod pays;
 
 // The refusal number or 0, and the total left uncovered.
-#[derive(Drop)]
+#[derive(Clone, Copy)]
 pub struct Closed {
     pub refusal: u8,
     pub total: u64,

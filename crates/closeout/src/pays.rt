@@ -13,7 +13,7 @@ use rows::needs::{account_of, only_if, zeros};
 use table::places::row_of;
 
 // What one account pays in one round, and what its purse keeps after its own part.
-#[derive(Drop)]
+#[derive(Clone, Copy)]
 pub(crate) struct Paid {
     own: u64,
     tm: u64,
@@ -23,7 +23,7 @@ pub(crate) struct Paid {
 }
 
 // Both rounds of one account, and its first three amounts; the fourth is what round two leaves.
-#[derive(Drop)]
+#[derive(Clone, Copy)]
 pub(crate) struct Both {
     own: u64,
     tm: u64,
@@ -33,7 +33,7 @@ pub(crate) struct Both {
 }
 
 // What is left of the CM's collateral in each round.
-#[derive(Drop)]
+#[derive(Clone, Copy)]
 pub(crate) struct Purses {
     left: u64,
     free: u64,

@@ -8,7 +8,7 @@ use words::{ends_at, line_end, number_at};
 
 const NONE: u64 = 18_446_744_073_709_551_615;
 
-#[derive(Drop)]
+#[derive(Clone, Copy)]
 pub(crate) enum Loss {
     Nothing,
     Of(u16, u64),
@@ -16,7 +16,7 @@ pub(crate) enum Loss {
 }
 
 // The accounts that a text names, with their losses; or the fault of a line, counted from 1.
-#[derive(Drop)]
+#[derive(Clone, Copy)]
 pub(crate) struct Said {
     pub(crate) good: bool,
     pub(crate) fault: u8,
@@ -27,7 +27,7 @@ pub(crate) struct Said {
 }
 
 // One line's account and loss put, and how many there are then; or its fault.
-#[derive(Drop)]
+#[derive(Clone, Copy)]
 struct Put {
     good: bool,
     fault: u8,

@@ -6,7 +6,7 @@ ghost use Rattle.closeouts.specs.Losses.{loss_count, losses_of};
 use numbers::number8;
 
 // The losses, with the accounts' numbers where a text names them; or that their file can't be read.
-#[derive(Drop)]
+#[derive(Clone, Copy)]
 pub(crate) struct Losses {
     pub(crate) readable: bool,
     pub(crate) numbers: [u16; 256],

@@ -1,5 +1,7 @@
 // The close-out of the book after the day file on standard input, over a fresh book or the one in the file FROM, with the losses of the file LOSSES: the
 // closing line, then a line for each account and the total, or the refusal. Where a file can't be read, a line on standard error alone.
+#![tactic(auto)]
+
 ghost use Rattle.std.specs.Prelude.{◌≡◌, ◌≤◌, length, take, replicate};
 ghost use Rattle.sums.specs.Room.{at_start};
 ghost use Rattle.report.specs.Reports.{accounts as Reports·accounts};

@@ -12,7 +12,7 @@ use numbers::{number2, number8, number8_if};
 use rows::{CEILING, Kinds};
 
 // A record's first six bytes.
-#[derive(Drop)]
+#[derive(Clone, Copy)]
 pub struct Head {
     pub code: u8,
     pub named: u8,
@@ -21,7 +21,7 @@ pub struct Head {
 }
 
 // What stands at a place: no bytes, too few for a record, or a record's head with the place after the record.
-#[derive(Drop)]
+#[derive(Clone, Copy)]
 pub enum Headed {
     End,
     Cut,
@@ -29,7 +29,7 @@ pub enum Headed {
 }
 
 // What a record asks: nothing, since a line before 8 refuses it, or by its code no amount, one, or one of each kind; where one kind alone is named, that one.
-#[derive(Drop)]
+#[derive(Clone, Copy)]
 pub enum Asked {
     Refused(u8),
     Bare,

@@ -1,4 +1,6 @@
 // What each code decides on the table's words in place, by the lines of the table of refusals, and the words that it puts. A verdict reads kept needs (K3) and changes none.
+#![tactic(auto)]
+
 ghost use Rattle.std.specs.Prelude.{◌≡◌, true, ◌≤◌};
 ghost use Rattle.rows.specs.Rows.{ceiling};
 ghost use Rattle.rows.specs.Facts.{KindsWithin};

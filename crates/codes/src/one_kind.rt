@@ -13,7 +13,7 @@ use rows::words::{with_allocated, with_received};
 use rows::{CEILING, Kinds};
 use table::places::{row_at, word_at};
 
-#[derive(Drop)]
+#[derive(Clone, Copy)]
 pub enum Kind {
     Cash,
     Deposits,

@@ -11,7 +11,7 @@ use rows::needs::{account_of, only_if};
 use table::places::{row_at, word_at};
 
 // Under the TM, and under the CM.
-#[derive(Drop)]
+#[derive(Clone, Copy)]
 pub struct DeemedUnderAfter {
     pub tm: u64,
     pub cm: u64,

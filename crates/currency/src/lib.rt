@@ -1,4 +1,6 @@
 // The extreme loss margin of the currency desk: a client's positions and its initial margin, made the record that sets its margin (K9).
+#![tactic(auto)]
+
 ghost use Rattle.std.specs.Prelude.{◌≡◌};
 ghost use Rattle.currency.specs.Margins.{refusal_of, made_of, margin_record, number_made};
 
@@ -14,7 +16,7 @@ pub use dayfile::{CEILING, Record};
 pub const MOST: usize = 64;
 
 // What a position is in. A spread's notional is the far month's value.
-#[derive(Drop)]
+#[derive(Clone, Copy)]
 pub enum Side {
     Futures,
     Short,
@@ -23,7 +25,7 @@ pub enum Side {
 }
 
 // Products are numbered 0 to 9 in the paper's order, from EURINR to ONMIBOR. The notional is in paise.
-#[derive(Drop)]
+#[derive(Clone, Copy)]
 pub struct Position {
     pub product: u8,
     pub side: Side,
@@ -31,7 +33,7 @@ pub struct Position {
 }
 
 // The record that sets the margin, or the refusal.
-#[derive(Drop)]
+#[derive(Clone, Copy)]
 pub enum Made {
     Given(Record),
     Refused(u8),

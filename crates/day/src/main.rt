@@ -1,5 +1,7 @@
 // The program of document 01: a day file from standard input over a fresh book, or over the one in the file FROM: a line per record and the closing line. The book after it
 // goes into the file TO.
+#![tactic(auto)]
+
 use feed::{Closing, Table};
 
 // Where TO is named. A book that isn't sound is not written: nothing was carried out.

@@ -1,4 +1,6 @@
 // The day file: what stands at a place of a piece, and a record's bytes.
+#![tactic(auto)]
+
 pub use rows::{CEILING, Kinds};
 
 mod faults;
@@ -11,7 +13,7 @@ pub use reading::{found_at, read_at};
 pub use writing::write;
 
 // A record. `named` is the second mark byte: the amounts that the record names. One that has been read holds 0 for each other; handed over as values it may not, and then it has fault 6.
-#[derive(Drop)]
+#[derive(Clone, Copy)]
 pub struct Record {
     pub serial: u16,
     pub code: u8,
@@ -23,7 +25,7 @@ pub struct Record {
 }
 
 // What stands at a place: no bytes, too few for a record, or a record, good or not, with the place after it.
-#[derive(Drop)]
+#[derive(Clone, Copy)]
 pub enum Found {
     End,
     Cut,
@@ -31,7 +33,7 @@ pub enum Found {
 }
 
 // What the reader gives: the end, 2, the record with the place after it, or the first of 4, 5, 6 that applies.
-#[derive(Drop)]
+#[derive(Clone, Copy)]
 pub enum Read {
     End,
     Cut,
@@ -46,7 +48,7 @@ pub enum Read {
 }
 
 // What the writer answers: how many bytes it wrote, or the refusal.
-#[derive(Drop)]
+#[derive(Clone, Copy)]
 pub enum Wrote {
     Written(usize),
     Refused(u8),

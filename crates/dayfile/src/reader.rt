@@ -14,7 +14,7 @@ pub struct Reader<'a> {
 }
 
 // What was read, with the place after it.
-#[derive(Drop)]
+#[derive(Clone, Copy)]
 struct Took {
     read: Read,
     place: usize,

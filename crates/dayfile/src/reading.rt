@@ -18,7 +18,7 @@ fn amount_near(piece: &[u8], place: usize, bit: u8) -> u64
 }
 
 // Where each of a record's six amounts stands, or would stand.
-#[derive(Drop)]
+#[derive(Clone, Copy)]
 struct Places {
     p0: usize,
     p1: usize,

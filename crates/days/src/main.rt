@@ -1,5 +1,7 @@
 // A bundle of small days on standard input, each with four bytes of length, high byte first, in front. For each day what
 // `day` prints, then what `standings` prints without its closing line.
+#![tactic(auto)]
+
 ghost use Rattle.std.specs.Prelude.{◌<◌};
 
 use streams::standard::{read_input, write_output};
@@ -8,7 +10,7 @@ use streams::standard::{read_input, write_output};
 const DAYS: u32 = 65_536;
 
 // Whether there is a next day, and how many bytes it has.
-#[derive(Drop)]
+#[derive(Clone, Copy)]
 struct Next {
     found: bool,
     size: usize,

@@ -1,4 +1,6 @@
 // The desk: a record is carried out or refused.
+#![tactic(auto)]
+
 ghost use Rattle.std.specs.Prelude.{◌≡◌};
 ghost use Rattle.book.specs.Facts.{Sound};
 ghost use Rattle.rules.specs.Numbered.{verdict_of, given_of};
@@ -16,7 +18,7 @@ use steps::entry::{enter, leave};
 pub use table::Table;
 
 // What became of a record; the end is no refusal.
-#[derive(Drop)]
+#[derive(Clone, Copy)]
 pub enum Outcome {
     CarriedOut,
     Opened(u16),
@@ -24,7 +26,7 @@ pub enum Outcome {
     End,
 }
 
-#[derive(Drop)]
+#[derive(Clone, Copy)]
 pub struct Answer {
     pub serial: u16,
     pub code: u8,
@@ -33,14 +35,14 @@ pub struct Answer {
 }
 
 // The answer to a record, and the table after it.
-#[derive(Drop)]
+#[derive(Clone, Copy)]
 pub struct Carried {
     pub answer: Answer,
     pub table: Table,
 }
 
 // The same with the place after it.
-#[derive(Drop)]
+#[derive(Clone, Copy)]
 pub struct CarriedNext {
     pub answer: Answer,
     pub table: Table,

@@ -1,4 +1,6 @@
 // The book's calls for a program's own process, exported for C (include/loft.h): each over a book's bytes, as the public call answers.
+#![tactic(auto)]
+
 mod asked;
 mod carrying;
 mod closing;

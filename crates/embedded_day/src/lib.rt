@@ -1,4 +1,6 @@
 // The records of a piece carried out on a book's bytes.
+#![tactic(auto)]
+
 ghost use Rattle.std.specs.Prelude.{◌≡◌, [], ◌∷◌, length};
 ghost use Rattle.embedded_day.specs.Day.{word_number, day_refusal, day_book, day_answers, day_told};
 

@@ -1,4 +1,6 @@
 // The day file on standard input over a fresh book, or over the one in the file FROM: `day`'s lines, and behind each refused record with one amount how much would have passed. No book is kept.
+#![tactic(auto)]
+
 fn main() {
     let help = streams::standard::help(
         b"explain: carries out the day file on standard input over a fresh book, or over the one in the file FROM (- for a fresh one), and keeps no book; the lines of day, and behind the line of each refused record with one amount the refusal or 0 and the largest amount that would have passed\nusage: explain [FROM] < DAYFILE\n",

@@ -1,4 +1,6 @@
 // Crystallised obligations by client: the intraday current exposure margin, its end of day form, and both joined to K9's sum (K10).
+#![tactic(auto)]
+
 ghost use Rattle.std.specs.Prelude.{◌≡◌};
 ghost use Rattle.exposure.specs.Exposures.{exposure_of, intraday_of};
 ghost use Rattle.currency.specs.Margins.{number_made};
@@ -14,7 +16,7 @@ pub mod lists;
 pub use currency::{Made, Position};
 
 // What is payable, or the refusal with an amount of 0.
-#[derive(Drop)]
+#[derive(Clone, Copy)]
 pub struct Exposure {
     pub refusal: u8,
     pub amount: u64,

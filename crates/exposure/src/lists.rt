@@ -6,7 +6,7 @@ ghost use Rattle.exposure.specs.Lists.{figures_from, width_of, clients_in, clien
 use crate::{Exposure, end_of_day, intraday};
 
 // How many figures a client has: two, or four at the end of day.
-#[derive(Drop)]
+#[derive(Clone, Copy)]
 pub enum Form {
     Intraday,
     EndOfDay,

@@ -18,7 +18,7 @@ use table::Table;
 const ROOM: usize = 24_333;
 
 // The book that a day starts from, whether a file was named, and whether that is none or can't be read.
-#[derive(Drop)]
+#[derive(Clone, Copy)]
 pub struct From {
     pub named: bool,
     pub failed: bool,
@@ -26,7 +26,7 @@ pub struct From {
 }
 
 // Whether a file was named for the book after a day, whether it couldn't be written, and how many bytes went there.
-#[derive(Drop)]
+#[derive(Clone, Copy)]
 pub struct To {
     pub named: bool,
     pub failed: bool,

@@ -1,4 +1,6 @@
 // A day file from standard input, carried out in turns.
+#![tactic(auto)]
+
 ghost use Rattle.std.specs.Prelude.{true, ◌≡◌};
 ghost use Rattle.table.specs.Words.{turned_back};
 ghost use Rattle.book.specs.Facts.{Sound};
@@ -24,7 +26,7 @@ pub const MILLION: u64 = 1_000_000;
 const ROOM: usize = 16_384;
 
 // What a whole day file came to, with how many bytes of lines were printed, or that a read or a write failed.
-#[derive(Drop)]
+#[derive(Clone, Copy)]
 pub struct Day {
     pub table: Table,
     pub closing: Closing,

@@ -1,4 +1,6 @@
 // The gaps that retired rows leave are closed, on the table's words in place (K11).
+#![tactic(auto)]
+
 ghost use Rattle.std.specs.Prelude.{false, ◌≡◌, ◌<◌, get_or};
 ghost use Rattle.table.specs.Words.{marks_from};
 ghost use Rattle.table.specs.Facts.{Sized};

@@ -1,5 +1,7 @@
 // The book after the day file on standard input, over a fresh book or the one in the file FROM: the closing line, then the next serial and number, and a line for
 // each row held with all that the book has of it and its use. Of a book that isn't sound there is no text but the closing line.
+#![tactic(auto)]
+
 fn main() {
     let help = streams::standard::help(
         b"holdings: carries out the day file on standard input over a fresh book, or over the one in the file FROM (- for a fresh one); the closing line, then the next serial and number, and what the book has of each account, a line for each account\nusage: holdings [FROM] < DAYFILE\n",

@@ -1,4 +1,6 @@
 // The book that bytes lent by a program in another language are.
+#![tactic(auto)]
+
 ghost use Rattle.std.specs.Prelude.{true, false, ◌≡◌, length};
 ghost use Rattle.bookfile.specs.Facts.{is_two};
 ghost use Rattle.bookfile.specs.Reading.{book_in};

@@ -1,4 +1,6 @@
 // The lines that the program prints: one for each record, and the closing one.
+#![tactic(auto)]
+
 ghost use Rattle.std.specs.Prelude.{◌≡◌, min, length};
 ghost use Rattle.lines.specs.Lines.{closing_line_of};
 ghost use Rattle.sums.specs.Room.{at_start};
@@ -13,7 +15,7 @@ use text::texts;
 
 mod closing;
 
-#[derive(Drop)]
+#[derive(Clone, Copy)]
 pub struct Lined {
     pub table: Table,
     pub place: usize,

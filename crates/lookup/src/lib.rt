@@ -1,4 +1,6 @@
 // The row that a number names (K11).
+#![tactic(auto)]
+
 ghost use Rattle.std.specs.Prelude.{◌≡◌, ◌+◌, ◌<◌};
 ghost use Rattle.rows.specs.Rows.{place_among};
 ghost use Rattle.lookup.specs.Places.{Rising, Near};

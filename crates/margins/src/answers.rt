@@ -10,7 +10,7 @@ use crate::told::{put_bad, put_told};
 use currency::Made;
 
 // How many bytes of the two rooms go to standard output and to standard error.
-#[derive(Drop)]
+#[derive(Clone, Copy)]
 pub(crate) struct Said {
     pub(crate) printed: usize,
     pub(crate) told: usize,

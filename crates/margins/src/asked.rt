@@ -5,7 +5,7 @@ ghost use Rattle.margins.specs.Asked.{not_asked, asked_for, asked_by_words, Came
 use streams::words::is_same;
 use text::decimals::{Decimal, number_of};
 
-#[derive(Drop)]
+#[derive(Clone, Copy)]
 pub(crate) struct Asked {
     pub(crate) is_good: bool,
     pub(crate) record: bool,

@@ -8,7 +8,7 @@ use crate::words::up_to;
 use text::decimals::{Decimal, number_of};
 
 // One client's figures, as `exposure` takes them.
-#[derive(Drop)]
+#[derive(Clone, Copy)]
 pub(crate) struct Figures {
     pub(crate) premium: i64,
     pub(crate) loss: i64,
@@ -16,7 +16,7 @@ pub(crate) struct Figures {
     pub(crate) settlement: i64,
 }
 
-#[derive(Drop)]
+#[derive(Clone, Copy)]
 enum Figure {
     Is(i64),
     No,

@@ -13,7 +13,7 @@ use streams::words::is_same;
 use text::decimals::{Decimal, number_of};
 
 // What a line says. An empty one, and one that begins with `#`, says nothing.
-#[derive(Drop)]
+#[derive(Clone, Copy)]
 pub(crate) enum Line {
     Nothing,
     Holds(Position),

@@ -1,5 +1,7 @@
 // A client's margin on the currency desk: its positions and figures as text lines on standard input, its initial margin among the words. Prints the refusal or 0 and the
 // margin; or, if asked, hands over the bytes of the record that sets it, for a day file.
+#![tactic(auto)]
+
 ghost use Rattle.std.specs.Prelude.{false, ◌≡◌, ◌≤◌, length};
 ghost use Rattle.margins.specs.Positions.{held_in};
 ghost use Rattle.margins.specs.Printed.{printed_for};

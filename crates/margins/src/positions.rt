@@ -11,7 +11,7 @@ use currency::{MOST, Position, Side};
 
 // The first 64 positions, how many there are, the figures (0 where no line tells them) and whether a line did, and the number
 // of the line that is none of these, or 0.
-#[derive(Drop)]
+#[derive(Clone, Copy)]
 pub(crate) struct Held {
     pub(crate) positions: [Position; 64],
     pub(crate) number: usize,

@@ -5,7 +5,7 @@ ghost use Rattle.margins.specs.Sides.{side_of};
 use currency::Side;
 use streams::words::is_same;
 
-#[derive(Drop)]
+#[derive(Clone, Copy)]
 pub(crate) enum Word {
     Is(Side),
     No,

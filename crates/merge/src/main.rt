@@ -1,5 +1,7 @@
 // Makes one day file of two counters' (K14): the records of the file A and then those of the file B, numbered from the next serial of the book in the file FROM, or from 0. A refusal is told
 // on standard error, and nothing is written then.
+#![tactic(auto)]
+
 ghost use Rattle.std.specs.Prelude.{◌≤◌, length};
 
 use libc::STDERR_FILENO;

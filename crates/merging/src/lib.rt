@@ -1,4 +1,6 @@
 // Two counters' day files made one (K14).
+#![tactic(auto)]
+
 ghost use Rattle.std.specs.Prelude.{◌≡◌, ◌≤◌, length, take};
 ghost use Rattle.dayfile.specs.Reading.{number_of};
 ghost use Rattle.merging.specs.Merging.{listed_in, not_merged, merged_of, room_merged};
@@ -9,7 +11,7 @@ use numbers::put2;
 use text::put_text;
 
 // What a merging came to: the refusal or 0; the file at fault, 1 for A, 2 for B, or 0; the place of the record at fault among the file's records, counted from 0; how many bytes were written.
-#[derive(Drop)]
+#[derive(Clone, Copy)]
 pub struct Merged {
     pub refusal: u8,
     pub file: u8,
@@ -18,7 +20,7 @@ pub struct Merged {
 }
 
 // How many records of a file are good, and the refusal of the one behind them, or 0 where there is none.
-#[derive(Drop)]
+#[derive(Clone, Copy)]
 struct Looked {
     records: usize,
     refusal: u8,

@@ -1,5 +1,7 @@
 // A desk's morning, call by call: the book of 004 Annexure 4 made of records handed over as values, a record out of bytes, a piece of the day file, what the
 // book is asked then, and a close-out. TM-1 is account 1, its clients A and B are 2 and 3, a CP is 4. Amounts are paise.
+#![tactic(auto)]
+
 use desk::{Record, Table};
 
 mod made;

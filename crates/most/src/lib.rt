@@ -1,4 +1,6 @@
 // How much would have passed: the largest amount with which a record is carried out.
+#![tactic(auto)]
+
 ghost use Rattle.std.specs.Prelude.{◌≡◌};
 ghost use Rattle.table.specs.Words.{turned_back};
 ghost use Rattle.passing.specs.Most.{most_of};

@@ -1,4 +1,6 @@
 // Numbers as bytes, high byte first: read at a place of a piece, put at a place of a room. Internal: a caller sees to it that the bytes are there.
+#![tactic(auto)]
+
 ghost use Rattle.std.specs.Prelude.{◌≡◌, ◌+◌, ◌*◌, ◌≤◌, ◌<◌, length, drop};
 ghost use Rattle.std.proofs.lemmas.List.Edits.{sets};
 ghost use Rattle.numbers.specs.Bytes.{number, bytes_of};

@@ -1,4 +1,6 @@
 // Up to which amount a record passes: the largest with which it is carried out, at a table that is known to be sound.
+#![tactic(auto)]
+
 ghost use Rattle.std.specs.Prelude.{◌≡◌, ◌<◌};
 ghost use Rattle.rows.specs.Facts.{InRange};
 ghost use Rattle.table.specs.Words.{marks_from, row_in};
@@ -14,7 +16,7 @@ use table::places::row_at;
 mod limits;
 
 // The refusal number or 0, and the largest amount.
-#[derive(Drop)]
+#[derive(Clone, Copy)]
 pub struct Largest {
     pub refusal: u8,
     pub amount: u64,

@@ -12,7 +12,7 @@ use rows::needs::{account_of, blocked_of, counted_of, only_if};
 use rows::{CEILING, Kinds, Row, Rule};
 
 // An amount above `within` meets the number; any meets 17 where the account is held by its mode; one above `spare` meets 12.
-#[derive(Drop)]
+#[derive(Clone, Copy)]
 pub struct Limits {
     pub number: u8,
     pub within: u64,

@@ -1,4 +1,6 @@
 // The bytes held of a file that comes in pieces: what is left of the piece before, then what was read behind it. Internal: the functions ask for places within the space.
+#![tactic(auto)]
+
 ghost use Rattle.std.specs.Prelude.{true, false, ◌≡◌, ◌+◌, ◌-◌, ◌≤◌, length, take, drop};
 ghost use Rattle.numbers.specs.Bytes.{Bytes};
 

@@ -1,4 +1,6 @@
 // A day file from standard input in words, a line a record. Serials are shown where they aren't the running one, which begins with the next serial of the book in the file FROM.
+#![tactic(auto)]
+
 fn main() {
     let help = streams::standard::help(
         b"read: writes the day file on standard input in words, a line a record, raw where a record can't be said in words; serials are shown where they aren't the running one, which begins with the next serial of the book in the file FROM, or with 0\nusage: read [FROM] < DAYFILE > TEXT\n",

@@ -1,4 +1,6 @@
 // The records of a piece of the day file, carried out one after the other on a table's words, which are lent.
+#![tactic(auto)]
+
 ghost use Rattle.std.specs.Prelude.{true, [], ◌∷◌, ◌≡◌, ◌+◌, ◌*◌, ◌≤◌, length};
 ghost use Rattle.sums.specs.Choice.{pick};
 ghost use Rattle.steps.specs.Lent.{lent, before, after};
@@ -10,7 +12,7 @@ use codes::asked::{Head, Headed, head_at};
 use steps::{At, Gone, on, step_read};
 
 // Why the records stopped: at the end, at a cut, at the stated number, or since the book isn't sound.
-#[derive(Drop)]
+#[derive(Clone, Copy)]
 pub enum Closing {
     End,
     Cut,
@@ -19,7 +21,7 @@ pub enum Closing {
 }
 
 // What the records came to beside the arrays: where the book stands, the place reached, why they stopped, and the two counts.
-#[derive(Drop)]
+#[derive(Clone, Copy)]
 pub struct Went {
     pub at: At,
     pub place: usize,

@@ -17,7 +17,7 @@ use table::needs::deemed_under;
 use text::{put_each, put_number, put_text};
 
 // A use in tenths of a percent of the collateral, or that there is no collateral for it.
-#[derive(Drop)]
+#[derive(Clone, Copy)]
 pub(crate) enum Percent {
     Tenths(u64),
     Without,

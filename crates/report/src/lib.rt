@@ -1,4 +1,6 @@
 // What the programs print behind the records' lines: each text is made in a room and then handed over at once.
+#![tactic(auto)]
+
 ghost use Rattle.std.specs.Prelude.{◌≡◌, ◌≤◌, ◌<◌, min, ltb, length, take, get_or};
 ghost use Rattle.lines.specs.Lines.{closing_line_of};
 ghost use Rattle.sums.specs.Room.{at_start};
@@ -41,7 +43,7 @@ fn number_at(numbers: &[u16; 256], i: usize) -> u16
 }
 
 // A book tested once, by the call for all needs: whether it is sound, and the needs of its rows.
-#[derive(Drop)]
+#[derive(Clone, Copy)]
 struct AllNeeds {
     sound: bool,
     needs: [u64; 256],

@@ -15,7 +15,7 @@ use table::places::row_of;
 use text::{put_short, put_sort, put_text};
 
 // Which line a row has.
-#[derive(Drop)]
+#[derive(Clone, Copy)]
 pub(crate) enum Sheet {
     Standings,
     Holdings,

@@ -1,4 +1,6 @@
 // The rows of the old order's book, and what one account adds to what is deemed under others.
+#![tactic(auto)]
+
 pub mod deemed;
 pub mod modes;
 pub mod needs;
@@ -7,7 +9,7 @@ pub mod setters;
 pub mod words;
 
 // Received or allocated collateral by kind, in paise.
-#[derive(Drop)]
+#[derive(Clone, Copy)]
 pub struct Kinds {
     pub cash: u64,
     pub deposits: u64,
@@ -17,7 +19,7 @@ pub struct Kinds {
 
 // An account. `sort` is the code of the record that opened it (1 TM, 2 client, 3 CP) and 0 for the CM; `tm` is the place of a
 // client's TM and 0 for any other row.
-#[derive(Drop)]
+#[derive(Clone, Copy)]
 pub struct Row {
     pub sort: u8,
     pub live: bool,
@@ -29,7 +31,7 @@ pub struct Row {
 }
 
 // What needs and the close-out see of an account.
-#[derive(Drop)]
+#[derive(Clone, Copy)]
 pub struct Account {
     pub sort: u8,
     pub tm: u16,
@@ -38,14 +40,14 @@ pub struct Account {
 }
 
 // The rule by which government securities count as collateral: in full, or, since K7, less a tenth. A book is judged by the old one only where it is taken over.
-#[derive(Drop)]
+#[derive(Clone, Copy)]
 pub enum Rule {
     Old,
     New,
 }
 
 // `modes` says of each place whether its account is in risk reduction mode (K2); `needs` has the CM's and each TM's need at its place (K3).
-#[derive(Drop)]
+#[derive(Clone, Copy)]
 pub struct Book {
     pub count: u16,
     pub serial: u16,

@@ -1,4 +1,6 @@
 // What document 01's rules for one record speak of: the change that it makes, and what its verdict needs; `steps` decides.
+#![tactic(auto)]
+
 ghost use Rattle.std.specs.Prelude.{◌≡◌};
 ghost use Rattle.rules.specs.Numbered.{naming};
 
@@ -8,7 +10,7 @@ use rows::Row;
 pub mod kinds;
 
 // What a record does: nothing but a refusal, one row put anew, or one row opened.
-#[derive(Drop)]
+#[derive(Clone, Copy)]
 pub enum Change {
     Refuse(u8),
     Put(Row),
@@ -32,7 +34,7 @@ pub fn naming(account: u16, r: Record) -> Record
 }
 
 // What a record's verdict needs beside the row named: its mode, and what the other rows show.
-#[derive(Drop)]
+#[derive(Clone, Copy)]
 pub struct Beside {
     pub mode: bool,
     pub below: bool,

@@ -1,4 +1,6 @@
 // The records of a piece of the day file, carried out one after the other.
+#![tactic(auto)]
+
 ghost use Rattle.std.specs.Prelude.{true, ◌≡◌, ◌*◌, ◌≤◌, ◌/◌, length};
 ghost use Rattle.sums.specs.Choice.{pick};
 ghost use Rattle.book.specs.Facts.{Sound};
@@ -15,7 +17,7 @@ use steps::entry::{enter, leave};
 pub use table::Table;
 
 // The table after the records, the place reached, why they stopped, and the two counts.
-#[derive(Drop)]
+#[derive(Clone, Copy)]
 pub struct Ended {
     pub table: Table,
     pub place: usize,

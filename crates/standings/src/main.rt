@@ -1,4 +1,6 @@
 // The book after the day file on standard input, over a fresh book or the one in the file FROM: the closing line, then a line for each account with its standing.
+#![tactic(auto)]
+
 use feed::{Closing, Table};
 
 // Of a book that isn't sound nothing is told.

@@ -1,4 +1,6 @@
 // Checking brokers' daily collateral statements (K13).
+#![tactic(auto)]
+
 ghost use Rattle.std.specs.Prelude.{◌≡◌};
 ghost use Rattle.table.specs.Words.{turned_back};
 ghost use Rattle.statement.specs.Statements.{found, statement_finding};
@@ -13,7 +15,7 @@ mod records;
 pub use table::Table;
 
 // What a check finds: the refusal or 0, the place of the record at fault among the statement's records, counted from 0, and the number of the account wanted there, 0 where none is.
-#[derive(Drop)]
+#[derive(Clone, Copy)]
 pub struct Finding {
     pub refusal: u8,
     pub index: usize,

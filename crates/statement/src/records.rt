@@ -12,7 +12,7 @@ use rows::CEILING;
 
 // What a statement says of a client, in paise: received by the TM; of that retained by the TM and placed with the CM; of that retained by the CM (`held`) and
 // placed with the clearing corporation (`lodged`).
-#[derive(Drop)]
+#[derive(Clone, Copy)]
 pub(crate) struct Parts {
     pub received: u64,
     pub retained: u64,

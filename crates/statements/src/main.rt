@@ -1,4 +1,6 @@
 // Checks a TM's statement on standard input against the book in the file FROM (K13): prints 0 where it is accepted, and otherwise the refusal and where.
+#![tactic(auto)]
+
 ghost use Rattle.std.specs.Prelude.{false, ◌≡◌, length};
 ghost use Rattle.table.specs.Words.{turned_back};
 ghost use Rattle.statement.specs.Statements.{statement_finding};

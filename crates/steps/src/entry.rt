@@ -11,7 +11,7 @@ use table::modes::look_all;
 use table::needs::deemed_under;
 
 // What steps go by beside a table's own arrays: each account's collateral, the modes that a look leaves, and what is in excess under each account.
-#[derive(Drop)]
+#[derive(Clone, Copy)]
 pub struct Entered {
     pub kept: [u64; 256],
     pub modes: [bool; 256],

@@ -15,7 +15,7 @@ use rows::needs::counted_of;
 use table::places::word_at;
 
 // What an account leaves to the one that answers for it: what it is deemed, and its excess in tenths.
-#[derive(Drop)]
+#[derive(Clone, Copy)]
 pub struct Due {
     pub plain: u64,
     pub tenths: u64,

@@ -1,4 +1,6 @@
 // One record carried out on the table's words in place: decided by its code, then kept needs (K3) and modes (K2) follow.
+#![tactic(auto)]
+
 ghost use Rattle.std.specs.Prelude.{◌≡◌, ◌<◌, true, length};
 ghost use Rattle.rules.specs.Refusals.{is_opening};
 ghost use Rattle.table.specs.Words.{marks_from};
@@ -22,7 +24,7 @@ pub mod entry;
 mod following;
 
 // Where a book stands: how many rows it has, the next serial, the next number, and whether no record was carried out since it was handed over.
-#[derive(Drop)]
+#[derive(Clone, Copy)]
 pub struct At {
     pub count: u16,
     pub serial: u16,
@@ -31,7 +33,7 @@ pub struct At {
 }
 
 // What a record came to: the refusal or 0, the number given or 0, 1 for one carried out, and the count, the serial and the next number after it.
-#[derive(Drop)]
+#[derive(Clone, Copy)]
 pub struct Gone {
     pub refusal: u8,
     pub given: u16,
@@ -42,7 +44,7 @@ pub struct Gone {
 }
 
 // What a record asks of the row at a place, by its code.
-#[derive(Drop)]
+#[derive(Clone, Copy)]
 pub struct Request {
     pub code: u8,
     pub place: u16,

@@ -8,7 +8,7 @@ use libc::EEXIST;
 const LAST: usize = 99;
 
 // What a try came to: the descriptor, or less than 0, and errno behind it.
-#[derive(Drop)]
+#[derive(Clone, Copy)]
 pub(crate) struct Tried {
     pub(crate) fd: i32,
     pub(crate) error: i32,

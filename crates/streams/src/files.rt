@@ -12,7 +12,7 @@ use libc::STDERR_FILENO;
 const BESIDE: usize = 4099;
 
 // A file's number where it could be opened; one below 0 where not.
-#[derive(Drop)]
+#[derive(Clone, Copy)]
 pub struct Opened {
     pub failed: bool,
     pub fd: i32,

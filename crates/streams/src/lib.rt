@@ -1,4 +1,6 @@
 // Bytes read from and written to a descriptor, whole. A call that a signal interrupted is tried again; one that failed is told by whoever asked.
+#![tactic(auto)]
+
 ghost use Rattle.std.specs.Prelude.{true, ◌≡◌, ◌≤◌, ◌<◌, ltb, length};
 ghost use Rattle.streams.specs.Calls.{interrupted_by, moved_by, stopped_at};
 
@@ -12,7 +14,7 @@ pub mod words;
 const AGAIN: usize = 100;
 
 // How many bytes were moved, and whether a call failed after them.
-#[derive(Drop)]
+#[derive(Clone, Copy)]
 pub struct Moved {
     pub failed: bool,
     pub count: usize,

@@ -8,7 +8,7 @@ use crate::{Moved, read_all, write_all};
 use libc::{STDERR_FILENO, STDIN_FILENO, STDOUT_FILENO};
 
 // Whether help was asked for, whether it couldn't be told whole, and how many bytes of it were told.
-#[derive(Drop)]
+#[derive(Clone, Copy)]
 pub struct Helped {
     pub asked: bool,
     pub failed: bool,

@@ -1,1 +1,3 @@
 // Definitions and laws of sums, choices and tables of tests: all of it is in specs/ and proofs/.
+#![tactic(auto)]
+

@@ -1,4 +1,6 @@
 // The table stored by amount and then by account (K12), turned over from the old order's book and back.
+#![tactic(auto)]
+
 ghost use Rattle.std.specs.Prelude.{◌≡◌, length};
 ghost use Rattle.table.specs.Words.{marks_from, turned, turned_back};
 ghost use Rattle.table.specs.Facts.{Sized};
@@ -13,7 +15,7 @@ pub mod places;
 
 // Amount k of account i is word 256 k + i: 0 to 3 received, 4 to 7 allocated, 8 pledged, 9 margin. The modes and the
 // kept needs (K3), one more run of words, stand as in the old order.
-#[derive(Drop)]
+#[derive(Clone, Copy)]
 pub struct Table {
     pub count: u16,
     pub serial: u16,

@@ -1,5 +1,7 @@
 // Takes the book in the file FROM over to the new rule (K7): the refusal or 0 on standard output. The book so taken over goes into the file TO before that; where it is refused, nothing
 // is written there.
+#![tactic(auto)]
+
 use feed::Table;
 use libc::STDERR_FILENO;
 use streams::standard::write_output;

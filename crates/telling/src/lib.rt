@@ -1,4 +1,6 @@
 // The records of a piece carried out on a table's words, which are lent, each told by its line, and where lines are explained by how much would have passed.
+#![tactic(auto)]
+
 ghost use Rattle.std.specs.Prelude.{◌≡◌, ◌+◌, ◌≤◌, ◌<◌, length};
 ghost use Rattle.table.specs.Words.{marks_from};
 ghost use Rattle.book.specs.Facts.{Sound};
@@ -25,7 +27,7 @@ use text::put_spaced;
 const LINE: usize = 147;
 
 // What the records came to, and how long their lines are.
-#[derive(Drop)]
+#[derive(Clone, Copy)]
 pub struct Told {
     pub went: Went,
     pub text: usize,

@@ -4,7 +4,7 @@ ghost use Rattle.text.specs.Decimals.{digit_in, with_digit, decimal_of};
 
 const LARGEST: u64 = 18_446_744_073_709_551_615;
 
-#[derive(Drop)]
+#[derive(Clone, Copy)]
 pub enum Decimal {
     Is(u64),
     No,

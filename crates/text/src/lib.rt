@@ -1,4 +1,6 @@
 // Words and numbers put into a lent room of bytes, one after the other. Internal: no call outside the library names them.
+#![tactic(auto)]
+
 ghost use Rattle.std.specs.Prelude.{◌+◌, ◌*◌, ◌≤◌, length, take};
 ghost use Rattle.text.specs.Numbers.{followed, spaced, and_spaces};
 ghost use Rattle.text.specs.Words.{and_space, sort_word, refused_at};

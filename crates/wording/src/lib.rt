@@ -1,4 +1,6 @@
 // A day file, or its text, that comes in pieces and is turned into the other form.
+#![tactic(auto)]
+
 ghost use Rattle.std.specs.Prelude.{true, false, ◌≡◌, length};
 ghost use Rattle.sums.specs.Choice.{pick};
 ghost use Rattle.sums.specs.Room.{at_start};
@@ -20,7 +22,7 @@ const ROOM: usize = 32_768;
 const TURNS: u64 = 281_474_976_710_656;
 
 // What a file came to: the number of the first line that says nothing and its fault, or 0 and 0; how many bytes were printed; whether a read or a write failed.
-#[derive(Drop)]
+#[derive(Clone, Copy)]
 pub struct Worded {
     pub failed: bool,
     pub line: u64,

@@ -14,7 +14,7 @@ use dayfile::{Found, Read, Wrote, found_at, read_at};
 use text::put_text;
 
 // What one part came to: the place after what was put and the running serial then, or a fault.
-#[derive(Drop)]
+#[derive(Clone, Copy)]
 enum Step {
     Puts(usize, u16),
     Fails(u8),
@@ -94,7 +94,7 @@ pub fn bytes_of_text(text: &[u8], last: bool, running: u16, room: &mut [u8]) -> 
 }
 
 // Where a part ends, and whether it is there as a whole.
-#[derive(Drop)]
+#[derive(Clone, Copy)]
 struct End {
     place: usize,
     whole: bool,

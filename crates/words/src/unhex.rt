@@ -23,7 +23,7 @@ fn hex_value(b: u8) -> u8
 }
 
 // How many bytes were read, and the place after them.
-#[derive(Drop)]
+#[derive(Clone, Copy)]
 pub(crate) struct Count {
     pub count: usize,
     pub next: usize,

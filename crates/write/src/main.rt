@@ -1,4 +1,6 @@
 // A day file from text in the file TEXT, a record a line. A line that says nothing is told on standard error, and nothing is written then: TEXT is judged whole before it is turned.
+#![tactic(auto)]
+
 use libc::STDERR_FILENO;
 
 fn too_few_words() -> bool {
