@@ -20,7 +20,7 @@ returns-then-not-table_sound c =
     c.table_sound.ensures ∙ sound-serial t.count t.serial (marks_of t) t.amounts t.modes t.needs t.next t.numbers
     in
     let a = c.args in
-    sym (unsound-evening (turned_back a.t1) a.amount (sym tested ∙ not-true _ c.if-not-table_sound.true-raw))
+    sym (unsound-evening (turned_back a.t) a.amount (sym tested ∙ not-true _ c.if-not-table_sound.true-raw))
 
 pub amount_sum-total-requires : goal.amount_sum-total-requires
 amount_sum-total-requires c =

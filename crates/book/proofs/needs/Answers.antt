@@ -23,8 +23,9 @@ returns-then-not-table_sound c =
     c.table_sound.ensures ∙ sound-serial t.count t.serial (marks_of t) t.amounts t.modes t.needs t.next t.numbers
     in
     let a = c.args in
-    needs-by (turned_back a.t1) a.room-1.now 1
-    (needs-unsound (turned_back a.t1) a.room-1.now (sym tested ∙ not-true _ c.if-not-table_sound.true-raw)) refl refl
+    let whole = needs-by (turned_back a.t) a.room.now 1
+    (needs-unsound (turned_back a.t) a.room.now (sym tested ∙ not-true _ c.if-not-table_sound.true-raw)) refl refl in
+    record { value = whole.0; room_after = whole.1 }
 
 pub returns-then-room-count : goal.returns-then-room-count
 returns-then-room-count c =
@@ -36,8 +37,9 @@ returns-then-room-count c =
     sym tested ∙ not-false _ c.if-not-table_sound.false-raw
     in
     let a = c.args in
-    needs-by (turned_back a.t1) a.room-1.now 15
-    (needs-no-room (turned_back a.t1) a.room-1.now holds (λ e. omega (arith, c.if-room-count.true))) refl refl
+    let whole = needs-by (turned_back a.t) a.room.now 15
+    (needs-no-room (turned_back a.t) a.room.now holds (λ e. omega (arith, c.if-room-count.true))) refl refl in
+    record { value = whole.0; room_after = whole.1 }
 
 pub put_needs-requires : goal.put_needs-requires
 put_needs-requires c =
@@ -66,6 +68,7 @@ returns c =
     let put = c in
     let fits = put in
     let a = fits.args in
-    let t = a.t1 in
-    needs-by (turned_back t) a.room-1.now 0 (needs-given (turned_back t) a.room-1.now holds fits.if-room-count.false) refl
-    (put.put_needs.ensures ∙ ap (λ v. list_to (need v) t.count) (seen-view t.count t.serial (marks_of t) t.amounts t.modes t.needs t.next t.numbers))
+    let t = a.t in
+    let whole = needs-by (turned_back t) a.room.now 0 (needs-given (turned_back t) a.room.now holds fits.if-room-count.false) refl
+    (put.put_needs.ensures ∙ ap (λ v. list_to (need v) t.count) (seen-view t.count t.serial (marks_of t) t.amounts t.modes t.needs t.next t.numbers)) in
+    record { value = whole.0; room_after = whole.1 }

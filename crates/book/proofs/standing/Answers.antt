@@ -4,11 +4,12 @@ use mathlib.Core.Path.{◌≡◌, sym, ap, ◌∙◌}
 use Prim.Native.Nat.{ℕ}
 use native.Mathlib.Omega.{arith}
 use borrow.Author.Tests.{lt-ltb, le-ltb, not-true, not-false}
-use Rattle.rows.specs.Rows.{mode_at, view, is_live}
+use Rattle.rows.specs.Rows.{row_at, mode_at, view, is_live}
 use Rattle.rows.specs.KeptNeeds.{kept_need}
 use Rattle.rows.specs.Inner.{Ranged}
 use Rattle.table.specs.declared.Table.{Table}
-use Rattle.table.specs.Words.{marks_of, turned_back}
+use Rattle.table.specs.Words.{marks_of, turned_back, row_in}
+use Rattle.table.proofs.Gathered.{row-in}
 use Rattle.table.proofs.Seen.{seen-view, seen-ranged}
 use Rattle.book.specs.Sound.{sound_b}
 use Rattle.book.specs.Asked.{standing_refusal, figures_of}
@@ -25,7 +26,7 @@ returns-then-not-table_sound c =
     c.table_sound.ensures ∙ sound-serial t.count t.serial (marks_of t) t.amounts t.modes t.needs t.next t.numbers
     in
     let a = c.args in
-    let b = turned_back a.t1 in
+    let b = turned_back a.t in
     standing_by b a.account 1
     (unsound-refused b a.account (sym tested ∙ not-true _ c.if-not-table_sound.true-raw))
     c.refused.ensures
@@ -100,6 +101,11 @@ returns-then-not-t-i c =
     let ranged : Ranged (turned_back c.args.t) =
     sound-test-ranged (turned_back c.args.t) holds
     in
+    let row : let t = handed in
+    row_at (turned_back t) place ≡ row_in (marks_of t) t.amounts place =
+    let t = handed in
+    row-in (marks_of t) t.amounts place (omega (arith, ranged.most, c.if-place-count.false))
+    in
     let given = c in
     let at = given in
     standing_by (turned_back handed) at.args.account 7
@@ -167,12 +173,12 @@ figures-requires c =
     let given = c in
     let at = given in
     let t = handed in
-    let v = seen-view t.count t.serial (marks_of t) t.amounts t.modes t.needs t.next t.numbers-1 in
+    let v = seen-view t.count t.serial (marks_of t) t.amounts t.modes t.needs t.next t.numbers in
     let s = sound→ (turned_back t) holds in (
-      seen-ranged t.count t.serial (marks_of t) t.amounts t.modes t.needs t.next t.numbers-1 ranged,
+      seen-ranged t.count t.serial (marks_of t) t.amounts t.modes t.needs t.next t.numbers ranged,
       rw v s.shaped,
       given.if-place-count.false,
-      s.kept-1 place (omega (arith, s.most, given.if-place-count.false)) ∙ ap (λ w. kept_need w place) (sym v),
+      s.kept place (omega (arith, s.most, given.if-place-count.false)) ∙ ap (λ w. kept_need w place) (sym v),
     )
 
 pub returns : goal.returns
@@ -193,6 +199,11 @@ returns c =
     let ranged : Ranged (turned_back c.args.t) =
     sound-test-ranged (turned_back c.args.t) holds
     in
+    let row : let t = handed in
+    row_at (turned_back t) place ≡ row_in (marks_of t) t.amounts place =
+    let t = handed in
+    row-in (marks_of t) t.amounts place (omega (arith, ranged.most, c.if-place-count.false))
+    in
     let live = c in
     let given = live in
     let at = given in
@@ -203,5 +214,5 @@ returns c =
     standing_by b n 0
     (live-answered b n holds (ap (is_live b) (sym e) ∙ simp (lt-ltb place t.count given.if-place-count.false, ap (λ r. r.live) row ∙ not-false _ live.if-not-t-i.false-raw)))
     (c.figures.ensures
-    ∙ ap (λ v. figures_of v (mode_at b place) place) (seen-view t.count t.serial (marks_of t) t.amounts t.modes t.needs t.next t.numbers-1)
+    ∙ ap (λ v. figures_of v (mode_at b place) place) (seen-view t.count t.serial (marks_of t) t.amounts t.modes t.needs t.next t.numbers)
     ∙ ap (λ p. figures_of (view b) (mode_at b p) p) e)

@@ -30,61 +30,57 @@ use Rattle.book.proofs.take_over.Goals as goal
 abbrev kept_old : Table → Bool
 kept_old t = formed_b (turned_back t) && kept_by Old (turned_back t)
 
-ranged : (t : Table) → SoundRows (turned_back t) → Ranged (seen_book t.count t.sort-1 t.tm-1 t.amounts-1)
-ranged t s = seen-ranged t.count t.serial (marks_of t) t.amounts-1 t.modes t.needs-1 t.next t.numbers-1 (record { table = s.table; most = s.most; ranges = s.ranges })
+ranged : (t : Table) → SoundRows (turned_back t) → Ranged (seen_book t.count t.sort t.tm t.amounts)
+ranged t s = seen-ranged t.count t.serial (marks_of t) t.amounts t.modes t.needs t.next t.numbers (record { table = s.table; most = s.most; ranges = s.ranges })
 
-is_seen : (t : Table) → view (seen_book t.count t.sort-1 t.tm-1 t.amounts-1) ≡ view (turned_back t)
-is_seen t = seen-view t.count t.serial (marks_of t) t.amounts-1 t.modes t.needs-1 t.next t.numbers-1
+is_seen : (t : Table) → view (seen_book t.count t.sort t.tm t.amounts) ≡ view (turned_back t)
+is_seen t = seen-view t.count t.serial (marks_of t) t.amounts t.modes t.needs t.next t.numbers
 
 pub returns-then-not-table_kept : goal.returns-then-not-table_kept
 unfolding sound_by_the_old
 returns-then-not-table_kept c =
     let handed : Table =
-        c.args.t
+    c.args.t
     in
     let tested : kept_old handed ≡ c.table_kept.result =
-        let t = handed in sym (c.table_kept.ensures ∙ kept-serial Old t.count t.serial (marks_of t) t.amounts-1 t.modes t.needs-1 t.next t.numbers-1)
+    let t = handed in sym (c.table_kept.ensures ∙ kept-serial Old t.count t.serial (marks_of t) t.amounts t.modes t.needs t.next t.numbers)
     in not_taken handed c.sizes.ensures (ap (λ x. x && covered_by Old (turned_back handed)) (tested ∙ not-true _ c.if-not-table_kept.true-raw))
 
 pub account_at-cm-requires : goal.account_at-cm-requires
 account_at-cm-requires c =
     let handed : Table =
-        c.args.t
+    c.args.t
     in
     let tested : kept_old handed ≡ c.table_kept.result =
-        let t = handed in sym (c.table_kept.ensures ∙ kept-serial Old t.count t.serial (marks_of t) t.amounts-1 t.modes t.needs-1 t.next t.numbers-1)
+    let t = handed in sym (c.table_kept.ensures ∙ kept-serial Old t.count t.serial (marks_of t) t.amounts t.modes t.needs t.next t.numbers)
     in
     let holds : kept_old handed ≡ true =
-        tested ∙ not-false _ c.if-not-table_kept.false-raw
+    tested ∙ not-false _ c.if-not-table_kept.false-raw
     in
     let rows : SoundRows (turned_back handed) =
-        formed→ _ (and_left _ _ holds)
+    formed→ _ (and_left _ _ holds)
     in
     let e = c in
     (omega arith, (ranged handed rows).ranges 0 rows.shaped.some)
 
 pub returns-then-cm-t : goal.returns-then-cm-t
-unfolding sound_by_the_old
-unfolding covered_by
+unfolding sound_by_the_old covered_by
 returns-then-cm-t c =
     let handed : Table =
-        c.args.t
+    c.args.t
     in
     let tested : kept_old handed ≡ c.table_kept.result =
-        let t = handed in sym (c.table_kept.ensures ∙ kept-serial Old t.count t.serial (marks_of t) t.amounts-1 t.modes t.needs-1 t.next t.numbers-1)
+    let t = handed in sym (c.table_kept.ensures ∙ kept-serial Old t.count t.serial (marks_of t) t.amounts t.modes t.needs t.next t.numbers)
     in
     let holds : kept_old handed ≡ true =
-        tested ∙ not-false _ c.if-not-table_kept.false-raw
+    tested ∙ not-false _ c.if-not-table_kept.false-raw
     in
-    let covers : (let t = handed in covered_by Old (turned_back t) ≡ leb (get_or t.needs-1 0 0) c.account_at-cm.result.collateral) =
-        λ (c : tie.After-account-at) → (let t. handed in covered_by Old (turned_back t) ≡ leb (get_or t.needs-1 0 0) c.account_at-cm.result.collateral)
-unfolding covered_by
-covers =
+    let covers : (let t = handed in covered_by Old (turned_back t) ≡ leb (get_or t.needs 0 0) c.account_at-cm.result.collateral) =
     let e = c in
     let t = handed in
     let v = view_by Old (turned_back t) in
-    sym (ap (λ n. leb n c.account_at-cm.result.collateral) (kept→ v t.needs-1 (and_right (formed_b (turned_back t)) (kept_by Old (turned_back t)) holds) 0 (omega arith) ∙ kept-CM v)
-    ∙ ap (λ a. leb (need_cm v) a.collateral) (c.account_at-cm.ensures ∙ seen-account t.count t.serial (marks_of t) t.amounts-1 t.modes t.needs-1 t.next t.numbers-1 Old 0))
+    sym (ap (λ n. leb n c.account_at-cm.result.collateral) (kept→ v t.needs (and_right (formed_b (turned_back t)) (kept_by Old (turned_back t)) holds) 0 (omega arith) ∙ kept-CM v)
+    ∙ ap (λ a. leb (need_cm v) a.collateral) (c.account_at-cm.ensures ∙ seen-account t.count t.serial (marks_of t) t.amounts t.modes t.needs t.next t.numbers Old 0))
     in
     let a = c in
     let e = a in
@@ -93,16 +89,16 @@ covers =
 pub needs_afresh-requires : goal.needs_afresh-requires
 needs_afresh-requires c =
     let handed : Table =
-        c.args.t
+    c.args.t
     in
     let tested : kept_old handed ≡ c.table_kept.result =
-        let t = handed in sym (c.table_kept.ensures ∙ kept-serial Old t.count t.serial (marks_of t) t.amounts-1 t.modes t.needs-1 t.next t.numbers-1)
+    let t = handed in sym (c.table_kept.ensures ∙ kept-serial Old t.count t.serial (marks_of t) t.amounts t.modes t.needs t.next t.numbers)
     in
     let holds : kept_old handed ≡ true =
-        tested ∙ not-false _ c.if-not-table_kept.false-raw
+    tested ∙ not-false _ c.if-not-table_kept.false-raw
     in
     let rows : SoundRows (turned_back handed) =
-        formed→ _ (and_left _ _ holds)
+    formed→ _ (and_left _ _ holds)
     in
     let e = c in
     let t = handed in
@@ -110,27 +106,23 @@ needs_afresh-requires c =
     (ranged t rows, subst Shaped same rows.shaped, subst NoneBeyond same (none-beyond _ rows), refl)
 
 pub returns : goal.returns
-unfolding sound_by_the_old
-unfolding covered_by
+unfolding sound_by_the_old covered_by
 returns c =
     let handed : Table =
-        c.args.t
+    c.args.t
     in
     let tested : kept_old handed ≡ c.table_kept.result =
-        let t = handed in sym (c.table_kept.ensures ∙ kept-serial Old t.count t.serial (marks_of t) t.amounts-1 t.modes t.needs-1 t.next t.numbers-1)
+    let t = handed in sym (c.table_kept.ensures ∙ kept-serial Old t.count t.serial (marks_of t) t.amounts t.modes t.needs t.next t.numbers)
     in
     let holds : kept_old handed ≡ true =
-        tested ∙ not-false _ c.if-not-table_kept.false-raw
+    tested ∙ not-false _ c.if-not-table_kept.false-raw
     in
-    let covers : (let t = handed in covered_by Old (turned_back t) ≡ leb (get_or t.needs-1 0 0) c.account_at-cm.result.collateral) =
-        λ (c : tie.After-account-at) → (let t. handed in covered_by Old (turned_back t) ≡ leb (get_or t.needs-1 0 0) c.account_at-cm.result.collateral)
-unfolding covered_by
-covers =
+    let covers : (let t = handed in covered_by Old (turned_back t) ≡ leb (get_or t.needs 0 0) c.account_at-cm.result.collateral) =
     let e = c in
     let t = handed in
     let v = view_by Old (turned_back t) in
-    sym (ap (λ n. leb n c.account_at-cm.result.collateral) (kept→ v t.needs-1 (and_right (formed_b (turned_back t)) (kept_by Old (turned_back t)) holds) 0 (omega arith) ∙ kept-CM v)
-    ∙ ap (λ a. leb (need_cm v) a.collateral) (c.account_at-cm.ensures ∙ seen-account t.count t.serial (marks_of t) t.amounts-1 t.modes t.needs-1 t.next t.numbers-1 Old 0))
+    sym (ap (λ n. leb n c.account_at-cm.result.collateral) (kept→ v t.needs (and_right (formed_b (turned_back t)) (kept_by Old (turned_back t)) holds) 0 (omega arith) ∙ kept-CM v)
+    ∙ ap (λ a. leb (need_cm v) a.collateral) (c.account_at-cm.ensures ∙ seen-account t.count t.serial (marks_of t) t.amounts t.modes t.needs t.next t.numbers Old 0))
     in
     let left = c in
     let a = left in

@@ -1,6 +1,6 @@
 -- `gaps::close_gaps` meets its contract. The invariant: the rows passed are closed up, and the rest is as it was.
 use mathlib.Core.Path.{◌≡◌}
-use Prim.Native.Nat.{◌-◌, ◌<◌}
+use Prim.Native.Nat.{◌<◌}
 use native.Mathlib.Omega.{arith}
 use Rattle.sums.proofs.Sums.{only-most}
 use Rattle.gaps.proofs.Passing.{going_start, going_on, going_end, place-low, tm-inside}
@@ -44,45 +44,33 @@ slide_row-kept-requires c =
 
 pub slide_mode-requires : goal.slide_mode-requires
 slide_mode-requires c =
-    let turn : tie.In-loop invariant-loop decreases-loop =
-    c
-    in
     let i-inside : c.loop-i.i < 256 =
     omega (arith, c.requires.closable.most)
     in
     let k-inside : c.loop-i.k < 256 =
     omega (arith, place-low c.loop-i.invariant.1, i-inside)
-    in let t = turn in (i-inside, k-inside)
+    in let t = c in (i-inside, k-inside)
 
 pub slide_need-requires : goal.slide_need-requires
 slide_need-requires c =
-    let turn : tie.In-loop invariant-loop decreases-loop =
-    c
-    in
     let i-inside : c.loop-i.i < 256 =
     omega (arith, c.requires.closable.most)
     in
     let k-inside : c.loop-i.k < 256 =
     omega (arith, place-low c.loop-i.invariant.1, i-inside)
-    in let t = turn in (i-inside, k-inside)
+    in let t = c in (i-inside, k-inside)
 
 pub slide_number-requires : goal.slide_number-requires
 slide_number-requires c =
-    let turn : tie.In-loop invariant-loop decreases-loop =
-    c
-    in
     let i-inside : c.loop-i.i < 256 =
     omega (arith, c.requires.closable.most)
     in
     let k-inside : c.loop-i.k < 256 =
     omega (arith, place-low c.loop-i.invariant.1, i-inside)
-    in let t = turn in (i-inside, k-inside)
+    in let t = c in (i-inside, k-inside)
 
 pub overflow_add-k : goal.overflow_add-k
 overflow_add-k c =
-    let turn : tie.In-loop invariant-loop decreases-loop =
-    c
-    in
     let i-inside : c.loop-i.i < 256 =
     omega (arith, c.requires.closable.most)
     in
@@ -90,35 +78,26 @@ overflow_add-k c =
     omega (arith, place-low c.loop-i.invariant.1, i-inside)
     in
     let row = c in
-    omega (arith, k-inside turn, c.only_if.ensures, only-most row.slide_row-kept.result 1)
+    omega (arith, k-inside, c.only_if.ensures, only-most row.slide_row-kept.result 1)
 
 pub overflow_add-i : goal.overflow_add-i
 overflow_add-i c =
-    let turn : tie.In-loop invariant-loop decreases-loop =
-    c
-    in
     let i-inside : c.loop-i.i < 256 =
     omega (arith, c.requires.closable.most)
-    in omega (arith, i-inside turn)
+    in omega (arith, i-inside)
 
 pub loop-i-smaller : goal.loop-i-smaller
-loop-i-smaller c =
-    let turn : tie.In-loop invariant-loop decreases-loop =
-    c
-    in let t = turn in omega (arith, t.loop-i-test.taken)
+loop-i-smaller c = let t = c in omega (arith, t.loop-i-test.true)
 
 pub loop-i-preserved : goal.loop-i-preserved
 loop-i-preserved c =
-    let turn : tie.In-loop invariant-loop decreases-loop =
-    c
-    in
     let number = c in
     let need = number in
     let mode = need in
     let row = mode in
-    let t = turn in (
-      omega (arith, t.loop-i-test.taken),
-      going_on _ t.requires.closable t.loop-i-test.taken t.loop-i.inv.1 row.slide_row-kept.ensures
+    let t = row in (
+      omega (arith, t.loop-i-test.true),
+      going_on _ t.requires.closable t.loop-i-test.true t.loop-i.invariant.1 row.slide_row-kept.ensures
           mode.slide_mode.ensures need.slide_need.ensures number.slide_number.ensures (omega (arith, c.only_if.ensures)),
     )
 

@@ -10,7 +10,7 @@ returns-then-not-row c =
     let out = c in
     let row = out in
     let s = row in
-    slid-off s.requires.0 s.requires.1 row.row_at-row.ensures out.no_row.ensures out.put_row.ensures (not-true _ c.if-not-row.true)
+    slid-off s.requires.0 s.requires.1 row.row_at-row.ensures out.no_row.ensures (out.put_row.ensures.sort_after, (out.put_row.ensures.live_after, (out.put_row.ensures.tm_after, out.put_row.ensures.w_after))) (not-true _ c.if-not-row.true)
 
 pub bounds-to-row : goal.bounds-to-row
 bounds-to-row c =
@@ -26,5 +26,5 @@ returns c =
     let out = left in
     let row = out in
     let s = row in
-    slid-on s.requires.0 s.requires.1 row.row_at-row.ensures out.no_row.ensures out.put_row.ensures
-    s.requires.2 (not-false _ left.if-not-row.false) c.with_tm.ensures c.put_row-2.ensures
+    slid-on s.requires.0 s.requires.1 row.row_at-row.ensures out.no_row.ensures (out.put_row.ensures.sort_after, (out.put_row.ensures.live_after, (out.put_row.ensures.tm_after, out.put_row.ensures.w_after)))
+    s.requires.2 (not-false _ left.if-not-row.false) c.with_tm.ensures (c.put_row-2.ensures.sort_after, (c.put_row-2.ensures.live_after, (c.put_row-2.ensures.tm_after, c.put_row-2.ensures.w_after)))

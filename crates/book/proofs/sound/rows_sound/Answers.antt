@@ -2,7 +2,7 @@
 use mathlib.Core.Bool.{◌&&◌}
 use mathlib.Core.List.{[]}
 use mathlib.Core.Path.{refl, sym, ap, ap₂, ◌∙◌}
-use Prim.Native.Nat.{ℕ, ◌-◌}
+use Prim.Native.Nat.{ℕ}
 use native.Mathlib.Omega.{arith}
 use Rattle.sums.specs.Sum.{all}
 use Rattle.sums.proofs.Sums.{all_none, all-step}

@@ -9,13 +9,17 @@ use Rattle.sums.specs.Sum.{all}
 use Rattle.sums.proofs.Sums.{all-at}
 use Rattle.rows.specs.declared.Rule.TheVariants.{New}
 use Rattle.rows.specs.declared.Book.{Book}
+use Rattle.rows.specs.View.{View}
 use Rattle.rows.specs.Rows.{view_by}
 use Rattle.rows.specs.Facts.{Shaped, NoneBeyond}
 use Rattle.rows.specs.KeptNeeds.{all_kept}
+use Rattle.rows.specs.Inner.{Ranged}
 use Rattle.table.specs.Words.{Marks, marks_from, book_from}
+use Rattle.table.specs.Facts.{seen_book}
 use Rattle.table.proofs.Gathered.{rows-length}
-use Rattle.table.proofs.Seen.{seen-view-by}
+use Rattle.table.proofs.Seen.{seen-view-by, seen-ranged}
 use Rattle.book.specs.Sound.{row_sound, mode_sound, formed_b}
+use Rattle.book.proofs.RowTests.{rows-ranged}
 use Rattle.book.proofs.SoundTest.{shaped-rows, blank-beyond}
 use Rattle.book.proofs.ByRule.{shaped-by}
 use Rattle.book.proofs.SoundInPlace.{rows-modes, modes-in-place}
@@ -49,6 +53,9 @@ returns-then-not-modes_sound c =
     let marks_in : Marks =
     marks_from c.args.sort.now c.args.live.now c.args.tm.now
     in
+    let book_of : Book =
+    book_from c.args.count 0 marks_in c.args.w.now c.args.modes.now c.args.needs.now c.args.next c.args.numbers
+    in
     let modes-tested : all 256 (mode_sound book_of) ≡ c.modes_sound.result =
     let start = c in
     sym (c.modes_sound.ensures ∙ modes-in-place start.args.count marks_in start.args.w.now start.args.modes.now start.args.needs.now start.args.next start.args.numbers)
@@ -72,6 +79,17 @@ needs_kept-requires c =
     in
     let rows-hold : all 256 (row_sound book_of) ≡ true =
     rows-tested ∙ not-false _ c.if-not-rows_sound.false-raw
+    in
+    let ranged : let a = c.args in
+    Ranged (seen_book a.count a.sort.now a.tm.now a.w.now) =
+    let past = c in
+    let start = past in
+    let a = start.args in
+    seen-ranged a.count 0 marks_in a.w.now a.modes.now a.needs.now a.next a.numbers
+    (rows-ranged book_of (rows-length marks_in a.w.now) past.if-count-gt256.false rows-hold)
+    in
+    let seen : View =
+    let a = c.args in view_by a.rule (seen_book a.count a.sort.now a.tm.now a.w.now)
     in
     let is_seen : seen ≡ view_by c.args.rule book_of =
     let start = c in
@@ -107,6 +125,9 @@ returns c =
     let modes-tested : all 256 (mode_sound book_of) ≡ c.modes_sound.result =
     let start = c in
     sym (c.modes_sound.ensures ∙ modes-in-place start.args.count marks_in start.args.w.now start.args.modes.now start.args.needs.now start.args.next start.args.numbers)
+    in
+    let seen : View =
+    let a = c.args in view_by a.rule (seen_book a.count a.sort.now a.tm.now a.w.now)
     in
     let is_seen : seen ≡ view_by c.args.rule book_of =
     let start = c in

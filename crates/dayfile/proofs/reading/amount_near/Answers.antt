@@ -7,7 +7,7 @@ use Rattle.dayfile.proofs.reading.amount_near.Goals as goal
 pub overflow_mul-result : goal.overflow_mul-result
 overflow_mul-result c =
     let start = c in
-    times-fits start.args.bit c.number8.result start.requires.1 c.number8.type-inv
+    times-fits start.args.bit c.number8.result start.requires.1 c.number8.type_inv
 
 pub returns : goal.returns
 returns c =

@@ -3,4 +3,6 @@ use Rattle.dayfile.proofs.Numbers.{read_named}
 use Rattle.dayfile.proofs.reading.read_at.Goals as goal
 
 pub returns : goal.returns
-returns c = read_named _ _ _ c.answer_at.ensures
+returns c =
+    let whole = read_named _ _ _ c.answer_at.ensures in
+    record { value = whole.0; result_value = whole.1 }

@@ -17,37 +17,37 @@ put2-requires c = simp length-set (omega (arith, length-parts c.args.«record»,
 pub put2-requires-2 : goal.put2-requires-2
 put2-requires-2 c =
     let a = c.args in
-    omega (arith, length-parts a.«record», length_two a.room-1.now a.«record».code a.«record».named)
+    omega (arith, length-parts a.«record», length_two a.room.now a.«record».code a.«record».named)
 
 pub put_amount-p1-requires : goal.put_amount-p1-requires
 put_amount-p1-requires c =
     let a = c.args in
-    omega (arith, length-parts a.«record», length_two a.room-1.now a.«record».code a.«record».named)
+    omega (arith, length-parts a.«record», length_two a.room.now a.«record».code a.«record».named)
 
 pub put_amount-p2-requires : goal.put_amount-p2-requires
 put_amount-p2-requires c =
     let a = c.args in
-    omega (arith, length-parts a.«record», length_two a.room-1.now a.«record».code a.«record».named)
+    omega (arith, length-parts a.«record», length_two a.room.now a.«record».code a.«record».named)
 
 pub put_amount-p3-requires : goal.put_amount-p3-requires
 put_amount-p3-requires c =
     let a = c.args in
-    omega (arith, length-parts a.«record», length_two a.room-1.now a.«record».code a.«record».named)
+    omega (arith, length-parts a.«record», length_two a.room.now a.«record».code a.«record».named)
 
 pub put_amount-p4-requires : goal.put_amount-p4-requires
 put_amount-p4-requires c =
     let a = c.args in
-    omega (arith, length-parts a.«record», length_two a.room-1.now a.«record».code a.«record».named)
+    omega (arith, length-parts a.«record», length_two a.room.now a.«record».code a.«record».named)
 
 pub put_amount-p5-requires : goal.put_amount-p5-requires
 put_amount-p5-requires c =
     let a = c.args in
-    omega (arith, length-parts a.«record», length_two a.room-1.now a.«record».code a.«record».named)
+    omega (arith, length-parts a.«record», length_two a.room.now a.«record».code a.«record».named)
 
 pub put_amount-requires : goal.put_amount-requires
 put_amount-requires c =
     let a = c.args in
-    omega (arith, length-parts a.«record», length_two a.room-1.now a.«record».code a.«record».named)
+    omega (arith, length-parts a.«record», length_two a.room.now a.«record».code a.«record».named)
 
 pub shape_of-room : goal.shape_of-room
 shape_of-room c =
@@ -60,7 +60,7 @@ shape_of-room c =
     let ca = c1 in
     let cs = ca in
     let a = cs.args in
-    omega (arith, length_two a.room-1.now a.«record».code a.«record».named, c6.put_amount.auto.0, c5.put_amount-p5.auto.0, c4.put_amount-p4.auto.0, c3.put_amount-p3.auto.0, c2.put_amount-p2.auto.0, c1.put_amount-p1.auto.0, ca.put2-2.auto.0, cs.put2.auto.0)
+    omega (arith, length_two a.room.now a.«record».code a.«record».named, c6.put_amount.auto.0, c5.put_amount-p5.auto.0, c4.put_amount-p4.auto.0, c3.put_amount-p3.auto.0, c2.put_amount-p2.auto.0, c1.put_amount-p1.auto.0, ca.put2-2.auto.0, cs.put2.auto.0)
 
 pub returns : goal.returns
 unfolding written_of body_of

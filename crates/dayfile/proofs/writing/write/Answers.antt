@@ -10,14 +10,16 @@ use Rattle.dayfile.proofs.writing.write.Goals as goal
 pub returns-then-fault-ne0 : goal.returns-then-fault-ne0
 returns-then-fault-ne0 c =
     let a = c.args in
-    wrote-named _ _ _ _ _ (write-refused a.«record» a.room-1.now _ c.fault_of-fault.ensures c.if-fault-ne0.true)
+    let whole = wrote-named _ _ _ _ _ (write-refused a.«record» a.room.now _ c.fault_of-fault.ensures c.if-fault-ne0.true) in
+    record { value = whole.0; room_after = whole.1 }
 
 pub returns-then-room-n : goal.returns-then-room-n
 returns-then-room-n c =
     let a = c.args in
     let g : fault_of a.«record» ≡ 0 = sym c.fault_of-fault.ensures ∙ c.if-fault-ne0.false in
     let n = length-written a.«record» g in
-    wrote-named _ _ _ _ _ (write-short a.«record» a.room-1.now g (omega (arith, n, c.size-n.ensures, c.if-room-n.true)))
+    let whole = wrote-named _ _ _ _ _ (write-short a.«record» a.room.now g (omega (arith, n, c.size-n.ensures, c.if-room-n.true))) in
+    record { value = whole.0; room_after = whole.1 }
 
 pub put_record-requires : goal.put_record-requires
 put_record-requires c =
@@ -31,4 +33,5 @@ returns c =
     let a = c.args in
     let g : fault_of a.«record» ≡ 0 = sym c.fault_of-fault.ensures ∙ c.if-fault-ne0.false in
     let n = length-written a.«record» g in
-    wrote-named _ _ _ _ _ (write_done a.«record» a.room-1.now g _ _ (omega (arith, n, c.size-n.ensures)) (omega (arith, n, c.size-n.ensures, c.if-room-n.false)) c.put_record.ensures)
+    let whole = wrote-named _ _ _ _ _ (write_done a.«record» a.room.now g _ _ (omega (arith, n, c.size-n.ensures)) (omega (arith, n, c.size-n.ensures, c.if-room-n.false)) c.put_record.ensures) in
+    record { value = whole.0; room_after = whole.1 }
