@@ -19,106 +19,149 @@ use Rattle.closeout.specs.Inner.{good_in, held_book}
 use Rattle.closeout.proofs.Answers.{refused-losses, refused-room, refused-loss, none-refused, answer-by-refusal, losses-small}
 use Rattle.closeout.proofs.close_out_at.Goals as goal
 
--- the book, the losses and the room
-abbrev In : Type 0
-In = tie.After-slice-known
-
-abbrev Bk : In → Book
-Bk c = let a = c.args in held_book a.count (marks_from a.sort.now a.live.now a.tm.now) a.w.now a.needs.now
-
-abbrev Ls : In → List ℕ
-Ls c = c.args.losses.now
-
-abbrev Rm : In → List ℕ
-Rm c = c.args.room.now
-
-sound : (c : In) → sound_b (Bk c) ≡ true
-sound c = sound← _ c.requires
-
 pub returns-then-losses-n : goal.returns-then-losses-n
 returns-then-losses-n c =
+    let Bk : Book =
+    let a = c.args in held_book a.count (marks_from a.sort.now a.live.now a.tm.now) a.w.now a.needs.now
+    in
+    let Ls : List ℕ =
+    c.args.losses.now
+    in
+    let Rm : List ℕ =
+    c.args.room.now
+    in
+    let sound : sound_b Bk ≡ true =
+    sound← _ c.requires
+    in
     let at = c in
-    let whole = answer-by-refusal (Bk at) (Ls at) (Rm at) 15 (refused-losses (Bk at) (Ls at) (Rm at) (sound at) (ne_eqb _ _ c.if-losses-n.true)) c.refused.ensures refl in
+    let whole = answer-by-refusal Bk Ls Rm 15 (refused-losses Bk Ls Rm sound (ne_eqb _ _ c.if-losses-n.true)) c.refused.ensures refl in
     record { value = whole.0; room_after = whole.1 }
 
 pub returns-then-room-n : goal.returns-then-room-n
 returns-then-room-n c =
+    let Bk : Book =
+    let a = c.args in held_book a.count (marks_from a.sort.now a.live.now a.tm.now) a.w.now a.needs.now
+    in
+    let Ls : List ℕ =
+    c.args.losses.now
+    in
+    let Rm : List ℕ =
+    c.args.room.now
+    in
+    let sound : sound_b Bk ≡ true =
+    sound← _ c.requires
+    in
     let at = c in
-    let whole = answer-by-refusal (Bk at) (Ls at) (Rm at) 15 (refused-room (Bk at) (Ls at) (Rm at) (sound at) (eq-eqb _ _ c.if-losses-n.false) (ne_eqb _ _ c.if-room-n.true)) c.refused-then-room-n.ensures refl in
+    let whole = answer-by-refusal Bk Ls Rm 15 (refused-room Bk Ls Rm sound (eq-eqb _ _ c.if-losses-n.false) (ne_eqb _ _ c.if-room-n.true)) c.refused-then-room-n.ensures refl in
     record { value = whole.0; room_after = whole.1 }
 
 pub good_losses-requires : goal.good_losses-requires
-good_losses-requires c = (c.if-losses-n.false, (sound→ _ (sound c)).most)
+good_losses-requires c =
+    let Bk : Book =
+    let a = c.args in held_book a.count (marks_from a.sort.now a.live.now a.tm.now) a.w.now a.needs.now
+    in
+    let sound : sound_b Bk ≡ true =
+    sound← _ c.requires
+    in (c.if-losses-n.false, (sound→ _ sound).most)
 
 pub returns-then-not-good_losses : goal.returns-then-not-good_losses
 returns-then-not-good_losses c =
-    let of : In =
-    c
+    let Bk : Book =
+    let a = c.args in held_book a.count (marks_from a.sort.now a.live.now a.tm.now) a.w.now a.needs.now
     in
-    let each : eqb (length (Ls of)) (Bk of).count ≡ true =
+    let Ls : List ℕ =
+    c.args.losses.now
+    in
+    let Rm : List ℕ =
+    c.args.room.now
+    in
+    let sound : sound_b Bk ≡ true =
+    sound← _ c.requires
+    in
+    let each : eqb (length Ls) Bk.count ≡ true =
     eq-eqb _ _ c.if-losses-n.false
     in
-    let wide : eqb (length (Rm of)) (4 * (Bk of).count) ≡ true =
+    let wide : eqb (length Rm) (4 * Bk.count) ≡ true =
     eq-eqb _ _ c.if-room-n.false
     in
-    let losses-tested : good_losses (Bk of) (Ls of) ≡ c.good_losses.result =
-    let at = of in
+    let losses-tested : good_losses Bk Ls ≡ c.good_losses.result =
+    let at = c in
     let a = at.args in
-    all-eq a.count (λ i. good_loss (row_at (Bk at) i) (loss_at (Ls at) i)) (good_in a.live.now (Ls at))
-    (λ i l. ap (λ r. good_loss r (loss_at (Ls at) i)) (row-in _ _ i (omega (arith, (sound→ _ (sound at)).most))))
+    all-eq a.count (λ i. good_loss (row_at Bk i) (loss_at Ls i)) (good_in a.live.now Ls)
+    (λ i l. ap (λ r. good_loss r (loss_at Ls i)) (row-in _ _ i (omega (arith, (sound→ _ sound).most))))
     ∙ sym c.good_losses.ensures
     in
     let tests = c in
-    let at = of in
-    let whole = answer-by-refusal (Bk at) (Ls at) (Rm at) 16 (refused-loss (Bk at) (Ls at) (Rm at) (sound at) each wide (losses-tested ∙ not-true _ c.if-not-good_losses.true-raw)) c.refused-then-not-good_losses.ensures refl in
+    let at = tests in
+    let whole = answer-by-refusal Bk Ls Rm 16 (refused-loss Bk Ls Rm sound each wide (losses-tested ∙ not-true _ c.if-not-good_losses.true-raw)) c.refused-then-not-good_losses.ensures refl in
     record { value = whole.0; room_after = whole.1 }
 
 pub fill-requires : goal.fill-requires
 fill-requires c =
-    let of : In =
-    c
+    let Bk : Book =
+    let a = c.args in held_book a.count (marks_from a.sort.now a.live.now a.tm.now) a.w.now a.needs.now
     in
-    let each : eqb (length (Ls of)) (Bk of).count ≡ true =
+    let Ls : List ℕ =
+    c.args.losses.now
+    in
+    let sound : sound_b Bk ≡ true =
+    sound← _ c.requires
+    in
+    let each : eqb (length Ls) Bk.count ≡ true =
     eq-eqb _ _ c.if-losses-n.false
     in
-    let wide : eqb (length (Rm of)) (4 * (Bk of).count) ≡ true =
+    let Rm : List ℕ =
+    c.args.room.now
+    in
+    let wide : eqb (length Rm) (4 * Bk.count) ≡ true =
     eq-eqb _ _ c.if-room-n.false
     in
-    let losses-tested : good_losses (Bk of) (Ls of) ≡ c.good_losses.result =
-    let at = of in
+    let losses-tested : good_losses Bk Ls ≡ c.good_losses.result =
+    let at = c in
     let a = at.args in
-    all-eq a.count (λ i. good_loss (row_at (Bk at) i) (loss_at (Ls at) i)) (good_in a.live.now (Ls at))
-    (λ i l. ap (λ r. good_loss r (loss_at (Ls at) i)) (row-in _ _ i (omega (arith, (sound→ _ (sound at)).most))))
+    all-eq a.count (λ i. good_loss (row_at Bk i) (loss_at Ls i)) (good_in a.live.now Ls)
+    (λ i l. ap (λ r. good_loss r (loss_at Ls i)) (row-in _ _ i (omega (arith, (sound→ _ sound).most))))
     ∙ sym c.good_losses.ensures
     in
-    let good : good_losses (Bk of) (Ls of) ≡ true =
+    let good : good_losses Bk Ls ≡ true =
     losses-tested ∙ not-false _ c.if-not-good_losses.false-raw
     in
     let tests = c in
-    record { sound = sound→ _ (sound of); each = tests.if-losses-n.false; wide = tests.if-room-n.false; small = losses-small (Bk of) (Ls of) good }
+    record { sound = sound→ _ sound; each = tests.if-losses-n.false; wide = tests.if-room-n.false; small = losses-small Bk Ls good }
 
 pub returns : goal.returns
 returns c =
-    let of : In =
-    c
+    let Bk : Book =
+    let a = c.args in held_book a.count (marks_from a.sort.now a.live.now a.tm.now) a.w.now a.needs.now
     in
-    let each : eqb (length (Ls of)) (Bk of).count ≡ true =
+    let Ls : List ℕ =
+    c.args.losses.now
+    in
+    let Rm : List ℕ =
+    c.args.room.now
+    in
+    let sound : sound_b Bk ≡ true =
+    sound← _ c.requires
+    in
+    let each : eqb (length Ls) Bk.count ≡ true =
     eq-eqb _ _ c.if-losses-n.false
     in
-    let wide : eqb (length (Rm of)) (4 * (Bk of).count) ≡ true =
+    let wide : eqb (length Rm) (4 * Bk.count) ≡ true =
     eq-eqb _ _ c.if-room-n.false
     in
-    let losses-tested : good_losses (Bk of) (Ls of) ≡ c.good_losses.result =
-    let at = of in
+    let losses-tested : good_losses Bk Ls ≡ c.good_losses.result =
+    let at = c in
     let a = at.args in
-    all-eq a.count (λ i. good_loss (row_at (Bk at) i) (loss_at (Ls at) i)) (good_in a.live.now (Ls at))
-    (λ i l. ap (λ r. good_loss r (loss_at (Ls at) i)) (row-in _ _ i (omega (arith, (sound→ _ (sound at)).most))))
+    all-eq a.count (λ i. good_loss (row_at Bk i) (loss_at Ls i)) (good_in a.live.now Ls)
+    (λ i l. ap (λ r. good_loss r (loss_at Ls i)) (row-in _ _ i (omega (arith, (sound→ _ sound).most))))
     ∙ sym c.good_losses.ensures
     in
-    let good : good_losses (Bk of) (Ls of) ≡ true =
+    let good : good_losses Bk Ls ≡ true =
     losses-tested ∙ not-false _ c.if-not-good_losses.false-raw
     in
     let tests = c in
-    let at = of in
-    answer-by-refusal (Bk at) (Ls at) (Rm at) 0 (none-refused (Bk at) (Ls at) (Rm at) (sound at) each wide good)
+    let at = tests in
+    let whole =
+    answer-by-refusal Bk Ls Rm 0 (none-refused Bk Ls Rm sound each wide good)
     (ap (λ (t : ℕ). record { refusal = 0; total = t }) c.fill.ensures.1) c.fill.ensures.0
+    in record { value = whole.0; room_after = whole.1 }

@@ -15,64 +15,6 @@ use Rattle.closeout.proofs.DeemedUnder.{need-kept, under-kept}
 use Rattle.closeout.proofs.Pass.{Passed, pass-start, pass-finish, sum_fits, tm-has, tm-has₂, cm-has, cm-has₂, named-low, pass-turn}
 use Rattle.closeout.proofs.pays.fill.Goals as goal
 
--- in a turn: what the checks say, where the pass stands, and which accounts are there
-abbrev Turn : Type 0
-Turn = tie.In-loop invariant-loop decreases-loop
-
-abbrev Bk : Turn → Book
-Bk c = book_of (called c)
-
-abbrev Ls : Turn → List ℕ
-Ls c = (called c).args.losses.now
-
-abbrev R₀ : Turn → List ℕ
-R₀ c = (called c).args.room.now
-
-checked : (c : Turn) → Checked (Bk c) (Ls c) (R₀ c)
-checked c = (called c).requires
-
-here : (c : Turn) → Passed (Bk c) (Ls c) (R₀ c) c.loop-i.room c.loop-i.left c.loop-i.free c.loop-i.cm c.loop-i.cm-free
-    c.loop-i.uncovered c.loop-i.i
-here c = c.loop-i.invariant.0
-
-inside : (c : Turn) → c.loop-i.i < (Bk c).count
-inside c = omega arith
-
-here-low : (c : Turn) → c.loop-i.i < 256
-here-low c = omega (arith, (checked c).sound.most, inside c)
-
--- at the end of a turn
-abbrev End : Type 0
-End = tie.After-struct-known6 invariant-loop decreases-loop
-
-abbrev of : End → Turn
-of c = c
-
-abbrev named : End → ℕ
-named c = (gathered c).row-of2.result.tm
-
-abbrev paid : End → Both
-paid c = c.rounds-p.result
-
-next : (c : End) → Passed (Bk (of c)) (Ls (of c)) (R₀ (of c)) c.put.new.room
-    (set (set (of c).before.loop.left (named c) (get_or (of c).before.loop.left (named c) 0 - (paid c).first.tm)) (of c).before.loop.i (paid c).first.left)
-    (set (set (of c).before.loop.free (named c) (get_or (of c).before.loop.free (named c) 0 - (paid c).second.tm)) (of c).before.loop.i (paid c).second.left)
-    ((of c).before.loop.cm - (paid c).first.cm) ((of c).before.loop.cm-free - (paid c).second.cm) ((of c).before.loop.uncovered + (paid c).second.unpaid) ((of c).before.loop.i + 1)
-next c =
-    let t = of c in
-    let l = t.before.loop in
-    let r = gathered c in
-    let p = paid c in
-    let put = c.put in
-    let under = c in
-    subst (λ (q : Row). Passed (Bk t) (Ls t) (R₀ t) put.new.room
-    (set (set l.left q.tm (get_or l.left q.tm 0 - p.first.tm)) l.i p.first.left)
-    (set (set l.free q.tm (get_or l.free q.tm 0 - p.second.tm)) l.i p.second.left)
-    (l.cm - p.first.cm) (l.cm-free - p.second.cm) (l.uncovered + p.second.unpaid) (l.i + 1)) (sym (row r))
-    (pass-turn (checked t).sound (inside t) (here t) under.less-under.result (need-kept (Bk t) (checked t).sound _ (inside t) (deemed-under under))
-    (c.rounds-p.ensures ∙ ap (λ q. rounds_by (account_of q) (get_or (Ls t) l.i 0) under.less-under.result (get_or l.left q.tm 0) l.cm (get_or l.free q.tm 0) l.cm-free) (row r))
-    put.ensures put.auto.0)
-
 pub bounds-losses-0 : goal.bounds-losses-0
 bounds-losses-0 c = let pre = c.requires in omega (arith, pre.each, pre.sound.shaped.some)
 
@@ -80,9 +22,6 @@ pub after_own-start-requires : goal.after_own-start-requires
 after_own-start-requires c =
     let book_of : Book =
     let a = c.args in held_book a.count (marks_from a.sort.now a.live.now a.tm.now) a.w.now a.needs.now
-    in
-    let row : c.row_of-r.result ≡ row_at (Bk c) c.loop-i.i =
-    c.row_of-r.ensures ∙ sym (row-in _ _ c.loop-i.i (here-low c))
     in
     let top : c.row_of-top.result ≡ row_at book_of 0 =
     c.row_of-top.ensures ∙ sym (row-in _ _ 0 (omega arith))
@@ -99,9 +38,6 @@ loop-i-init c =
     let book_of : Book =
     let a = c.args in held_book a.count (marks_from a.sort.now a.live.now a.tm.now) a.w.now a.needs.now
     in
-    let row : c.row_of-r.result ≡ row_at (Bk c) c.loop-i.i =
-    c.row_of-r.ensures ∙ sym (row-in _ _ c.loop-i.i (here-low c))
-    in
     let top : c.row_of-top.result ≡ row_at book_of 0 =
     c.row_of-top.ensures ∙ sym (row-in _ _ 0 (omega arith))
     in
@@ -117,66 +53,292 @@ loop-i-init c =
     )
 
 pub row_of-r-requires : goal.row_of-r-requires
-row_of-r-requires c = here-low c
+row_of-r-requires c =
+    let book_of : Book =
+    let a = c.args in held_book a.count (marks_from a.sort.now a.live.now a.tm.now) a.w.now a.needs.now
+    in
+    let Bk : Book =
+    book_of
+    in
+    let Ls : List ℕ =
+    c.args.losses.now
+    in
+    let R₀ : List ℕ =
+    c.args.room.now
+    in
+    let checked : Checked Bk Ls R₀ =
+    c.requires
+    in
+    let inside : c.loop-i.i < Bk.count =
+    omega arith
+    in
+    let here-low : c.loop-i.i < 256 =
+    omega (arith, checked.sound.most, inside)
+    in here-low
 
 pub offset_bounds-needs-i : goal.offset_bounds-needs-i
-offset_bounds-needs-i c = omega (arith, here-low c)
+offset_bounds-needs-i c =
+    let book_of : Book =
+    let a = c.args in held_book a.count (marks_from a.sort.now a.live.now a.tm.now) a.w.now a.needs.now
+    in
+    let Bk : Book =
+    book_of
+    in
+    let Ls : List ℕ =
+    c.args.losses.now
+    in
+    let R₀ : List ℕ =
+    c.args.room.now
+    in
+    let checked : Checked Bk Ls R₀ =
+    c.requires
+    in
+    let inside : c.loop-i.i < Bk.count =
+    omega arith
+    in
+    let here-low : c.loop-i.i < 256 =
+    omega (arith, checked.sound.most, inside)
+    in omega (arith, here-low)
+
+pub bounds-needs-i : goal.bounds-needs-i
+bounds-needs-i c =
+    let book_of : Book =
+    let a = c.args in held_book a.count (marks_from a.sort.now a.live.now a.tm.now) a.w.now a.needs.now
+    in
+    let Bk : Book =
+    book_of
+    in
+    let Ls : List ℕ =
+    c.args.losses.now
+    in
+    let R₀ : List ℕ =
+    c.args.room.now
+    in
+    let checked : Checked Bk Ls R₀ =
+    c.requires
+    in
+    let inside : c.loop-i.i < Bk.count =
+    omega arith
+    in
+    let here-low : c.loop-i.i < 256 =
+    omega (arith, checked.sound.most, inside)
+    in omega (arith, here-low)
 
 pub offset_bounds-losses-i : goal.offset_bounds-losses-i
-offset_bounds-losses-i c = omega (arith, here-low c)
+offset_bounds-losses-i c =
+    let book_of : Book =
+    let a = c.args in held_book a.count (marks_from a.sort.now a.live.now a.tm.now) a.w.now a.needs.now
+    in
+    let Bk : Book =
+    book_of
+    in
+    let Ls : List ℕ =
+    c.args.losses.now
+    in
+    let R₀ : List ℕ =
+    c.args.room.now
+    in
+    let checked : Checked Bk Ls R₀ =
+    c.requires
+    in
+    let inside : c.loop-i.i < Bk.count =
+    omega arith
+    in
+    let here-low : c.loop-i.i < 256 =
+    omega (arith, checked.sound.most, inside)
+    in omega (arith, here-low)
 
 pub bounds-losses-i : goal.bounds-losses-i
-bounds-losses-i c = omega (arith, (checked c).each)
+bounds-losses-i c =
+    let book_of : Book =
+    let a = c.args in held_book a.count (marks_from a.sort.now a.live.now a.tm.now) a.w.now a.needs.now
+    in
+    let Bk : Book =
+    book_of
+    in
+    let Ls : List ℕ =
+    c.args.losses.now
+    in
+    let R₀ : List ℕ =
+    c.args.room.now
+    in
+    let checked : Checked Bk Ls R₀ =
+    c.requires
+    in omega (arith, checked.each)
 
 pub bounds-left-t : goal.bounds-left-t
 bounds-left-t c =
-    let row : c.row_of-r.result ≡ row_at (Bk c) c.loop-i.i =
-    c.row_of-r.ensures ∙ sym (row-in _ _ c.loop-i.i (here-low c))
+    let book_of : Book =
+    let a = c.args in held_book a.count (marks_from a.sort.now a.live.now a.tm.now) a.w.now a.needs.now
+    in
+    let Bk : Book =
+    book_of
+    in
+    let Ls : List ℕ =
+    c.args.losses.now
+    in
+    let R₀ : List ℕ =
+    c.args.room.now
+    in
+    let checked : Checked Bk Ls R₀ =
+    c.requires
+    in
+    let inside : c.loop-i.i < Bk.count =
+    omega arith
+    in
+    let here-low : c.loop-i.i < 256 =
+    omega (arith, checked.sound.most, inside)
+    in
+    let row : c.row_of-r.result ≡ row_at Bk c.loop-i.i =
+    c.row_of-r.ensures ∙ sym (row-in _ _ c.loop-i.i here-low)
     in
     let low : c.row_of-r.result.tm < 256 =
     let t = c in
-    omega (arith, ap (λ q. q.tm) row, (checked t).sound.most, inside t, named-low (Bk t) (checked t).sound t.loop-i.i (inside t))
+    omega (arith, ap (λ q. q.tm) row, checked.sound.most, inside, named-low Bk checked.sound t.loop-i.i inside)
     in omega (arith, low)
 
 pub bounds-free-t : goal.bounds-free-t
 bounds-free-t c =
-    let row : c.row_of-r.result ≡ row_at (Bk c) c.loop-i.i =
-    c.row_of-r.ensures ∙ sym (row-in _ _ c.loop-i.i (here-low c))
+    let book_of : Book =
+    let a = c.args in held_book a.count (marks_from a.sort.now a.live.now a.tm.now) a.w.now a.needs.now
+    in
+    let Bk : Book =
+    book_of
+    in
+    let Ls : List ℕ =
+    c.args.losses.now
+    in
+    let R₀ : List ℕ =
+    c.args.room.now
+    in
+    let checked : Checked Bk Ls R₀ =
+    c.requires
+    in
+    let inside : c.loop-i.i < Bk.count =
+    omega arith
+    in
+    let here-low : c.loop-i.i < 256 =
+    omega (arith, checked.sound.most, inside)
+    in
+    let row : c.row_of-r.result ≡ row_at Bk c.loop-i.i =
+    c.row_of-r.ensures ∙ sym (row-in _ _ c.loop-i.i here-low)
     in
     let low : c.row_of-r.result.tm < 256 =
     let t = c in
-    omega (arith, ap (λ q. q.tm) row, (checked t).sound.most, inside t, named-low (Bk t) (checked t).sound t.loop-i.i (inside t))
+    omega (arith, ap (λ q. q.tm) row, checked.sound.most, inside, named-low Bk checked.sound t.loop-i.i inside)
     in omega (arith, low)
 
 pub rounds-p-requires : goal.rounds-p-requires
 rounds-p-requires c =
-    let row : c.row_of-r.result ≡ row_at (Bk c) c.loop-i.i =
-    c.row_of-r.ensures ∙ sym (row-in _ _ c.loop-i.i (here-low c))
+    let book_of : Book =
+    let a = c.args in held_book a.count (marks_from a.sort.now a.live.now a.tm.now) a.w.now a.needs.now
+    in
+    let Bk : Book =
+    book_of
+    in
+    let Ls : List ℕ =
+    c.args.losses.now
+    in
+    let R₀ : List ℕ =
+    c.args.room.now
+    in
+    let checked : Checked Bk Ls R₀ =
+    c.requires
+    in
+    let inside : c.loop-i.i < Bk.count =
+    omega arith
+    in
+    let here-low : c.loop-i.i < 256 =
+    omega (arith, checked.sound.most, inside)
+    in
+    let row : c.row_of-r.result ≡ row_at Bk c.loop-i.i =
+    c.row_of-r.ensures ∙ sym (row-in _ _ c.loop-i.i here-low)
     in
     let deemed-under : (let t = c in
-    c.less-under.result ≡ get_or called.args.needs.now t.loop-i.i 0 - (row_at (Bk t) t.loop-i.i).margin) =
+    c.less-under.result ≡ get_or t.args.needs.now t.loop-i.i 0 - (row_at Bk t.loop-i.i).margin) =
     let r = c in
     let t = r in
-    c.less-under.ensures ∙ ap (λ q. get_or called.args.needs.now t.loop-i.i 0 - q.margin) row
+    c.less-under.ensures ∙ ap (λ q. get_or t.args.needs.now t.loop-i.i 0 - q.margin) row
     in
     let r = c in
     let at = r in
-    (rw row ((checked at).sound.ranges _ (inside at)), under-kept (Bk at) (checked at).sound _ (inside at) deemed-under)
+    (rw row (checked.sound.ranges _ inside), under-kept Bk checked.sound _ inside deemed-under)
 
 pub overflow_mul-i : goal.overflow_mul-i
-overflow_mul-i c = omega (arith, here-low c)
+overflow_mul-i c =
+    let book_of : Book =
+    let a = c.args in held_book a.count (marks_from a.sort.now a.live.now a.tm.now) a.w.now a.needs.now
+    in
+    let Bk : Book =
+    book_of
+    in
+    let Ls : List ℕ =
+    c.args.losses.now
+    in
+    let R₀ : List ℕ =
+    c.args.room.now
+    in
+    let checked : Checked Bk Ls R₀ =
+    c.requires
+    in
+    let inside : c.loop-i.i < Bk.count =
+    omega arith
+    in
+    let here-low : c.loop-i.i < 256 =
+    omega (arith, checked.sound.most, inside)
+    in omega (arith, here-low)
 
 pub put-requires : goal.put-requires
-put-requires c = omega (arith, (checked c).wide, (here c).wide)
+put-requires c =
+    let book_of : Book =
+    let a = c.args in held_book a.count (marks_from a.sort.now a.live.now a.tm.now) a.w.now a.needs.now
+    in
+    let Bk : Book =
+    book_of
+    in
+    let Ls : List ℕ =
+    c.args.losses.now
+    in
+    let R₀ : List ℕ =
+    c.args.room.now
+    in
+    let checked : Checked Bk Ls R₀ =
+    c.requires
+    in
+    let here : Passed Bk Ls R₀ c.loop-i.room c.loop-i.left c.loop-i.free c.loop-i.cm c.loop-i.cm_free
+    c.loop-i.uncovered c.loop-i.i =
+    c.loop-i.invariant.0
+    in omega (arith, checked.wide, here.wide)
 
 pub bounds-left-t-in-loop-i : goal.bounds-left-t-in-loop-i
 bounds-left-t-in-loop-i c =
-    let row : c.row_of-r.result ≡ row_at (Bk c) c.loop-i.i =
-    c.row_of-r.ensures ∙ sym (row-in _ _ c.loop-i.i (here-low c))
+    let book_of : Book =
+    let a = c.args in held_book a.count (marks_from a.sort.now a.live.now a.tm.now) a.w.now a.needs.now
+    in
+    let Bk : Book =
+    book_of
+    in
+    let Ls : List ℕ =
+    c.args.losses.now
+    in
+    let R₀ : List ℕ =
+    c.args.room.now
+    in
+    let checked : Checked Bk Ls R₀ =
+    c.requires
+    in
+    let inside : c.loop-i.i < Bk.count =
+    omega arith
+    in
+    let here-low : c.loop-i.i < 256 =
+    omega (arith, checked.sound.most, inside)
+    in
+    let row : c.row_of-r.result ≡ row_at Bk c.loop-i.i =
+    c.row_of-r.ensures ∙ sym (row-in _ _ c.loop-i.i here-low)
     in
     let low : c.row_of-r.result.tm < 256 =
     let t = c in
-    omega (arith, ap (λ q. q.tm) row, (checked t).sound.most, inside t, named-low (Bk t) (checked t).sound t.loop-i.i (inside t))
+    omega (arith, ap (λ q. q.tm) row, checked.sound.most, inside, named-low Bk checked.sound t.loop-i.i inside)
     in omega (arith, low)
 
 pub overflow_sub-left : goal.overflow_sub-left
@@ -184,28 +346,112 @@ overflow_sub-left c = tm-has _ _ _ _ _ _ _ c.rounds-p.ensures
 
 pub bounds-left-t-in-loop-i-2 : goal.bounds-left-t-in-loop-i-2
 bounds-left-t-in-loop-i-2 c =
-    let row : c.row_of-r.result ≡ row_at (Bk c) c.loop-i.i =
-    c.row_of-r.ensures ∙ sym (row-in _ _ c.loop-i.i (here-low c))
+    let book_of : Book =
+    let a = c.args in held_book a.count (marks_from a.sort.now a.live.now a.tm.now) a.w.now a.needs.now
+    in
+    let Bk : Book =
+    book_of
+    in
+    let Ls : List ℕ =
+    c.args.losses.now
+    in
+    let R₀ : List ℕ =
+    c.args.room.now
+    in
+    let checked : Checked Bk Ls R₀ =
+    c.requires
+    in
+    let inside : c.loop-i.i < Bk.count =
+    omega arith
+    in
+    let here-low : c.loop-i.i < 256 =
+    omega (arith, checked.sound.most, inside)
+    in
+    let row : c.row_of-r.result ≡ row_at Bk c.loop-i.i =
+    c.row_of-r.ensures ∙ sym (row-in _ _ c.loop-i.i here-low)
     in
     let low : c.row_of-r.result.tm < 256 =
     let t = c in
-    omega (arith, ap (λ q. q.tm) row, (checked t).sound.most, inside t, named-low (Bk t) (checked t).sound t.loop-i.i (inside t))
+    omega (arith, ap (λ q. q.tm) row, checked.sound.most, inside, named-low Bk checked.sound t.loop-i.i inside)
     in omega (arith, low)
 
 pub offset_bounds-left-i : goal.offset_bounds-left-i
-offset_bounds-left-i c = omega (arith, here-low c)
+offset_bounds-left-i c =
+    let book_of : Book =
+    let a = c.args in held_book a.count (marks_from a.sort.now a.live.now a.tm.now) a.w.now a.needs.now
+    in
+    let Bk : Book =
+    book_of
+    in
+    let Ls : List ℕ =
+    c.args.losses.now
+    in
+    let R₀ : List ℕ =
+    c.args.room.now
+    in
+    let checked : Checked Bk Ls R₀ =
+    c.requires
+    in
+    let inside : c.loop-i.i < Bk.count =
+    omega arith
+    in
+    let here-low : c.loop-i.i < 256 =
+    omega (arith, checked.sound.most, inside)
+    in omega (arith, here-low)
 
 pub bounds-left-i : goal.bounds-left-i
-bounds-left-i c = omega (arith, here-low c)
+bounds-left-i c =
+    let book_of : Book =
+    let a = c.args in held_book a.count (marks_from a.sort.now a.live.now a.tm.now) a.w.now a.needs.now
+    in
+    let Bk : Book =
+    book_of
+    in
+    let Ls : List ℕ =
+    c.args.losses.now
+    in
+    let R₀ : List ℕ =
+    c.args.room.now
+    in
+    let checked : Checked Bk Ls R₀ =
+    c.requires
+    in
+    let inside : c.loop-i.i < Bk.count =
+    omega arith
+    in
+    let here-low : c.loop-i.i < 256 =
+    omega (arith, checked.sound.most, inside)
+    in omega (arith, here-low)
 
 pub bounds-free-t-in-loop-i : goal.bounds-free-t-in-loop-i
 bounds-free-t-in-loop-i c =
-    let row : c.row_of-r.result ≡ row_at (Bk c) c.loop-i.i =
-    c.row_of-r.ensures ∙ sym (row-in _ _ c.loop-i.i (here-low c))
+    let book_of : Book =
+    let a = c.args in held_book a.count (marks_from a.sort.now a.live.now a.tm.now) a.w.now a.needs.now
+    in
+    let Bk : Book =
+    book_of
+    in
+    let Ls : List ℕ =
+    c.args.losses.now
+    in
+    let R₀ : List ℕ =
+    c.args.room.now
+    in
+    let checked : Checked Bk Ls R₀ =
+    c.requires
+    in
+    let inside : c.loop-i.i < Bk.count =
+    omega arith
+    in
+    let here-low : c.loop-i.i < 256 =
+    omega (arith, checked.sound.most, inside)
+    in
+    let row : c.row_of-r.result ≡ row_at Bk c.loop-i.i =
+    c.row_of-r.ensures ∙ sym (row-in _ _ c.loop-i.i here-low)
     in
     let low : c.row_of-r.result.tm < 256 =
     let t = c in
-    omega (arith, ap (λ q. q.tm) row, (checked t).sound.most, inside t, named-low (Bk t) (checked t).sound t.loop-i.i (inside t))
+    omega (arith, ap (λ q. q.tm) row, checked.sound.most, inside, named-low Bk checked.sound t.loop-i.i inside)
     in omega (arith, low)
 
 pub overflow_sub-free : goal.overflow_sub-free
@@ -213,19 +459,82 @@ overflow_sub-free c = tm-has₂ _ _ _ _ _ _ _ c.rounds-p.ensures
 
 pub bounds-free-t-in-loop-i-2 : goal.bounds-free-t-in-loop-i-2
 bounds-free-t-in-loop-i-2 c =
-    let row : c.row_of-r.result ≡ row_at (Bk c) c.loop-i.i =
-    c.row_of-r.ensures ∙ sym (row-in _ _ c.loop-i.i (here-low c))
+    let book_of : Book =
+    let a = c.args in held_book a.count (marks_from a.sort.now a.live.now a.tm.now) a.w.now a.needs.now
+    in
+    let Bk : Book =
+    book_of
+    in
+    let Ls : List ℕ =
+    c.args.losses.now
+    in
+    let R₀ : List ℕ =
+    c.args.room.now
+    in
+    let checked : Checked Bk Ls R₀ =
+    c.requires
+    in
+    let inside : c.loop-i.i < Bk.count =
+    omega arith
+    in
+    let here-low : c.loop-i.i < 256 =
+    omega (arith, checked.sound.most, inside)
+    in
+    let row : c.row_of-r.result ≡ row_at Bk c.loop-i.i =
+    c.row_of-r.ensures ∙ sym (row-in _ _ c.loop-i.i here-low)
     in
     let low : c.row_of-r.result.tm < 256 =
     let t = c in
-    omega (arith, ap (λ q. q.tm) row, (checked t).sound.most, inside t, named-low (Bk t) (checked t).sound t.loop-i.i (inside t))
+    omega (arith, ap (λ q. q.tm) row, checked.sound.most, inside, named-low Bk checked.sound t.loop-i.i inside)
     in omega (arith, low)
 
 pub offset_bounds-free-i : goal.offset_bounds-free-i
-offset_bounds-free-i c = omega (arith, here-low c)
+offset_bounds-free-i c =
+    let book_of : Book =
+    let a = c.args in held_book a.count (marks_from a.sort.now a.live.now a.tm.now) a.w.now a.needs.now
+    in
+    let Bk : Book =
+    book_of
+    in
+    let Ls : List ℕ =
+    c.args.losses.now
+    in
+    let R₀ : List ℕ =
+    c.args.room.now
+    in
+    let checked : Checked Bk Ls R₀ =
+    c.requires
+    in
+    let inside : c.loop-i.i < Bk.count =
+    omega arith
+    in
+    let here-low : c.loop-i.i < 256 =
+    omega (arith, checked.sound.most, inside)
+    in omega (arith, here-low)
 
 pub bounds-free-i : goal.bounds-free-i
-bounds-free-i c = omega (arith, here-low c)
+bounds-free-i c =
+    let book_of : Book =
+    let a = c.args in held_book a.count (marks_from a.sort.now a.live.now a.tm.now) a.w.now a.needs.now
+    in
+    let Bk : Book =
+    book_of
+    in
+    let Ls : List ℕ =
+    c.args.losses.now
+    in
+    let R₀ : List ℕ =
+    c.args.room.now
+    in
+    let checked : Checked Bk Ls R₀ =
+    c.requires
+    in
+    let inside : c.loop-i.i < Bk.count =
+    omega arith
+    in
+    let here-low : c.loop-i.i < 256 =
+    omega (arith, checked.sound.most, inside)
+    in omega (arith, here-low)
 
 pub overflow_sub-cm : goal.overflow_sub-cm
 overflow_sub-cm c = cm-has _ _ _ _ _ _ _ c.rounds-p.ensures
@@ -234,16 +543,162 @@ pub overflow_sub-cm_free : goal.overflow_sub-cm_free
 overflow_sub-cm_free c = cm-has₂ _ _ _ _ _ _ _ c.rounds-p.ensures
 
 pub overflow_add-uncovered : goal.overflow_add-uncovered
-overflow_add-uncovered c = omega (arith, here-low (of c), sum_fits (next c) (checked (of c)).small (omega (arith, inside (of c))))
+overflow_add-uncovered c =
+    let book_of : Book =
+    let a = c.args in held_book a.count (marks_from a.sort.now a.live.now a.tm.now) a.w.now a.needs.now
+    in
+    let Bk : Book =
+    book_of
+    in
+    let Ls : List ℕ =
+    c.args.losses.now
+    in
+    let R₀ : List ℕ =
+    c.args.room.now
+    in
+    let checked : Checked Bk Ls R₀ =
+    c.requires
+    in
+    let inside : c.loop-i.i < Bk.count =
+    omega arith
+    in
+    let here-low : c.loop-i.i < 256 =
+    omega (arith, checked.sound.most, inside)
+    in
+    let here : Passed Bk Ls R₀ c.loop-i.room c.loop-i.left c.loop-i.free c.loop-i.cm c.loop-i.cm_free
+    c.loop-i.uncovered c.loop-i.i =
+    c.loop-i.invariant.0
+    in
+    let row : c.row_of-r.result ≡ row_at Bk c.loop-i.i =
+    c.row_of-r.ensures ∙ sym (row-in _ _ c.loop-i.i here-low)
+    in
+    let deemed-under : (let t = c in
+    c.less-under.result ≡ get_or t.args.needs.now t.loop-i.i 0 - (row_at Bk t.loop-i.i).margin) =
+    let r = c in
+    let t = r in
+    c.less-under.ensures ∙ ap (λ q. get_or t.args.needs.now t.loop-i.i 0 - q.margin) row
+    in
+    let named : ℕ =
+    c.row_of-r.result.tm
+    in
+    let paid : Both =
+    c.rounds-p.result
+    in
+    let next : Passed Bk Ls R₀ c.put.new.room
+    (set (set c.loop-i.left named (get_or c.loop-i.left named 0 - paid.first.tm)) c.loop-i.i paid.first.left)
+    (set (set c.loop-i.free named (get_or c.loop-i.free named 0 - paid.second.tm)) c.loop-i.i paid.second.left)
+    (c.loop-i.cm - paid.first.cm) (c.loop-i.cm_free - paid.second.cm) (c.loop-i.uncovered + paid.second.unpaid) (c.loop-i.i + 1) =
+    let t = c in
+    let l = t.loop-i in
+    let r = c in
+    let p = paid in
+    let put = c.put in
+    let under = c in
+    subst (λ (q : Row). Passed Bk Ls R₀ put.new.room
+    (set (set l.left q.tm (get_or l.left q.tm 0 - p.first.tm)) l.i p.first.left)
+    (set (set l.free q.tm (get_or l.free q.tm 0 - p.second.tm)) l.i p.second.left)
+    (l.cm - p.first.cm) (l.cm_free - p.second.cm) (l.uncovered + p.second.unpaid) (l.i + 1)) (sym row)
+    (pass-turn checked.sound inside here under.less-under.result (need-kept Bk checked.sound _ inside deemed-under)
+    (c.rounds-p.ensures ∙ ap (λ q. rounds_by (account_of q) (get_or Ls l.i 0) under.less-under.result (get_or l.left q.tm 0) l.cm (get_or l.free q.tm 0) l.cm_free) row)
+    put.ensures put.auto.room)
+    in omega (arith, here-low, sum_fits next checked.small (omega (arith, inside)))
 
 pub overflow_add-i : goal.overflow_add-i
-overflow_add-i c = omega (arith, here-low (of c))
+overflow_add-i c =
+    let book_of : Book =
+    let a = c.args in held_book a.count (marks_from a.sort.now a.live.now a.tm.now) a.w.now a.needs.now
+    in
+    let Bk : Book =
+    book_of
+    in
+    let Ls : List ℕ =
+    c.args.losses.now
+    in
+    let R₀ : List ℕ =
+    c.args.room.now
+    in
+    let checked : Checked Bk Ls R₀ =
+    c.requires
+    in
+    let inside : c.loop-i.i < Bk.count =
+    omega arith
+    in
+    let here-low : c.loop-i.i < 256 =
+    omega (arith, checked.sound.most, inside)
+    in omega (arith, here-low)
 
 pub loop-i-smaller : goal.loop-i-smaller
-loop-i-smaller c = omega (arith, inside (of c))
+loop-i-smaller c =
+    let book_of : Book =
+    let a = c.args in held_book a.count (marks_from a.sort.now a.live.now a.tm.now) a.w.now a.needs.now
+    in
+    let Bk : Book =
+    book_of
+    in
+    let inside : c.loop-i.i < Bk.count =
+    omega arith
+    in omega (arith, inside)
 
 pub loop-i-preserved : goal.loop-i-preserved
-loop-i-preserved c = (next c, omega (arith, inside (of c)))
+loop-i-preserved c =
+    let book_of : Book =
+    let a = c.args in held_book a.count (marks_from a.sort.now a.live.now a.tm.now) a.w.now a.needs.now
+    in
+    let Bk : Book =
+    book_of
+    in
+    let inside : c.loop-i.i < Bk.count =
+    omega arith
+    in
+    let Ls : List ℕ =
+    c.args.losses.now
+    in
+    let R₀ : List ℕ =
+    c.args.room.now
+    in
+    let checked : Checked Bk Ls R₀ =
+    c.requires
+    in
+    let here : Passed Bk Ls R₀ c.loop-i.room c.loop-i.left c.loop-i.free c.loop-i.cm c.loop-i.cm_free
+    c.loop-i.uncovered c.loop-i.i =
+    c.loop-i.invariant.0
+    in
+    let here-low : c.loop-i.i < 256 =
+    omega (arith, checked.sound.most, inside)
+    in
+    let row : c.row_of-r.result ≡ row_at Bk c.loop-i.i =
+    c.row_of-r.ensures ∙ sym (row-in _ _ c.loop-i.i here-low)
+    in
+    let deemed-under : (let t = c in
+    c.less-under.result ≡ get_or t.args.needs.now t.loop-i.i 0 - (row_at Bk t.loop-i.i).margin) =
+    let r = c in
+    let t = r in
+    c.less-under.ensures ∙ ap (λ q. get_or t.args.needs.now t.loop-i.i 0 - q.margin) row
+    in
+    let named : ℕ =
+    c.row_of-r.result.tm
+    in
+    let paid : Both =
+    c.rounds-p.result
+    in
+    let next : Passed Bk Ls R₀ c.put.new.room
+    (set (set c.loop-i.left named (get_or c.loop-i.left named 0 - paid.first.tm)) c.loop-i.i paid.first.left)
+    (set (set c.loop-i.free named (get_or c.loop-i.free named 0 - paid.second.tm)) c.loop-i.i paid.second.left)
+    (c.loop-i.cm - paid.first.cm) (c.loop-i.cm_free - paid.second.cm) (c.loop-i.uncovered + paid.second.unpaid) (c.loop-i.i + 1) =
+    let t = c in
+    let l = t.loop-i in
+    let r = c in
+    let p = paid in
+    let put = c.put in
+    let under = c in
+    subst (λ (q : Row). Passed Bk Ls R₀ put.new.room
+    (set (set l.left q.tm (get_or l.left q.tm 0 - p.first.tm)) l.i p.first.left)
+    (set (set l.free q.tm (get_or l.free q.tm 0 - p.second.tm)) l.i p.second.left)
+    (l.cm - p.first.cm) (l.cm_free - p.second.cm) (l.uncovered + p.second.unpaid) (l.i + 1)) (sym row)
+    (pass-turn checked.sound inside here under.less-under.result (need-kept Bk checked.sound _ inside deemed-under)
+    (c.rounds-p.ensures ∙ ap (λ q. rounds_by (account_of q) (get_or Ls l.i 0) under.less-under.result (get_or l.left q.tm 0) l.cm (get_or l.free q.tm 0) l.cm_free) row)
+    put.ensures put.auto.room)
+    in (next, omega (arith, inside))
 
 pub shape_of-room : goal.shape_of-room
 shape_of-room c = c.loop-i.invariant.0.wide
