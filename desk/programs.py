@@ -84,7 +84,7 @@ class Programs:
     def _found(self, name: str) -> Path:
         path = self._path(name)
         if not path.exists() and not self._folder:
-            _build(name)
+            _build(name, path)
         if not path.exists():
             raise Failed(f"the program {name} is missing: {path}")
         return path
@@ -111,8 +111,8 @@ def _kit() -> Path:
     return Path(said).parent
 
 
-def _build(name: str) -> None:
-    """Proves and compiles a program, with a line for each crate that is done. `rt run` then runs it too: on nothing."""
+def _build(name: str, path: Path) -> None:
+    """Proves and compiles a program, with a line for each crate that is done. `rt run` then runs it too: on nothing, and its status is the program's."""
     if not shutil.which("rt"):
         raise Failed(f"{name} isn't built, and rt, which builds it, isn't on the path: README.md, \"What it needs\"")
     print(f"loft: {name} isn't built yet: proving it and what it rests on (minutes, once)", file=sys.stderr)
@@ -126,5 +126,5 @@ def _build(name: str) -> None:
                 crate = found[1]
             if line.startswith("logic=proved"):
                 print(f"loft: {crate} proved", file=sys.stderr, flush=True)
-    if rt.returncode:
+    if rt.returncode and not path.exists():
         raise Failed(f"{name} can't be built: rt run in crates/{name} says: {last}")
