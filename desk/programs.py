@@ -112,13 +112,18 @@ def _kit() -> Path:
 
 
 def _build(name: str, path: Path) -> None:
-    """Proves and compiles a program, with a line for each crate that is done. `rt run` then runs it too: on nothing, and its status is the program's."""
+    """Proves and compiles a program, with a line for each crate that is done.
+
+    `rt run` then runs it too: on nothing, and its status is the program's.
+    """
     if not shutil.which("rt"):
         raise Failed(f"{name} isn't built, and rt, which builds it, isn't on the path: README.md, \"What it needs\"")
     print(f"loft: {name} isn't built yet: proving it and what it rests on (minutes, once)", file=sys.stderr)
     crate, last = name, ""
-    how = {"stdin": subprocess.DEVNULL, "stdout": subprocess.DEVNULL, "stderr": subprocess.PIPE, "text": True}
-    with subprocess.Popen(["rt", "run"], cwd=TOP / "crates" / name, **how) as rt:
+    with subprocess.Popen(
+        ["rt", "run"], cwd=TOP / "crates" / name, text=True,
+        stdin=subprocess.DEVNULL, stdout=subprocess.DEVNULL, stderr=subprocess.PIPE,
+    ) as rt:
         assert rt.stderr is not None
         for line in rt.stderr:
             last = line.strip() or last
