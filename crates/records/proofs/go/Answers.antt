@@ -1,6 +1,5 @@
 -- `records::go` meets its contract: `Loop` of `Turning` holds at each turn of the book that the words are.
 use mathlib.Core.List.{[], ◌∷◌}
-use mathlib.Core.Logic.{⊎_elim}
 use mathlib.Core.Path.{◌≡◌, refl, ap, subst, ◌∙◌}
 use Prim.Native.Nat.{ℕ, ◌-◌}
 use native.Mathlib.Omega.{arith}
@@ -16,6 +15,7 @@ use Rattle.records.specs.Inner.{put_line_numbers, put_numbers_from}
 use Rattle.records.proofs.Turning.{turn-ends, turn-cuts, long-cut, long-whole}
 use Rattle.records.proofs.Rounds.{turn_on, line_read, step-given-few}
 use Rattle.records.proofs.go.Goals as goal
+use Rattle.records.proofs.go.Goals.{then-numbered, else-numbered}
 
 less_zero : (n : ℕ) → n - 0 ≡ n
 less_zero n = omega arith
@@ -68,7 +68,10 @@ loop-h-preserved c =
     in
     let numbers-are : (let s = c in let r = s.in-Whole.h in let v = s.loop-h in
     c.if-numbered.room ≡ pick s.args.numbered (put_line_numbers v.room v.read (r.serial ∷ r.code ∷ r.account ∷ s.step_read-gone.result.refusal ∷ s.step_read-gone.result.given ∷ [])) v.room) =
-    ⊎_elim (λ w. pick_first _ w.0.taken (w.5 ∙ w.2.ensures)) (λ w. pick_second _ w.0.left w.1) c.if-numbered.branch
+    elim c.if-numbered.branch [
+      | then-numbered w ↦ pick_first _ w.if-numbered.true (w.room-is ∙ w.put_line_numbers.ensures)
+      | else-numbered w ↦ pick_second _ w.if-numbered.false w.room-is
+    ]
     in
     let s = c in
     let e = c.on-at.ensures in
