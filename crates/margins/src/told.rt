@@ -4,18 +4,18 @@ ghost use Rattle.text.specs.Inner.{Puts};
 ghost use Rattle.margins.specs.Printed.{refusal_made, refused_text, bad_text, told_made};
 
 use currency::Made;
-use libc::STDERR_FILENO;
+use streams::standard::tell;
 use text::{put_number, put_text};
 
-pub(crate) fn bad_words() {
-    io::write_all(
-        STDERR_FILENO,
+pub(crate) fn bad_words(rt: &HostRuntime) {
+    tell(
+        rt,
         b"margins: the words are not [--record] SERIAL ACCOUNT INITIAL\n",
     );
 }
 
-pub(crate) fn too_long() {
-    io::write_all(STDERR_FILENO, b"margins: standard input is too long\n");
+pub(crate) fn too_long(rt: &HostRuntime) {
+    tell(rt, b"margins: standard input is too long\n");
 }
 
 pub(crate) fn put_bad(room: &mut [u8], line: u64) -> usize

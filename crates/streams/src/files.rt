@@ -56,6 +56,7 @@ pub(crate) fn not_moved(
 }
 
 // A move, or nothing where the call behind it failed: that is told.
+#[tactic(auto, unfolding(crate::specs::Calls::and_then, sums::specs::Choice::pick))]
 fn and_then(
     rt: &HostRuntime,
     program: &[u8],
@@ -243,6 +244,7 @@ fn tell_long(rt: &HostRuntime, program: &[u8], what: &[u8], name: &[u8]) {
 }
 
 // What was read of the file that a word names, which may have so many bytes. One that has more is told: a byte more is read, and what lies further on can't matter.
+#[tactic(auto, unfolding(sums::specs::Choice::pick))]
 pub fn within(
     rt: &HostRuntime,
     program: &[u8],
@@ -263,6 +265,7 @@ pub fn within(
 }
 
 // All of a text, on the disk and not only with the system.
+#[tactic(auto, unfolding(crate::specs::Calls::and_then, sums::specs::Choice::pick))]
 fn fill(
     rt: &HostRuntime,
     program: &[u8],
@@ -297,6 +300,7 @@ fn fill_whole(
 }
 
 // Fills the file that was made beside, or that couldn't be, and then gives it the other's name.
+#[tactic(auto, unfolding(crate::specs::Calls::and_then, sums::specs::Choice::pick))]
 fn replace_by(
     rt: &HostRuntime,
     program: &[u8],
@@ -343,6 +347,7 @@ fn replace_beside(
 }
 
 // Writes a text beside the place of a file whose name was had whole, and brings it there whole: at any moment the old file stands there or the new one.
+#[tactic(auto, unfolding(sums::specs::Choice::pick))]
 fn replace_file(
     rt: &HostRuntime,
     program: &[u8],

@@ -54,6 +54,7 @@ fn lesser(a: usize, b: usize) -> usize
 }
 
 // What a call came to that was to move these bytes.
+#[tactic(auto, unfolding(crate::specs::Calls::moved_by))]
 fn meant(got: io::Result<usize>, bytes: &[u8]) -> Moved
     ensures { result ≡ moved_by got (length bytes.now) }
 {

@@ -1,8 +1,7 @@
 // Files by the bytes of their names. std asks for names in UTF-8: another is answered with the system's number for bytes that are no text.
-use std::fs;
 use std::fs::{File, OpenOptions};
-use std::io;
 use std::io::Error;
+use std::{fs, io};
 
 // EILSEQ.
 const NO_TEXT: i32 = 84;

@@ -61,6 +61,7 @@ pub fn write_output(rt: &HostRuntime, program: &[u8], text: &[u8]) -> Moved
 }
 
 // Where a word is `--help`, the text goes to standard error.
+#[tactic(auto, unfolding(sums::specs::Choice::pick))]
 fn help_by(rt: &HostRuntime, word: &[u8], text: &[u8]) -> Helped
     ensures asked_value { result.asked ≡ same_bytes word.now help_word }
     ensures count_bound { (result.count ≤ pick result.asked (length text.now) 0)
