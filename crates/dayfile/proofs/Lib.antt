@@ -12,4 +12,3 @@ pub mod Growing
 pub mod Answers
 pub mod Numbers
 pub mod RoundTrip
-pub mod ReaderCall

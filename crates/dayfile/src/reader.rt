@@ -7,7 +7,7 @@ ghost use Rattle.dayfile.specs.Taking.{took_at};
 use crate::Read;
 use crate::reading::answer_at;
 
-#[derive(Drop)]
+#[derive(Clone, Copy)]
 pub struct Reader<'a> {
     pub piece: &'a [u8],
     pub place: usize,

@@ -9,6 +9,3 @@ pub mod Looks
 pub mod KeptNeeds
 pub mod Annexure5
 pub mod RowPut
-mod SetterWalk
-mod SetterFields
-mod LentCopyWalk
