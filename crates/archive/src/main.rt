@@ -15,10 +15,7 @@ const ENTRIES: usize = 768;
 fn too_few_words(rt: &HostRuntime) -> bool {
     let few = !words::is_there(words::count(rt), 3);
     if few {
-        streams::standard::tell(
-            rt,
-            b"archive: it takes three words, FROM, TO and ARCHIVE\n",
-        );
+        streams::standard::tell(rt, b"archive: it takes three words, FROM, TO and ARCHIVE\n");
     }
     few
 }

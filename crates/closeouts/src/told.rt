@@ -14,10 +14,7 @@ pub(crate) fn none_named(rt: &HostRuntime) {
 }
 
 pub(crate) fn too_long(rt: &HostRuntime) {
-    tell(
-        rt,
-        b"closeouts: the file of losses is too long\n",
-    );
+    tell(rt, b"closeouts: the file of losses is too long\n");
 }
 
 fn put_words(room: &mut [u8], at: usize, fault: u8) -> usize

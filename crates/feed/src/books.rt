@@ -8,11 +8,10 @@ ghost use Rattle.streams.specs.Words.{is_there};
 ghost use Rattle.feed.specs.Books.{names_file, fresh_from, from_held, FileCame, CameFrom, nowhere, went_to, BookLeft};
 
 use bookfile::SIZE;
-use streams::Moved;
 use streams::files::{read_named, replace_named};
 use streams::standard::tell;
-use streams::words;
 use streams::words::{is_same, is_there};
+use streams::{Moved, words};
 use table::Table;
 
 // One byte more than a book file has, of the longer version: what lies further on can't matter.

@@ -5,11 +5,9 @@
 ghost use Rattle.std.specs.Prelude.{◌≤◌, length};
 
 use merging::Merged;
-use streams::Moved;
 use streams::files::{read_named, within};
-use streams::standard;
 use streams::standard::write_output;
-use streams::words;
+use streams::{Moved, standard, words};
 
 // The most bytes of each file, of both, and one more than the longest.
 const LONGEST: usize = 1_048_576;

@@ -7,9 +7,8 @@ ghost use Rattle.statement.specs.Statements.{statement_finding};
 ghost use Rattle.statements.specs.Printed.{finding_text};
 
 use feed::Table;
-use streams::Moved;
 use streams::standard::{read_input, write_output};
-use streams::words;
+use streams::{Moved, words};
 use text::decimals::{Decimal, number_of};
 
 mod printed;

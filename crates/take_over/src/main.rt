@@ -10,10 +10,7 @@ use streams::words;
 fn too_few_words(rt: &HostRuntime) -> bool {
     let few = !words::is_there(words::count(rt), 2);
     if few {
-        streams::standard::tell(
-            rt,
-            b"take_over: it takes two words, FROM and TO\n",
-        );
+        streams::standard::tell(rt, b"take_over: it takes two words, FROM and TO\n");
     }
     few
 }
