@@ -60,7 +60,7 @@ shape_of-room c =
     let ca = c1 in
     let cs = ca in
     let a = cs.args in
-    omega (arith, length_two a.room.now a.«record».code a.«record».named, c6.put_amount.auto.0, c5.put_amount-p5.auto.0, c4.put_amount-p4.auto.0, c3.put_amount-p3.auto.0, c2.put_amount-p2.auto.0, c1.put_amount-p1.auto.0, ca.put2-2.auto.0, cs.put2.auto.0)
+    omega (arith, length_two a.room.now a.«record».code a.«record».named, c6.put_amount.auto.room, c5.put_amount-p5.auto.room, c4.put_amount-p4.auto.room, c3.put_amount-p3.auto.room, c2.put_amount-p2.auto.room, c1.put_amount-p1.auto.room, ca.put2-2.auto.room, cs.put2.auto.room)
 
 pub returns : goal.returns
 unfolding written_of body_of
