@@ -1,5 +1,5 @@
 -- `words::bytes_of_text` meets its contract. The invariant: so many lines were taken, what they mean stands in the room, and what is left is taken from the place on.
-use Rattle.std.proofs.Common.{◌-◌, arith}
+use Rattle.std.proofs.Common.{arith}
 use Rattle.words.proofs.LinesAt.{line-more, line-within}
 use Rattle.words.proofs.Taking.{as-told}
 use Rattle.words.proofs.TextPieces.{text-started, text-over, text-room, text-fits, text-wait, text-enough, text-failed, text-went}
@@ -39,6 +39,18 @@ slice_bounds-line_into-count c =
     let l = e in
     omega (arith, line-more l.args.text.now l.loop-place.place _ e.loop-place-test.true e.line_end-end.ensures)
 
+pub slice_bounds-line_into-start : goal.slice_bounds-line_into-start
+slice_bounds-line_into-start c =
+    let e = c in
+    let l = e in
+    omega (arith, line-more l.args.text.now l.loop-place.place _ e.loop-place-test.true e.line_end-end.ensures)
+
+pub slice_bounds-line_into-end : goal.slice_bounds-line_into-end
+slice_bounds-line_into-end c =
+    let e = c in
+    let l = e in
+    line-within l.args.text.now l.loop-place.place _ e.loop-place-test.true e.line_end-end.ensures
+
 pub line_into-requires : goal.line_into-requires
 line_into-requires c =
     let i = c in
@@ -50,7 +62,7 @@ pub shape_of-room-in-Fails : goal.shape_of-room-in-Fails
 shape_of-room-in-Fails c =
     let d = c in
     let l = d in
-    omega (arith, d.line_into.auto.1.1.0, text-room l.loop-place.invariant.0)
+    omega (arith, d.line_into.auto.room, text-room l.loop-place.invariant.0)
 
 pub returns-in-Fails : goal.returns-in-Fails
 returns-in-Fails c =
@@ -58,8 +70,7 @@ returns-in-Fails c =
     let i = d in
     let e = i in
     let l = e in
-    as-told c.told-in
-    let whole = -Fails.ensures
+    let whole = as-told c.told-in-Fails.ensures
     (text-failed l.loop-place.invariant.0 e.loop-place-test.true e.line_end-end.ensures i.if-whole-room.false d.line_into.ensures c.in-Fails.is) in
     record { value = whole.0; room_after = whole.1 }
 

@@ -1,5 +1,5 @@
 -- `words::text_of_bytes` meets its contract. The invariant: so many records were taken, their lines stand in the room, and what is left is taken from the place on.
-use Rattle.std.proofs.Common.{◌-◌, arith}
+use Rattle.std.proofs.Common.{arith}
 use Rattle.words.proofs.RecordsAt.{ends_at}
 use Rattle.words.proofs.RecordPieces.{bytes-started, bytes-over, bytes-room, bytes-fits, bytes-wait, bytes-enough, bytes-failed, bytes-went}
 use Rattle.words.proofs.Taking.{as-told}
@@ -27,6 +27,18 @@ slice_bounds-record_into-count c =
     let l = e in
     omega (arith, (ends_at l.args.bytes.now l.loop-place.place (λ i. omega (arith, l.type_inv.bytes i)) e.loop-place-test.true e.record_end-found.ensures).more)
 
+pub slice_bounds-record_into-start : goal.slice_bounds-record_into-start
+slice_bounds-record_into-start c =
+    let e = c in
+    let l = e in
+    omega (arith, (ends_at l.args.bytes.now l.loop-place.place (λ i. omega (arith, l.type_inv.bytes i)) e.loop-place-test.true e.record_end-found.ensures).more)
+
+pub slice_bounds-record_into-end : goal.slice_bounds-record_into-end
+slice_bounds-record_into-end c =
+    let e = c in
+    let l = e in
+    (ends_at l.args.bytes.now l.loop-place.place (λ i. omega (arith, l.type_inv.bytes i)) e.loop-place-test.true e.record_end-found.ensures).within
+
 pub record_into-requires : goal.record_into-requires
 record_into-requires c =
     let i = c in
@@ -47,8 +59,7 @@ returns-in-Fails c =
     let i = d in
     let e = i in
     let l = e in
-    as-told c.told-in
-    let whole = -Fails.ensures
+    let whole = as-told c.told-in-Fails.ensures
     (bytes-failed l.loop-place.invariant.0 (ends_at l.args.bytes.now l.loop-place.place (λ i. omega (arith, l.type_inv.bytes i)) e.loop-place-test.true e.record_end-found.ensures) i.if-last-found.false d.record_into.ensures c.in-Fails.is) in
     record { value = whole.0; room_after = whole.1 }
 

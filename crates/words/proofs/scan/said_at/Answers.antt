@@ -1,4 +1,4 @@
-use Rattle.std.proofs.Common.{◌-◌, get_or, sym, refl, ◌∙◌, arith}
+use Rattle.std.proofs.Common.{get_or, sym, refl, ◌∙◌, arith}
 use borrow.Author.Tests.{not-true, not-false}
 use Rattle.words.proofs.Steps.{said-end, said-stop, said-over, said-on, range-most, grown, holds}
 use Rattle.words.proofs.Tokens.{range-least}
@@ -10,19 +10,19 @@ loop-i-init c = (omega arith, c.requires, refl)
 pub returns-then-not-is_within : goal.returns-then-not-is_within
 returns-then-not-is_within c =
     let l = c in
-    sym (l.loop-i.invariant.2 ∙ said-stop _ l.loop-i.i (omega arith) _ _ l.loop-i.n l.loop-i.false (sym c.is_within.ensures ∙ not-true _ c.if-not-is_within.true-raw))
+    sym (l.loop-i.invariant.2 ∙ said-stop _ l.loop-i.i (omega arith) _ _ l.loop-i.n l.loop-i.left (sym c.is_within.ensures ∙ not-true _ c.if-not-is_within.true-raw))
 
 pub returns-then-left-eq0 : goal.returns-then-left-eq0
 returns-then-left-eq0 c =
     let l = c in
-    sym (l.loop-i.invariant.2 ∙ said-over _ l.loop-i.i (omega arith) _ _ l.loop-i.n l.loop-i.false (sym c.is_within.ensures ∙ not-false _ c.if-not-is_within.false-raw) c.if-left-eq0.true)
+    sym (l.loop-i.invariant.2 ∙ said-over _ l.loop-i.i (omega arith) _ _ l.loop-i.n l.loop-i.left (sym c.is_within.ensures ∙ not-false _ c.if-not-is_within.false-raw) c.if-left-eq0.true)
 
 pub overflow_mul-n : goal.overflow_mul-n
 overflow_mul-n c =
     let l = c in
     let a = l.args in
     let t = sym c.is_within.ensures ∙ not-false _ c.if-not-is_within.false-raw in
-    omega (arith, holds a.base l.loop-i.n _ 18446744073709551616 (range-most (get_or a.text.now l.loop-i.i 0) a.low a.base t) l.loop-i.false c.if-left-eq0.false l.loop-i.invariant.1)
+    omega (arith, holds a.base l.loop-i.n _ 18446744073709551616 (range-most (get_or a.text.now l.loop-i.i 0) a.low a.base t) l.loop-i.left c.if-left-eq0.false l.loop-i.invariant.1)
 
 pub overflow_sub-n : goal.overflow_sub-n
 overflow_sub-n c = range-least _ _ _ (sym c.is_within.ensures ∙ not-false _ c.if-not-is_within.false-raw)
@@ -37,15 +37,15 @@ overflow_add-n c =
     let l = c in
     let a = l.args in
     let t = sym c.is_within.ensures ∙ not-false _ c.if-not-is_within.false-raw in
-    omega (arith, holds a.base l.loop-i.n _ 18446744073709551616 (range-most (get_or a.text.now l.loop-i.i 0) a.low a.base t) l.loop-i.false c.if-left-eq0.false l.loop-i.invariant.1)
+    omega (arith, holds a.base l.loop-i.n _ 18446744073709551616 (range-most (get_or a.text.now l.loop-i.i 0) a.low a.base t) l.loop-i.left c.if-left-eq0.false l.loop-i.invariant.1)
 
 pub loop-i-preserved : goal.loop-i-preserved
 loop-i-preserved c =
     let l = c in
     let t = sym c.is_within.ensures ∙ not-false _ c.if-not-is_within.false-raw in (
       omega arith,
-      grown _ l.loop-i.n _ _ (range-most _ _ _ t) l.loop-i.false c.if-left-eq0.false l.loop-i.invariant.1,
-      l.loop-i.invariant.2 ∙ said-on _ l.loop-i.i (omega arith) _ _ l.loop-i.n l.loop-i.false t c.if-left-eq0.false,
+      grown _ l.loop-i.n _ _ (range-most _ _ _ t) l.loop-i.left c.if-left-eq0.false l.loop-i.invariant.1,
+      l.loop-i.invariant.2 ∙ said-on _ l.loop-i.i (omega arith) _ _ l.loop-i.n l.loop-i.left t c.if-left-eq0.false,
     )
 
 pub returns : goal.returns
