@@ -29,6 +29,7 @@ pub struct Worded {
     pub printed: u64,
 }
 
+#[tactic(auto, unfolding(crate::specs::Wording::no_words))]
 fn no_words() -> Worded
     ensures { result ≡ no_words }
 {
@@ -41,6 +42,7 @@ fn no_words() -> Worded
 }
 
 // A line that says nothing. A text is printed only after it was judged: it was changed in between, and that is told.
+#[tactic(auto, unfolding(crate::specs::Wording::worded_of, sums::specs::Choice::pick))]
 fn bad_line(rt: &HostRuntime, program: &[u8], printing: bool, line: u64, fault: u8) -> Worded
     ensures { result ≡ worded_of printing (wrong line fault) }
 {
@@ -57,6 +59,7 @@ fn bad_line(rt: &HostRuntime, program: &[u8], printing: bool, line: u64, fault: 
     }
 }
 
+#[tactic(auto, unfolding(crate::specs::Inner::taking, sums::specs::Choice::pick))]
 fn take_in(spelling: bool, held: &[u8], last: bool, running: u16, room: &mut [u8]) -> Taken
     ensures value { result ≡ told_of (taking spelling last (length room.old) running held.now) }
     ensures room_after { room.new ≡ at_start (taking spelling last (length room.old) running held.now).bytes room.old }
@@ -67,6 +70,7 @@ fn take_in(spelling: bool, held: &[u8], last: bool, running: u16, room: &mut [u8
     bytes_of_text(held, last, running, room)
 }
 
+#[tactic(auto, unfolding(sums::specs::Choice::pick))]
 fn shown(printing: bool, count: usize) -> usize
     ensures { result ≡ pick printing count 0 }
 {
