@@ -26,6 +26,7 @@ fn nothing() -> Asked
     }
 }
 
+#[tactic(auto, unfolding(crate::specs::Asked::asked_for, sums::specs::Choice::pick))]
 fn from_numbers(record: bool, serial: u64, account: u64, initial: u64) -> Asked
     ensures { result ≡ asked_for «record» (Decimal.Is serial) (Decimal.Is account) (Decimal.Is initial) }
 {
@@ -41,6 +42,7 @@ fn from_numbers(record: bool, serial: u64, account: u64, initial: u64) -> Asked
     }
 }
 
+#[tactic(auto, unfolding(crate::specs::Asked::asked_for))]
 fn from_three(record: bool, serial: Decimal, account: Decimal, initial: Decimal) -> Asked
     ensures { result ≡ asked_for «record» serial account initial }
 {
@@ -57,6 +59,7 @@ fn from_three(record: bool, serial: Decimal, account: Decimal, initial: Decimal)
 }
 
 // So many words, the program's own name among them; the first four behind the name.
+#[tactic(auto, unfolding(crate::specs::Asked::asked_by_words, sums::specs::Choice::pick))]
 fn from_four(count: usize, a: &[u8], b: &[u8], c: &[u8], d: &[u8]) -> Asked
     ensures { result ≡ asked_by_words count a.now b.now c.now d.now }
 {

@@ -36,6 +36,7 @@ fn put_refused(room: &mut [u8], refusal: u8) -> usize
 }
 
 // The refusal of what was made, or that of the day file's writer.
+#[tactic(auto, unfolding(crate::specs::Printed::refusal_made))]
 fn refusal_of(made: Made) -> u8
     ensures { result ≡ refusal_made made }
 {
@@ -45,6 +46,7 @@ fn refusal_of(made: Made) -> u8
     }
 }
 
+#[tactic(auto, unfolding(crate::specs::Printed::told_made, sums::specs::Choice::pick))]
 pub(crate) fn put_told(room: &mut [u8], as_record: bool, made: Made) -> usize
     requires { 70 ≤ length room.old }
     ensures { Puts room.old 0 (told_made as_record made) room.new result }
