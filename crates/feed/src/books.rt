@@ -33,6 +33,7 @@ pub struct To {
     pub count: usize,
 }
 
+#[tactic(auto, unfolding(crate::specs::Books::fresh_from))]
 fn fresh() -> From
     ensures { result ≡ fresh_from }
 {
@@ -63,6 +64,7 @@ fn tell_none(rt: &HostRuntime, program: &[u8], name: &[u8]) {
 }
 
 // The book that a file's bytes are, or that they are none.
+#[tactic(auto, unfolding(crate::specs::Books::from_held))]
 fn held(rt: &HostRuntime, program: &[u8], name: &[u8], file: &[u8]) -> From
     ensures value { result ≡ from_held (read_of file.now) }
     ensures bytes { Bytes file.now }
@@ -93,6 +95,7 @@ fn from_file(rt: &HostRuntime, program: &[u8], name: &[u8], word: usize) -> From
 }
 
 // Whether a word names a file: there is such a word, and it isn't `-`.
+#[tactic(auto, unfolding(crate::specs::Books::names_file))]
 fn names_file(count: usize, word: usize, name: &[u8]) -> bool
     ensures { result ≡ names_file count word name.now }
 {
@@ -127,6 +130,7 @@ fn put_book(rt: &HostRuntime, program: &[u8], word: usize, t: Table) -> Moved
     replace_named(rt, program, b"write the book file", word, &bytes)
 }
 
+#[tactic(auto, unfolding(crate::specs::Books::went_to, crate::specs::Books::nowhere, sums::specs::Choice::pick))]
 fn to_named(rt: &HostRuntime, program: &[u8], count: usize, word: usize, t: Table) -> To
     ensures named_value { result.named ≡ is_there count word }
     ensures value { result ≡ pick result.named (went_to result.failed t) nowhere }

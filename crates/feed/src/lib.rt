@@ -36,6 +36,7 @@ pub struct Day {
     pub failed: bool,
 }
 
+#[tactic(auto, unfolding(crate::specs::Fed::no_day))]
 fn no_day() -> Day
     ensures { result ≡ no_day }
 {
