@@ -6,7 +6,7 @@ use Rattle.feed.proofs.books.from_named.Goals as goal
 
 pub returns-then-not-names_file : goal.returns-then-not-names_file
 unfolding fresh_from
-returns-then-not-names_file c = 
+returns-then-not-names_file c =
     let e = c.fresh.ensures in
     let f = ap (λ (x : From). x.named) e in
     let by = f ∙ sym c.if-not-names_file.true ∙ c.names_file.ensures in
@@ -14,7 +14,7 @@ returns-then-not-names_file c =
 
 pub returns : goal.returns
 unfolding from_held
-returns c = 
+returns c =
     let e = c.from_file.ensures.is in
     let f = ap (λ (x : From). x.named) e in
     let by = f ∙ sym c.if-not-names_file.false ∙ c.names_file.ensures in
