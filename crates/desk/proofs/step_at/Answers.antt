@@ -29,7 +29,7 @@ returns c =
     let s = f in
     let h = f.step-gone.ensures in
     let x = f.step-gone.new in
-    let n = marks_from x.0 x.1.0 x.1.1.0 in
+    let n = marks_from x.sort x.live x.tm in
     stepped-over _ s.args.r s.requires _ _ _ _ c.outcome_of-outcome.ensures h.refusal h.given
     (c.leave-table.ensures
-    ∙ ap (λ p. turned (book_at p n x.1.1.1.0 s.args.t.modes x.1.1.1.1.1.0 x.1.1.1.1.1.1.0 x.1.1.1.1.1.1.1.0)) c.on-after.ensures ∙ ap turned h.book)
+    ∙ ap (λ p. turned (book_at p n x.w s.args.t.modes x.modes x.needs x.numbers)) c.on-after.ensures ∙ ap turned h.book)
