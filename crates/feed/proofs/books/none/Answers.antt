@@ -13,4 +13,4 @@ no-book = refl
 
 pub returns : goal.returns
 unfolding from_held
-returns c = rw c.fresh.ensures (sym (ap from_held no-book))
+returns c = rw c.fresh-table.ensures (sym (ap from_held no-book))

@@ -1,4 +1,5 @@
-use Rattle.std.proofs.Common.{ℕ, List, length, length-replicate, ap, ◌∙◌, eq-eqb}
+use Rattle.std.proofs.Common.{ℕ, List, length, ap, ◌∙◌, eq-eqb}
+use lib.ListN.{length-replicate}
 use Rattle.sums.specs.Choice.{pick}
 use Rattle.sums.proofs.Choices.{pick_yes}
 use Rattle.bookfile.specs.Written.{size, written_of, room_after}
