@@ -5,6 +5,7 @@ They end with status 0 whatever happens, so a failed run is told by what stands 
 
 import os
 import platform
+import re
 import shutil
 import subprocess
 import sys
@@ -16,7 +17,7 @@ from typing import TypeVar
 from desk.stops import ALL_DONE, FAILED, Failed, SaysNothing
 
 TOP = Path(__file__).resolve().parent.parent
-# For tests alone: a folder whose files are called in the place of those in target/bin.
+# For tests alone: a folder whose files are called in the place of the proved programs, crates/NAME/out/NAME.
 SETTING = "LOFT_PROGRAMS"
 # What a person may run by itself; tests and examples have more.
 NAMES = "day explain standings holdings needs closeouts write read merge statements archive take_over margins".split()
@@ -37,8 +38,7 @@ class Programs:
 
     def __init__(self) -> None:
         setting = os.environ.get(SETTING)
-        self._folder = Path(setting) if setting else TOP / "target" / "bin"
-        self._builds = not setting
+        self._folder = Path(setting) if setting else None
         self._emulator: list[str] | None = [] if setting else None
 
     def run(self, name: str, *words: str | Path, given: Path | None = None, into: Path | None = None) -> bytes:
@@ -57,7 +57,7 @@ class Programs:
 
     def alone(self, name: str, words: list[str]) -> int:
         """The program by itself, its bytes in and its bytes out; its status, or that of a failure where it told one."""
-        if not (self._folder / name).exists() and not (TOP / "crates" / name / "src" / "main.rt").exists():
+        if not self._path(name).exists() and not (TOP / "crates" / name / "src" / "main.rt").exists():
             raise SaysNothing(f"there is no program {name}: there are {', '.join(NAMES)}")
         command = [*self._ahead(), str(self._found(name)), *words]
         try:
@@ -78,10 +78,13 @@ class Programs:
             mine = second()
             return other.result(), mine
 
+    def _path(self, name: str) -> Path:
+        return self._folder / name if self._folder else TOP / "crates" / name / "out" / name
+
     def _found(self, name: str) -> Path:
-        path = self._folder / name
-        if not path.exists() and self._builds:
-            _build(name)
+        path = self._path(name)
+        if not path.exists() and not self._folder:
+            _build(name, path)
         if not path.exists():
             raise Failed(f"the program {name} is missing: {path}")
         return path
@@ -93,7 +96,7 @@ class Programs:
 
 
 def _emulator() -> list[str]:
-    """Programs are compiled for x86-64; on another processor the kit has an emulator, its loader and its C library."""
+    """Programs are compiled for x86-64; on another processor the kit's emulator, its loader and its C library are asked for."""
     if platform.machine() == "x86_64":
         return []
     tools = _kit() / "on" / platform.machine() / "toolchain"
@@ -105,20 +108,28 @@ def _kit() -> Path:
         said = subprocess.run(["rt", "doc"], capture_output=True, text=True, check=True).stdout.strip()
     except (OSError, subprocess.CalledProcessError):
         raise Failed("the Rattle kit isn't there: rt isn't on the path") from None
-    return Path(said).parent.parent
+    return Path(said).parent
 
 
-def _build(name: str) -> None:
-    """Proves and compiles a program, with a line for each crate that is done."""
+def _build(name: str, path: Path) -> None:
+    """Proves and compiles a program, with a line for each crate that is done.
+
+    `rt run` then runs it too: on nothing, and its status is the program's.
+    """
     if not shutil.which("rt"):
         raise Failed(f"{name} isn't built, and rt, which builds it, isn't on the path: README.md, \"What it needs\"")
     print(f"loft: {name} isn't built yet: proving it and what it rests on (minutes, once)", file=sys.stderr)
-    last = ""
-    with subprocess.Popen(["rt", "check", name], cwd=TOP, stdout=subprocess.PIPE, stderr=subprocess.STDOUT, text=True) as rt:
-        assert rt.stdout is not None
-        for line in rt.stdout:
+    crate, last = name, ""
+    with subprocess.Popen(
+        ["rt", "run"], cwd=TOP / "crates" / name, text=True,
+        stdin=subprocess.DEVNULL, stdout=subprocess.DEVNULL, stderr=subprocess.PIPE,
+    ) as rt:
+        assert rt.stderr is not None
+        for line in rt.stderr:
             last = line.strip() or last
-            if line.startswith("rt: ") and " proved" in line:
-                print(f"loft: {line[4:].strip()}", file=sys.stderr, flush=True)
-    if rt.returncode:
-        raise Failed(f"{name} can't be built: rt check {name} says: {last}")
+            if found := re.match(r"crate (\w+): ", line):
+                crate = found[1]
+            if line.startswith("logic=proved"):
+                print(f"loft: {crate} proved", file=sys.stderr, flush=True)
+    if rt.returncode and not path.exists():
+        raise Failed(f"{name} can't be built: rt run in crates/{name} says: {last}")

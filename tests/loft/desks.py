@@ -41,7 +41,7 @@ class Ran:
 def program(name: str) -> Path:
     """A proved program, as ./loft finds it."""
     folder = os.environ.get("LOFT_PROGRAMS")
-    return Path(folder) / name if folder else TOP / "target" / "bin" / name
+    return Path(folder) / name if folder else TOP / "crates" / name / "out" / name
 
 
 def another_login() -> dict[str, object]:

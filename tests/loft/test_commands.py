@@ -345,7 +345,9 @@ class Programs(DeskTest):
         top = self.folder / "top"
         shutil.copytree(TOP / "desk", top / "desk")
         shutil.copy(LOFT, top / "loft")
-        rt = self.file("rt", f"#!/bin/sh\nmkdir -p target/bin\nln -s {program('needs').parent}/$2 target/bin/$2\necho noise\necho 'rt: sums proved (1 s)'\n")
+        (top / "crates/needs").mkdir(parents=True)
+        says = "echo 'rt: noise' >&2\necho 'crate sums: modules' >&2\necho 'logic=proved functions=1' >&2\n"
+        rt = self.file("rt", f"#!/bin/sh\nmkdir out\nln -s {program('needs')} out/needs\n{says}echo what the program prints\n")
         rt.chmod(0o755)
         how = {"PATH": f"{self.folder}:{os.environ['PATH']}"}
         clean = {key: value for key, value in os.environ.items() if key != "LOFT_PROGRAMS"} | how
@@ -356,14 +358,15 @@ class Programs(DeskTest):
         ran = needs()
         self.assertEqual(ran.returncode, 0, ran.stderr)
         self.assertIn("needs isn't built yet", ran.stderr)
-        self.assertIn("loft: sums proved (1 s)\n", ran.stderr)
+        self.assertIn("loft: sums proved\n", ran.stderr)
         self.assertNotIn("noise", ran.stderr)
+        self.assertNotIn("what the program prints", ran.stdout)
         self.assertEqual(needs().stderr, "")
-        (top / "target/bin/needs").unlink()
-        rt.write_text("#!/bin/sh\necho 'rt: no such crate'\nexit 1\n")
+        (top / "crates/needs/out/needs").unlink()
+        rt.write_text("#!/bin/sh\necho 'rt: no such crate' >&2\nexit 1\n")
         ran = needs()
         self.assertEqual(ran.returncode, 3)
-        self.assertIn("needs can't be built: rt check needs says: rt: no such crate\n", ran.stderr)
+        self.assertIn("needs can't be built: rt run in crates/needs says: rt: no such crate\n", ran.stderr)
         (self.folder / "only").mkdir()
         (self.folder / "only" / "python3").symlink_to(sys.executable)
         clean["PATH"] = str(self.folder / "only")

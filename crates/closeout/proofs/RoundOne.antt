@@ -7,7 +7,7 @@ use native.Mathlib.Omega.{arith}
 use borrow.Author.Tests.{eqb-true}
 use Rattle.sums.specs.Sum.{sum, only}
 use Rattle.sums.proofs.Sums.{sum-eq, sum-le, sum-zero, sum-term, only-le}
-use Rattle.rows.specs.View.{View, is_client, is_client_of, of_clients, own_deemed, need_tm, need_cm, need, blocked}
+use Rattle.rows.specs.View.{View, is_client, is_client_of, of_clients, own_deemed, need_tm, need_cm, blocked}
 use Rattle.rows.specs.Facts.{Shaped}
 use Rattle.rows.proofs.Cover.{Covered}
 use Rattle.rows.proofs.BySort.{client-sort, need-CM, need-TM}

@@ -6,10 +6,10 @@ use Prim.Native.Nat.{ℕ, ◌+◌, ◌-◌, ◌*◌, ◌≤◌, ◌<◌, min}
 use native.Mathlib.Omega.{arith}
 use Rattle.sums.specs.Sum.{sum, only}
 use Rattle.sums.proofs.Sums.{sum-le, sum-add, sum-eq, sum-zero, sum-most, only-add}
-use Rattle.rows.specs.View.{View, is_client, is_client_of, of_clients, need_cm, need, free, blocked}
+use Rattle.rows.specs.View.{View, is_client, is_client_of, of_clients, need_cm, need, free}
 use Rattle.rows.specs.Facts.{Shaped}
 use Rattle.rows.proofs.Cover.{Covered}
-use Rattle.closeout.specs.Round.{own, from_tm, from_cm, unpaid}
+use Rattle.closeout.specs.Round.{from_tm, from_cm, unpaid}
 use Rattle.closeout.specs.Bound.{beyond}
 use Rattle.closeout.proofs.Payments.{amounts-add-up, from_tm-other}
 use Rattle.closeout.proofs.Limits.{TM-pays, CM-pays}

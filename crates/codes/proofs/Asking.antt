@@ -11,7 +11,6 @@ use lib.Dec.{eqb, leb}
 use lib.ListN.{drop}
 use borrow.Author.Tests.{eq-eqb, ne_eqb, leb-true, le-leb, eqb-true}
 use Rattle.sums.specs.Choice.{pick, unless_refused}
-use Rattle.sums.specs.Table.{first}
 use Rattle.sums.proofs.Choices.{refused-by, and_split, and-join, or_split, test-clash}
 use Rattle.sums.proofs.Tables.{first-here, first-later, first_some, none-gives-0}
 use Rattle.rows.specs.declared.Kinds.{Kinds}

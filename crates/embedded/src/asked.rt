@@ -28,8 +28,7 @@ fn put_figures(figures: &mut [u64], f: Figures)
 }
 
 // An account's seven figures, put where there are none of the refusals 1, 15, 7.
-#[unsafe(no_mangle)]
-pub extern "C" fn loft_standing(book: &[u8], account: u16, figures: &mut [u64]) -> u8
+pub fn loft_standing(book: &[u8], account: u16, figures: &mut [u64]) -> u8
     ensures value { result ≡ standing_refusal book.now account figures.old }
     ensures figures_after { figures.new ≡ standing_after book.now account figures.old }
 {
@@ -50,8 +49,7 @@ pub extern "C" fn loft_standing(book: &[u8], account: u16, figures: &mut [u64]) 
 }
 
 // The largest amount with which such a record is carried out; neither its serial nor its amounts are looked at.
-#[unsafe(no_mangle)]
-pub extern "C" fn loft_most(book: &[u8], code: u8, named: u8, account: u16, amount: &mut u64) -> u8
+pub fn loft_most(book: &[u8], code: u8, named: u8, account: u16, amount: &mut u64) -> u8
     ensures value { result ≡ (largest_in book.now code named account).refusal }
     ensures amount_after { amount.new ≡ most_after book.now code named account amount.old }
 {
@@ -69,8 +67,7 @@ pub extern "C" fn loft_most(book: &[u8], code: u8, named: u8, account: u16, amou
 }
 
 // Every account's need: the book's own call refuses 15 too.
-#[unsafe(no_mangle)]
-pub extern "C" fn loft_needs(book: &[u8], needs: &mut [u64]) -> u8
+pub fn loft_needs(book: &[u8], needs: &mut [u64]) -> u8
     ensures value { result ≡ needs_refused book.now needs.old }
     ensures needs_after { needs.new ≡ needs_after book.now needs.old }
 {
@@ -83,8 +80,7 @@ pub extern "C" fn loft_needs(book: &[u8], needs: &mut [u64]) -> u8
 }
 
 // A TM's statement held against the book.
-#[unsafe(no_mangle)]
-pub extern "C" fn loft_statement(book: &[u8], tm: u16, piece: &[u8]) -> u8
+pub fn loft_statement(book: &[u8], tm: u16, piece: &[u8]) -> u8
     ensures { result ≡ statement_refusal book.now tm piece.now }
 {
     let held = book_in(book);

@@ -33,8 +33,7 @@ fn carry(book: &mut [u8], r: Record, answer: &mut [u16]) -> u8
 }
 
 // A record handed over as values. The lists are looked at first, so that nothing is put where one is too short.
-#[unsafe(no_mangle)]
-pub extern "C" fn loft_carry_out(
+pub fn loft_carry_out(
     book: &mut [u8],
     serial: u16,
     code: u8,

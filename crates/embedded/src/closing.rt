@@ -5,13 +5,7 @@ ghost use Rattle.embedded.specs.Closing.{closed_in, pays_after, total_after};
 use lent::book_in;
 
 // Who pays what; the close-out's own call refuses 15 too, and puts the amounts.
-#[unsafe(no_mangle)]
-pub extern "C" fn loft_close_out(
-    book: &[u8],
-    losses: &[u64],
-    pays: &mut [u64],
-    total: &mut u64,
-) -> u8
+pub fn loft_close_out(book: &[u8], losses: &[u64], pays: &mut [u64], total: &mut u64) -> u8
     ensures value { result ≡ (closed_in book.now losses.now pays.old).refusal }
     ensures pays_after { pays.new ≡ pays_after book.now losses.now pays.old }
     ensures total_after { total.new ≡ total_after book.now losses.now pays.old total.old }

@@ -6,16 +6,14 @@ ghost use Rattle.bookfile.specs.Written.{wrote_of, room_after};
 ghost use Rattle.lent.specs.Held.{sound_in};
 
 // Whether the bytes are a book of version 2 that is sound.
-#[unsafe(no_mangle)]
-pub extern "C" fn loft_is_sound(book: &[u8]) -> bool
+pub fn loft_is_sound(book: &[u8]) -> bool
     ensures { result ≡ sound_in book.now }
 {
     lent::sound_in(book)
 }
 
 // A fresh book. The writer refuses bytes that are fewer or more.
-#[unsafe(no_mangle)]
-pub extern "C" fn loft_fresh(book: &mut [u8]) -> u8
+pub fn loft_fresh(book: &mut [u8]) -> u8
     ensures value { result ≡ wrote_of book.old }
     ensures book_after { book.new ≡ room_after (turned fresh_book) book.old }
 {

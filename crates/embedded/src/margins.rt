@@ -132,8 +132,7 @@ fn made_in(
 }
 
 // K9's record where there are no figures, and otherwise K10's. The record made is good, so the writer doesn't refuse it.
-#[unsafe(no_mangle)]
-pub extern "C" fn loft_margin(
+pub fn loft_margin(
     serial: u16,
     account: u16,
     initial: u64,

@@ -5,8 +5,7 @@ ghost use Rattle.embedded.specs.Moving.{archive_refused, archive_book, archive_e
 use lent::{book_in, put_back};
 
 // The archive's own call leaves the entries with a refusal; the book and the number are put only without one.
-#[unsafe(no_mangle)]
-pub extern "C" fn loft_archive(book: &mut [u8], entries: &mut [u16], moved: &mut u16) -> u8
+pub fn loft_archive(book: &mut [u8], entries: &mut [u16], moved: &mut u16) -> u8
     ensures value { result ≡ archive_refused book.old entries.old }
     ensures book_after { book.new ≡ archive_book book.old entries.old }
     ensures entries_after { entries.new ≡ archive_entries book.old entries.old }
@@ -28,8 +27,7 @@ pub extern "C" fn loft_archive(book: &mut [u8], entries: &mut [u16], moved: &mut
 }
 
 // The book by the new rule (K7).
-#[unsafe(no_mangle)]
-pub extern "C" fn loft_take_over(book: &mut [u8]) -> u8
+pub fn loft_take_over(book: &mut [u8]) -> u8
     ensures value { result ≡ take_over_refused book.old }
     ensures book_after { book.new ≡ taken_over_book book.old }
 {

@@ -7,8 +7,7 @@ use crate::rooms::{bare_record, record_of};
 use dayfile::{Read, Record, Wrote};
 
 // A record's bytes at the start of a room, and how many they are.
-#[unsafe(no_mangle)]
-pub extern "C" fn loft_write_record(
+pub fn loft_write_record(
     serial: u16,
     code: u8,
     named: u8,
@@ -54,8 +53,7 @@ fn put_record(numbers: &mut [u64], next: usize, r: Record)
 }
 
 // The record at a place. With 4 to 6 its head is told, behind the place after it.
-#[unsafe(no_mangle)]
-pub extern "C" fn loft_read_record(piece: &[u8], place: usize, numbers: &mut [u64]) -> u8
+pub fn loft_read_record(piece: &[u8], place: usize, numbers: &mut [u64]) -> u8
     ensures value { result ≡ read_refusal piece.now place numbers.old }
     ensures numbers_after { numbers.new ≡ read_numbers piece.now place numbers.old }
 {

@@ -29,8 +29,7 @@ fn put_told(told: &mut [u64], word: u64, place: usize, read: u64, done: u64)
 }
 
 // The records of a piece, as many as there is room for. The run puts the answers itself, and leaves them at an unsound book.
-#[unsafe(no_mangle)]
-pub extern "C" fn loft_day(
+pub fn loft_day(
     book: &mut [u8],
     piece: &[u8],
     most: u64,

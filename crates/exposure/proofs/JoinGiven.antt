@@ -9,7 +9,6 @@ use lib.Dec.{ltb}
 use lib.IntN.{ℤ}
 use lib.ListN.{take}
 use Rattle.sums.specs.Choice.{pick, unless_refused}
-use Rattle.sums.specs.Table.{first}
 use Rattle.sums.proofs.Tables.{first-fails}
 use Rattle.rows.specs.Rows.{ceiling}
 use Rattle.dayfile.specs.declared.Record.{Record}

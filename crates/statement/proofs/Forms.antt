@@ -10,7 +10,7 @@ use lib.ListN.{length, get_or, drop, length-append, length-drop}
 use lib.Seq.{drop-drop, drop_at}
 use borrow.Author.Tests.{eqb-true, leb-false, ltb-false, lt-leb, le-ltb, not-false}
 use Rattle.sums.proofs.Choices.{or-fails}
-use Rattle.numbers.specs.Bytes.{Bytes, number, bytes_of}
+use Rattle.numbers.specs.Bytes.{Bytes, bytes_of}
 use Rattle.numbers.proofs.Numbers.{number-bytes_of, length-bytes_of, drop-bytes_of, bytes_of-number, bytes_drop, two_at}
 use Rattle.statement.specs.declared.records.Parts.{Parts}
 use Rattle.statement.specs.Forms.{set_of, amounts_of, record_for, set_in, size_in, account_in, parts_in, not_whole, bad_amounts}
