@@ -2,7 +2,6 @@
 use Rattle.std.proofs.Common.{◌≡◌, ℕ, ◌+◌, ◌-◌, ◌*◌, ◌<◌, Bool, true, false, eqb, leb, List, get_or, set, sym, refl, ap, ◌∙◌, ap₂, arith, length-set, get_or-set_other, get_or-set_same, set-set, lt-ltb, eq-eqb, ne_eqb}
 use lib.Seq.{set-get_or}
 use Rattle.sums.specs.Choice.{pick}
-use Rattle.sums.specs.Sum.{only}
 use Rattle.sums.proofs.Choices.{pick_yes, pick_no}
 use Rattle.rows.specs.declared.Account.{Account}
 use Rattle.rows.specs.View.{deemed_of}
@@ -13,7 +12,7 @@ use Rattle.table.specs.Words.{Marks, word_at}
 use Rattle.codes.specs.Own.{account_in}
 use Rattle.steps.specs.declared.following.Due.{Due}
 use Rattle.steps.specs.Looks.{Past, look_in, excess_since, looked_since, deemed_under_since, needed_since}
-use Rattle.steps.specs.Dues.{collateral_in, due_of, Steady, Bare, Following, need_risen, excess_risen, mode_risen, due_at, due_risen, margin_before, past_in, cm, tm}
+use Rattle.steps.specs.Dues.{collateral_in, due_of, Steady, Bare, Following, need_risen, excess_risen, mode_risen, due_at, due_risen, margin_before, past_in}
 
 right_zero : (n : ℕ) → n + 0 ≡ n
 right_zero n = omega arith

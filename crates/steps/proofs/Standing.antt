@@ -8,7 +8,7 @@ use Rattle.rows.specs.declared.Account.{Account}
 use Rattle.rows.specs.declared.Book.{Book}
 use Rattle.rows.specs.declared.Rule.TheVariants.{New}
 use Rattle.rows.specs.Rows.{row_at, collateral, view, with_row}
-use Rattle.rows.specs.View.{is_tm, need}
+use Rattle.rows.specs.View.{is_tm}
 use Rattle.rows.specs.Modes.{has_mode, mode_after}
 use Rattle.rows.specs.Inner.{Slot, in_tenths}
 use Rattle.rows.specs.DeemedUnder.{DeemedUnder}

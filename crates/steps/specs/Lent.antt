@@ -1,6 +1,6 @@
 -- The arrays that are lent to a record, under one name: as they are when a function is called, and as it leaves them. Only for internal functions.
 use Rattle.std.specs.Prelude.{ℕ, Bool, List}
-use Rattle.std.specs.Borrow.{Bor}
+use Rattle.std.specs.Borrow.{MutBor}
 use denote.Triple.Both.{Both}
 use Rattle.table.specs.Words.{Marks, marks_from}
 
@@ -18,13 +18,13 @@ abbrev pub lent_of : Marks → List ℕ → List ℕ → List Bool → List ℕ 
 lent_of m w kept modes needs numbers excess = record { marks = m; words = w; kept = kept; modes = modes; needs = needs; numbers = numbers; excess = excess }
 
 -- where a function asks something of them
-abbrev pub lent : Bor (List ℕ) → Bor (List Bool) → Bor (List ℕ) → Bor (List ℕ) → Bor (List ℕ) → Bor (List Bool) → Bor (List ℕ) → Bor (List ℕ) → Bor (List ℕ) → Lent
+abbrev pub lent : MutBor (List ℕ) → MutBor (List Bool) → MutBor (List ℕ) → MutBor (List ℕ) → MutBor (List ℕ) → MutBor (List Bool) → MutBor (List ℕ) → MutBor (List ℕ) → MutBor (List ℕ) → Lent
 lent sort live tm w kept modes needs numbers excess =
     lent_of (marks_from sort.now live.now tm.now) w.now kept.now modes.now needs.now numbers.now excess.now
 
 -- a lent array, at both moments
 abbrev Loan : Type 0 → Type 0
-Loan A = Both (Bor (List A)) (Bor (List A))
+Loan A = Both (MutBor (List A)) (MutBor (List A))
 
 -- what they held, and what they hold then
 abbrev pub before : Loan ℕ → Loan Bool → Loan ℕ → Loan ℕ → Loan ℕ → Loan Bool → Loan ℕ → Loan ℕ → Loan ℕ → Lent

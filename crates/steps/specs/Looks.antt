@@ -1,5 +1,5 @@
 -- K2's look and K3's needs at three places, on the words in place: only for internal functions.
-use Rattle.std.specs.Prelude.{◌≡◌, ℕ, ◌+◌, ◌-◌, ◌*◌, ◌<◌, Bool, true, false, ◌&&◌, ◌||◌, List, set, ◌==◌, slice_index, slice_index_or, slice_set}
+use Rattle.std.specs.Prelude.{◌≡◌, ℕ, ◌+◌, ◌*◌, ◌<◌, Bool, true, false, ◌&&◌, ◌||◌, List, set, ◌==◌, slice_index, slice_index_or, slice_set}
 use Rattle.rows.specs.declared.Account.{Account}
 use Rattle.rows.specs.Facts.{InRange}
 use Rattle.rows.specs.Modes.{mode_after}
