@@ -12,22 +12,22 @@ const LONGEST: usize = 1_245_165;
 const ROOM: usize = 1_250_030;
 
 // Reads the file, which need not be there.
-fn read(room: &mut [u8], longest: usize) -> Moved
+fn read(rt: &HostRuntime, room: &mut [u8], longest: usize) -> Moved
     requires { longest < length room.old }
     ensures { result.count ≤ longest }
 {
     let most = longest + 1;
-    let read = read_named(b"archive", b"read the archive", 3, &mut room[..most]);
-    within(b"archive", b"read the archive", 3, read, longest)
+    let read = read_named(rt, b"archive", b"read the archive", 3, &mut room[..most]);
+    within(rt, b"archive", b"read the archive", 3, read, longest)
 }
 
 // Puts the lines of entries, of which there are some, into the file, but for those that it has: whether that failed. Where it has them all, nothing is written. The room comes by value, as
 // its type says how long it is; it takes 1.25 MB of the stack, which has 8 MB.
-fn put_fails(blank: [u8; ROOM], entries: &[u16]) -> bool
+fn put_fails(rt: &HostRuntime, blank: [u8; ROOM], entries: &[u16]) -> bool
     requires { length entries.now ≤ 768 }
 {
     let mut room = blank;
-    let before = read(&mut room, LONGEST);
+    let before = read(rt, &mut room, LONGEST);
     if before.failed {
         return true;
     }
@@ -36,16 +36,16 @@ fn put_fails(blank: [u8; ROOM], entries: &[u16]) -> bool
         return false;
     }
     let n = filed.count;
-    let put = replace_named(b"archive", b"write the archive", 3, &room[..n]);
+    let put = replace_named(rt, b"archive", b"write the archive", 3, &room[..n]);
     put.failed
 }
 
 // The same for any entries: where there are none, the file isn't looked at.
-pub(crate) fn fails(entries: &[u16]) -> bool
+pub(crate) fn fails(rt: &HostRuntime, entries: &[u16]) -> bool
     requires { length entries.now ≤ 768 }
 {
     if entries.len() == 0 {
         return false;
     }
-    put_fails([0; ROOM], entries)
+    put_fails(rt, [0; ROOM], entries)
 }

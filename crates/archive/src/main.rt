@@ -3,9 +3,8 @@
 #![tactic(auto)]
 
 use feed::Table;
-use libc::STDERR_FILENO;
 use streams::standard::write_output;
-use streams::words::is_there;
+use streams::words;
 
 mod file;
 
@@ -13,26 +12,23 @@ mod file;
 const ENTRIES: usize = 768;
 
 // All three words are wanted.
-fn too_few_words() -> bool {
-    let few = !is_there(os::arg_count(), 3);
+fn too_few_words(rt: &HostRuntime) -> bool {
+    let few = !words::is_there(words::count(rt), 3);
     if few {
-        io::write_all(
-            STDERR_FILENO,
-            b"archive: it takes three words, FROM, TO and ARCHIVE\n",
-        );
+        streams::standard::tell(rt, b"archive: it takes three words, FROM, TO and ARCHIVE\n");
     }
     few
 }
 
-fn tell(refusal: u8, moved: u16) {
+fn tell(rt: &HostRuntime, refusal: u8, moved: u16) {
     let mut line = [0u8; 42];
     let list = [refusal as u64, moved as u64];
     let n = text::put_spaced(&mut line, 0, &list);
-    write_output(b"archive", &line[..n]);
+    write_output(rt, b"archive", &line[..n]);
 }
 
 // ARCHIVE is written before TO: a run that is cut off between the two leaves accounts in both, and none in neither.
-fn archive(t: Table) {
+fn archive(rt: &HostRuntime, t: Table) {
     let mut entries = [0u16; ENTRIES];
     let archived = archival::archive(t, &mut entries);
     let refusal = archived.refusal;
@@ -40,33 +36,34 @@ fn archive(t: Table) {
     let after = archived.table;
     if refusal == 0 {
         let n = 3 * moved as usize;
-        if file::fails(&entries[..n]) {
+        if file::fails(rt, &entries[..n]) {
             return;
         }
-        let put = feed::books::to_word(b"archive", 2, after);
+        let put = feed::books::to_word(rt, b"archive", 2, after);
         if put.failed {
             return;
         }
     }
-    tell(refusal, moved);
+    tell(rt, refusal, moved);
 }
 
-fn main() {
+fn main(rt: HostRuntime) {
     let help = streams::standard::help(
+        &rt,
         b"archive: moves the retired accounts out of the book in the file FROM, a line for each into the text file ARCHIVE, the book without them into the file TO; prints 0 and how many moved, or 1 0 where the book isn't sound\nusage: archive FROM TO ARCHIVE\n",
     );
     if help.asked {
         return;
     }
-    if streams::standard::too_many_words(b"archive", 3) {
+    if streams::standard::too_many_words(&rt, b"archive", 3) {
         return;
     }
-    if too_few_words() {
+    if too_few_words(&rt) {
         return;
     }
-    let from = feed::books::from_word(b"archive", 1);
+    let from = feed::books::from_word(&rt, b"archive", 1);
     if from.failed {
         return;
     }
-    archive(from.table);
+    archive(&rt, from.table);
 }

@@ -39,7 +39,7 @@ fn to_front(space: &mut [u8], from: usize, to: usize) -> usize
 
 // Reads on where the longest call might not be held whole. So one that isn't whole after this is cut short, or has a
 // length past its limit: no call either way.
-pub(crate) fn more(space: &mut [u8], at: usize, end: usize, ended: bool) -> Stands
+pub(crate) fn more(rt: &HostRuntime, space: &mut [u8], at: usize, end: usize, ended: bool) -> Stands
     requires { (at ≤ end) × (end ≤ length space.old) }
     ensures { (result.at ≤ result.end) × (result.end ≤ length space.new) }
 {
@@ -52,7 +52,7 @@ pub(crate) fn more(space: &mut [u8], at: usize, end: usize, ended: bool) -> Stan
         };
     }
     let rest = to_front(space, at, end);
-    let got = read_input(b"calls", &mut space[rest..]);
+    let got = read_input(rt, b"calls", &mut space[rest..]);
     let filled = rest + got.count;
     Stands {
         at: 0,

@@ -23,14 +23,14 @@ pub(crate) fn blank() -> [u8; ROOM]
     [0; ROOM]
 }
 
-pub(crate) fn write(room: &[u8], put: usize) -> Moved
+pub(crate) fn write(rt: &HostRuntime, room: &[u8], put: usize) -> Moved
     requires { put ≤ length room.now }
 {
-    write_output(b"calls", &room[0..put])
+    write_output(rt, b"calls", &room[0..put])
 }
 
 // Writes the lines once they fill more than half of the room.
-pub(crate) fn written(room: &[u8], put: usize) -> Wrote
+pub(crate) fn written(rt: &HostRuntime, room: &[u8], put: usize) -> Wrote
     requires { put ≤ length room.now }
     ensures { result.left ≤ 196608 }
 {
@@ -40,7 +40,7 @@ pub(crate) fn written(room: &[u8], put: usize) -> Wrote
             failed: false,
         };
     }
-    let moved = write(room, put);
+    let moved = write(rt, room, put);
     Wrote {
         left: 0,
         failed: moved.failed,
@@ -48,10 +48,10 @@ pub(crate) fn written(room: &[u8], put: usize) -> Wrote
 }
 
 // Writes the last lines, behind them "`bad N`, N the number of calls answered".
-pub(crate) fn write_bad(room: &mut [u8], put: usize, answered: u64)
+pub(crate) fn write_bad(rt: &HostRuntime, room: &mut [u8], put: usize, answered: u64)
     requires { put + 25 ≤ length room.old }
 {
     let p = put_text(room, put, b"bad ");
     let end = put_number(room, p, answered, b'\n');
-    write(room, end);
+    write(rt, room, end);
 }

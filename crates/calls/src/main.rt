@@ -25,7 +25,7 @@ mod taken;
 const MOST: u64 = 18_446_744_073_709_551_615;
 
 // Answers the calls up to the end of the input, or up to what is no call.
-fn run() {
+fn run(rt: &HostRuntime) {
     let mut space = held::blank();
     let mut room = lines::blank();
     let mut at: usize = 0;
@@ -34,7 +34,7 @@ fn run() {
     let mut put: usize = 0;
     let mut answered: u64 = 0;
     while answered < MOST {
-        let stands = more(&mut space, at, end, ended);
+        let stands = more(rt, &mut space, at, end, ended);
         let from = stands.at;
         let to = stands.end;
         // The lines of what came before a failed read are written too.
@@ -46,10 +46,10 @@ fn run() {
         }
         let told = call::answer(&space[from..to], &mut room, put);
         if !told.is_call {
-            lines::write_bad(&mut room, put, answered);
+            lines::write_bad(rt, &mut room, put, answered);
             return;
         }
-        let wrote = written(&room, put + told.text);
+        let wrote = written(rt, &room, put + told.text);
         if wrote.failed {
             return;
         }
@@ -59,15 +59,16 @@ fn run() {
         put = wrote.left;
         answered += 1;
     }
-    lines::write(&room, put);
+    lines::write(rt, &room, put);
 }
 
-fn main() {
+fn main(rt: HostRuntime) {
     let help = streams::standard::help(
+        &rt,
         b"calls: answers the library calls on standard input, a byte for the call and then its arguments; a line for each\nusage: calls < CALLS\n",
     );
     if help.asked {
         return;
     }
-    run();
+    run(&rt);
 }

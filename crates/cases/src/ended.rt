@@ -2,32 +2,32 @@
 use crate::shown::{number, say};
 use run::{Closing, Ended};
 
-fn word(closing: Closing) {
+fn word(rt: &HostRuntime, closing: Closing) {
     match closing {
-        Closing::End => say(b" end"),
-        Closing::Cut => say(b" cut"),
-        Closing::Long => say(b" long"),
-        Closing::Unsound => say(b" 1"),
+        Closing::End => say(rt, b" end"),
+        Closing::Cut => say(rt, b" cut"),
+        Closing::Long => say(rt, b" long"),
+        Closing::Unsound => say(rt, b" 1"),
     }
 }
 
 // The closing word, the place and the counts.
-pub fn ended(e: Ended) {
+pub fn ended(rt: &HostRuntime, e: Ended) {
     let closing = e.closing;
-    word(closing);
-    number(e.place as u64);
-    number(e.read);
-    number(e.done);
+    word(rt, closing);
+    number(rt, e.place as u64);
+    number(rt, e.read);
+    number(rt, e.done);
 }
 
-fn item(n: u16) {
-    number(n as u64);
+fn item(rt: &HostRuntime, n: u16) {
+    number(rt, n as u64);
 }
 
-pub fn list(room: &[u16]) {
+pub fn list(rt: &HostRuntime, room: &[u16]) {
     let mut i: usize = 0;
     while i < room.len() {
-        item(room[i]);
+        item(rt, room[i]);
         i += 1;
     }
 }

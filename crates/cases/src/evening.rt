@@ -4,9 +4,9 @@ use book::{Amount, Table};
 use rows::{Kinds, Row, words};
 use table::{turn, turn_back};
 
-fn total(t: Table, amount: Amount) {
+fn total(rt: &HostRuntime, t: Table, amount: Amount) {
     let s = book::amount_sum(t, amount);
-    shown::number(s.total);
+    shown::number(rt, s.total);
 }
 
 // An account of the old order with a number of its own in each amount; what is received goes by n.
@@ -41,68 +41,68 @@ fn two() -> Table {
     turn(b)
 }
 
-fn ten(t: Table) {
-    shown::say(b"evening sums of the ten amounts:");
-    total(t, Amount::ReceivedCash);
-    total(t, Amount::ReceivedDeposits);
-    total(t, Amount::ReceivedGuarantees);
-    total(t, Amount::ReceivedSecurities);
-    total(t, Amount::AllocatedCash);
-    total(t, Amount::AllocatedDeposits);
-    total(t, Amount::AllocatedGuarantees);
-    total(t, Amount::AllocatedSecurities);
-    total(t, Amount::Pledged);
-    total(t, Amount::Margin);
-    shown::end_line();
+fn ten(rt: &HostRuntime, t: Table) {
+    shown::say(rt, b"evening sums of the ten amounts:");
+    total(rt, t, Amount::ReceivedCash);
+    total(rt, t, Amount::ReceivedDeposits);
+    total(rt, t, Amount::ReceivedGuarantees);
+    total(rt, t, Amount::ReceivedSecurities);
+    total(rt, t, Amount::AllocatedCash);
+    total(rt, t, Amount::AllocatedDeposits);
+    total(rt, t, Amount::AllocatedGuarantees);
+    total(rt, t, Amount::AllocatedSecurities);
+    total(rt, t, Amount::Pledged);
+    total(rt, t, Amount::Margin);
+    shown::end_line(rt);
 }
 
-fn margins(t: Table) {
+fn margins(rt: &HostRuntime, t: Table) {
     let s = book::amount_sum(t, Amount::Margin);
-    shown::told(b": refusal ", s.refusal as u64);
-    shown::told(b" total ", s.total);
-    shown::end_line();
+    shown::told(rt, b": refusal ", s.refusal as u64);
+    shown::told(rt, b" total ", s.total);
+    shown::end_line(rt);
 }
 
 // The book with the need at place i kept as this.
-fn kept(t: Table, i: u8, need: u64) {
-    shown::told(b"margins, need ", need);
-    shown::told(b" kept at place ", i as u64);
-    margins(books::keeping(t, i, need));
+fn kept(rt: &HostRuntime, t: Table, i: u8, need: u64) {
+    shown::told(rt, b"margins, need ", need);
+    shown::told(rt, b" kept at place ", i as u64);
+    margins(rt, books::keeping(t, i, need));
 }
 
 // "A sound book now includes that each kept need equals the need worked out afresh, and a wrong one is refusal 1."
-fn wrong(t: Table) {
-    shown::say(b"-- P4\n");
-    kept(t, 1, 90_000);
-    kept(t, 1, 90_001);
-    kept(t, 1, 89_999);
-    kept(t, 0, 40_001);
-    kept(t, 0, 39_999);
-    kept(t, 0, u64::MAX);
-    kept(t, 2, 60_000);
-    kept(t, 4, 1);
-    kept(t, 255, 1);
+fn wrong(rt: &HostRuntime, t: Table) {
+    shown::say(rt, b"-- P4\n");
+    kept(rt, t, 1, 90_000);
+    kept(rt, t, 1, 90_001);
+    kept(rt, t, 1, 89_999);
+    kept(rt, t, 0, 40_001);
+    kept(rt, t, 0, 39_999);
+    kept(rt, t, 0, u64::MAX);
+    kept(rt, t, 2, 60_000);
+    kept(rt, t, 4, 1);
+    kept(rt, t, 255, 1);
 }
 
 // Document 02, K8: "A sound book no longer has to be covered".
-fn kept_short(t: Table) {
-    shown::say(b"-- with a shortfall\n");
-    kept(t, 0, 100_001);
-    kept(t, 0, 100_000);
+fn kept_short(rt: &HostRuntime, t: Table) {
+    shown::say(rt, b"-- with a shortfall\n");
+    kept(rt, t, 0, 100_001);
+    kept(rt, t, 0, 100_000);
 }
 
 // A CP's need isn't kept, at place 3, nor a retired TM's, at place 4.
-fn kept_mixed(t: Table) {
-    shown::say(b"-- with a CP at place 3 and a retired TM at 4\n");
-    kept(t, 3, 0);
-    kept(t, 3, 30);
-    kept(t, 4, 1);
+fn kept_mixed(rt: &HostRuntime, t: Table) {
+    shown::say(rt, b"-- with a CP at place 3 and a retired TM at 4\n");
+    kept(rt, t, 3, 0);
+    kept(rt, t, 3, 30);
+    kept(rt, t, 4, 1);
 }
 
-pub fn lines() {
-    ten(books::p4());
-    ten(two());
-    wrong(books::p4());
-    kept_short(books::short());
-    kept_mixed(books::mixed());
+pub fn lines(rt: &HostRuntime) {
+    ten(rt, books::p4());
+    ten(rt, two());
+    wrong(rt, books::p4());
+    kept_short(rt, books::short());
+    kept_mixed(rt, books::mixed());
 }

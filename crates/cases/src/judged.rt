@@ -7,7 +7,7 @@ fn only(yes: bool, x: u64) -> u64 {
 }
 
 // The fault of a record whose amount of this bit is 1 and whose others are 0.
-fn fault(code: u8, named: u8, bit: u8) {
+fn fault(rt: &HostRuntime, code: u8, named: u8, bit: u8) {
     let r = Record {
         serial: 7,
         code,
@@ -22,48 +22,48 @@ fn fault(code: u8, named: u8, bit: u8) {
         pledged: only(bit == 4, 1),
         margin: only(bit == 5, 1),
     };
-    shown::number(dayfile::fault_of(r) as u64);
+    shown::number(rt, dayfile::fault_of(r) as u64);
 }
 
 // Retiring names no amount.
-fn unnamed() {
-    shown::say(b"retiring, an unnamed 1 of each kind:");
-    fault(11, 0, 0);
-    fault(11, 0, 1);
-    fault(11, 0, 2);
-    fault(11, 0, 3);
-    fault(11, 0, 4);
-    fault(11, 0, 5);
-    shown::end_line();
+fn unnamed(rt: &HostRuntime) {
+    shown::say(rt, b"retiring, an unnamed 1 of each kind:");
+    fault(rt, 11, 0, 0);
+    fault(rt, 11, 0, 1);
+    fault(rt, 11, 0, 2);
+    fault(rt, 11, 0, 3);
+    fault(rt, 11, 0, 4);
+    fault(rt, 11, 0, 5);
+    shown::end_line(rt);
 }
 
 // An unknown code, no amount named, another than the one held, and a good record.
-fn in_order() {
-    shown::say(b"in their order:");
-    fault(14, 0, 0);
-    fault(4, 0, 0);
-    fault(4, 1, 1);
-    fault(4, 1, 0);
-    shown::end_line();
+fn in_order(rt: &HostRuntime) {
+    shown::say(rt, b"in their order:");
+    fault(rt, 14, 0, 0);
+    fault(rt, 4, 0, 0);
+    fault(rt, 4, 1, 1);
+    fault(rt, 4, 1, 0);
+    shown::end_line(rt);
 }
 
-fn size(named: u8) {
-    shown::number(dayfile::size(named) as u64);
+fn size(rt: &HostRuntime, named: u8) {
+    shown::number(rt, dayfile::size(named) as u64);
 }
 
-fn sizes() {
-    shown::say(b"lengths for second mark bytes 0, 1, 128, 48, 15, 255:");
-    size(0);
-    size(1);
-    size(128);
-    size(48);
-    size(15);
-    size(255);
-    shown::end_line();
+fn sizes(rt: &HostRuntime) {
+    shown::say(rt, b"lengths for second mark bytes 0, 1, 128, 48, 15, 255:");
+    size(rt, 0);
+    size(rt, 1);
+    size(rt, 128);
+    size(rt, 48);
+    size(rt, 15);
+    size(rt, 255);
+    shown::end_line(rt);
 }
 
-pub fn lines() {
-    unnamed();
-    in_order();
-    sizes();
+pub fn lines(rt: &HostRuntime) {
+    unnamed(rt);
+    in_order(rt);
+    sizes(rt);
 }

@@ -13,16 +13,16 @@ mod turning;
 mod turns;
 mod written;
 
-fn main() {
-    shown::say(b"-- a book's written form\n");
-    written::lines();
-    shown::say(b"-- evening sums\n");
-    evening::lines();
-    shown::say(b"-- records and places of a day file\n");
-    judged::lines();
-    places::lines();
-    shown::say(b"-- a reader\n");
-    turns::lines();
-    shown::say(b"-- a day with its numbers\n");
-    rooms::lines();
+fn main(rt: HostRuntime) {
+    shown::say(&rt, b"-- a book's written form\n");
+    written::lines(&rt);
+    shown::say(&rt, b"-- evening sums\n");
+    evening::lines(&rt);
+    shown::say(&rt, b"-- records and places of a day file\n");
+    judged::lines(&rt);
+    places::lines(&rt);
+    shown::say(&rt, b"-- a reader\n");
+    turns::lines(&rt);
+    shown::say(&rt, b"-- a day with its numbers\n");
+    rooms::lines(&rt);
 }

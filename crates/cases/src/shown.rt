@@ -1,26 +1,26 @@
 // Words and numbers on standard output.
-use libc::STDOUT_FILENO;
+use streams::standard::show;
 
-pub fn say(text: &[u8]) {
-    io::write_all(STDOUT_FILENO, text);
+pub fn say(rt: &HostRuntime, text: &[u8]) {
+    show(rt, text);
 }
 
 // A text, and a number right behind it.
-pub fn told(text: &[u8], n: u64) {
-    say(text);
-    io::print_decimal(STDOUT_FILENO, n);
+pub fn told(rt: &HostRuntime, text: &[u8], n: u64) {
+    say(rt, text);
+    let _ = rt.print(n);
 }
 
-pub fn number(n: u64) {
-    told(b" ", n);
+pub fn number(rt: &HostRuntime, n: u64) {
+    told(rt, b" ", n);
 }
 
 // A word with its number.
-pub fn pair(text: &[u8], n: u64) {
-    say(text);
-    number(n);
+pub fn pair(rt: &HostRuntime, text: &[u8], n: u64) {
+    say(rt, text);
+    number(rt, n);
 }
 
-pub fn end_line() {
-    say(b"\n");
+pub fn end_line(rt: &HostRuntime) {
+    say(rt, b"\n");
 }

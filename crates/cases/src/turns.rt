@@ -5,14 +5,14 @@ use crate::turning::Turn;
 use dayfile::Read;
 
 // The end, 2, a good record, or the refusal; with its serial, code and account.
-fn answer(read: Read) {
+fn answer(rt: &HostRuntime, read: Read) {
     match read {
-        Read::End => say(b" end"),
-        Read::Cut => say(b" 2"),
+        Read::End => say(rt, b" end"),
+        Read::Cut => say(rt, b" 2"),
         Read::Good(record, _) => {
-            pair(b" good, serial", record.serial as u64);
-            pair(b", code", record.code as u64);
-            pair(b", account", record.account as u64);
+            pair(rt, b" good, serial", record.serial as u64);
+            pair(rt, b", code", record.code as u64);
+            pair(rt, b", account", record.account as u64);
         }
         Read::Bad {
             reason,
@@ -21,39 +21,39 @@ fn answer(read: Read) {
             account,
             next: _,
         } => {
-            pair(b" refusal", reason as u64);
-            pair(b", serial", serial as u64);
-            pair(b", code", code as u64);
-            pair(b", account", account as u64);
+            pair(rt, b" refusal", reason as u64);
+            pair(rt, b", serial", serial as u64);
+            pair(rt, b", code", code as u64);
+            pair(rt, b", account", account as u64);
         }
     }
 }
 
 // A turn at a place.
-fn line(at: usize, t: Turn) {
+fn line(rt: &HostRuntime, at: usize, t: Turn) {
     let seen = t.seen;
     let given = t.given;
-    pair(b"at", at as u64);
-    say(b" sees");
-    answer(seen);
-    say(b"; gives");
-    answer(given);
-    pair(b"; then at", t.place as u64);
-    say(b"\n");
+    pair(rt, b"at", at as u64);
+    say(rt, b" sees");
+    answer(rt, seen);
+    say(rt, b"; gives");
+    answer(rt, given);
+    pair(rt, b"; then at", t.place as u64);
+    say(rt, b"\n");
 }
 
-fn turns(piece: &[u8], place: usize, n: u8) {
+fn turns(rt: &HostRuntime, piece: &[u8], place: usize, n: u8) {
     let mut at = place;
     let mut i: u8 = 0;
     while i < n {
         let t = turning::take_turn(piece, at);
-        line(at, t);
+        line(rt, at, t);
         at = t.place;
         i += 1;
     }
 }
 
-pub fn lines() {
+pub fn lines(rt: &HostRuntime) {
     let piece = b"\x01\x00\x00\x00\x00\x00\
 \x02\x00\x00\x01\x00\x01\
 \x04\x01\x00\x02\x00\x02\x00\x00\x00\x00\x00\x00\x75\x30\
@@ -61,7 +61,7 @@ pub fn lines() {
 \x0A\x20\x00\x04\x00\x02\x00\x00\x00\x00\x00\x00\xEA\x60\
 \x0E\x00\x00\x05\x00\x00\
 \x01";
-    turns(piece, 0, 8);
-    turns(piece, 61, 2);
-    turns(piece, 18446744073709551615, 1);
+    turns(rt, piece, 0, 8);
+    turns(rt, piece, 61, 2);
+    turns(rt, piece, 18446744073709551615, 1);
 }

@@ -4,12 +4,12 @@ ghost use Rattle.std.specs.Prelude.{◌≤◌, ◌<◌, length};
 use crate::shown::{say, told};
 use bookfile::{Held, SIZE, Table};
 
-fn told_byte(text: &[u8], n: u8) {
-    told(text, n as u64);
+fn told_byte(rt: &HostRuntime, text: &[u8], n: u8) {
+    told(rt, text, n as u64);
 }
 
-fn told_word(text: &[u8], n: u16) {
-    told(text, n as u64);
+fn told_word(rt: &HostRuntime, text: &[u8], n: u16) {
+    told(rt, text, n as u64);
 }
 
 // A book that isn't sound, with words in its last place.
@@ -28,55 +28,55 @@ fn some_book() -> Table {
 }
 
 // Into the first n bytes of a room of 255s: the answer, and the room's first byte, the written form's last and the one behind it.
-fn room_line(t: Table, n: usize)
+fn room_line(rt: &HostRuntime, t: Table, n: usize)
     requires { n ≤ 24_333 }
 {
     let mut room = [255u8; 24_333];
     let answer = bookfile::write(t, &mut room[..n]);
-    told(b"into ", n as u64);
-    told_byte(b": ", answer);
-    told_byte(b"; bytes ", room[0]);
-    told_byte(b" ", room[24_331]);
-    told_byte(b" ", room[24_332]);
-    say(b"\n");
+    told(rt, b"into ", n as u64);
+    told_byte(rt, b": ", answer);
+    told_byte(rt, b"; bytes ", room[0]);
+    told_byte(rt, b" ", room[24_331]);
+    told_byte(rt, b" ", room[24_332]);
+    say(rt, b"\n");
 }
 
-fn held_line(held: Held) {
+fn held_line(rt: &HostRuntime, held: Held) {
     let t = held.table;
     if held.is_book {
-        say(b"a book");
+        say(rt, b"a book");
     } else {
-        say(b"none");
+        say(rt, b"none");
     }
-    told_word(b"; count ", t.count);
-    told_word(b", serial ", t.serial);
-    told(b", next ", t.next as u64);
-    told_word(b", at 254 number ", t.numbers[254]);
-    told_word(b", at 255 number ", t.numbers[255]);
-    told_byte(b", sort ", t.sort[255]);
-    told(b", need ", t.needs[255]);
-    told(b", margin ", t.amounts[2559]);
-    say(b"\n");
+    told_word(rt, b"; count ", t.count);
+    told_word(rt, b", serial ", t.serial);
+    told(rt, b", next ", t.next as u64);
+    told_word(rt, b", at 254 number ", t.numbers[254]);
+    told_word(rt, b", at 255 number ", t.numbers[255]);
+    told_byte(rt, b", sort ", t.sort[255]);
+    told(rt, b", need ", t.needs[255]);
+    told(rt, b", margin ", t.amounts[2559]);
+    say(rt, b"\n");
 }
 
-fn front_line(file: &[u8], n: usize)
+fn front_line(rt: &HostRuntime, file: &[u8], n: usize)
     requires { n ≤ length file.now }
 {
-    told(b"from ", n as u64);
-    say(b": ");
-    held_line(bookfile::read(&file[..n]));
+    told(rt, b"from ", n as u64);
+    say(rt, b": ");
+    held_line(rt, bookfile::read(&file[..n]));
 }
 
 // With one byte put anew, for this line alone.
-fn byte_line(file: &mut [u8], place: usize, byte: u8)
+fn byte_line(rt: &HostRuntime, file: &mut [u8], place: usize, byte: u8)
     requires { place < length file.old }
 {
     let was = file[place];
     file[place] = byte;
-    told(b"byte ", place as u64);
-    told_byte(b" as ", byte);
-    say(b": ");
-    held_line(bookfile::read(&file[..]));
+    told(rt, b"byte ", place as u64);
+    told_byte(rt, b" as ", byte);
+    say(rt, b": ");
+    held_line(rt, bookfile::read(&file[..]));
     file[place] = was;
 }
 
@@ -104,42 +104,42 @@ fn older(file: [u8; 24_332]) -> [u8; 23_816] {
     old
 }
 
-fn rooms(t: Table) {
-    room_line(t, 0);
-    room_line(t, 23_816);
-    room_line(t, 24_331);
-    room_line(t, 24_332);
-    room_line(t, 24_333);
+fn rooms(rt: &HostRuntime, t: Table) {
+    room_line(rt, t, 0);
+    room_line(rt, t, 23_816);
+    room_line(rt, t, 24_331);
+    room_line(rt, t, 24_332);
+    room_line(rt, t, 24_333);
 }
 
-fn version_two(file: [u8; 24_332]) {
+fn version_two(rt: &HostRuntime, file: [u8; 24_332]) {
     let mut bytes = file;
-    front_line(&bytes, 0);
-    front_line(&bytes, 24_331);
-    front_line(&bytes, SIZE);
-    byte_line(&mut bytes, 0, 77);
-    byte_line(&mut bytes, 3, 1);
-    byte_line(&mut bytes, 15, 2);
-    byte_line(&mut bytes, 24_323, 255);
-    byte_line(&mut bytes, 24_239, 0);
+    front_line(rt, &bytes, 0);
+    front_line(rt, &bytes, 24_331);
+    front_line(rt, &bytes, SIZE);
+    byte_line(rt, &mut bytes, 0, 77);
+    byte_line(rt, &mut bytes, 3, 1);
+    byte_line(rt, &mut bytes, 15, 2);
+    byte_line(rt, &mut bytes, 24_323, 255);
+    byte_line(rt, &mut bytes, 24_239, 0);
 }
 
 // Its count is 65,535, or with byte 4 as 0 it is 255.
-fn version_one(old: [u8; 23_816]) {
+fn version_one(rt: &HostRuntime, old: [u8; 23_816]) {
     let mut bytes = old;
-    front_line(&bytes, 23_815);
-    front_line(&bytes, 23_816);
-    byte_line(&mut bytes, 3, 2);
-    byte_line(&mut bytes, 4, 0);
-    byte_line(&mut bytes, 9, 2);
-    byte_line(&mut bytes, 23_807, 255);
+    front_line(rt, &bytes, 23_815);
+    front_line(rt, &bytes, 23_816);
+    byte_line(rt, &mut bytes, 3, 2);
+    byte_line(rt, &mut bytes, 4, 0);
+    byte_line(rt, &mut bytes, 9, 2);
+    byte_line(rt, &mut bytes, 23_807, 255);
 }
 
-pub fn lines() {
+pub fn lines(rt: &HostRuntime) {
     let t = some_book();
-    rooms(t);
+    rooms(rt, t);
     let mut file = [0u8; SIZE];
     bookfile::write(t, &mut file);
-    version_two(file);
-    version_one(older(file));
+    version_two(rt, file);
+    version_one(rt, older(file));
 }

@@ -7,6 +7,7 @@ use crate::lines::read_lines;
 use crate::losses::{Losses, list, unreadable};
 use crate::told;
 use streams::files::read_named;
+use streams::words;
 use streams::words::is_there;
 
 // One byte more than 256 accounts want: what lies further on can't matter.
@@ -15,12 +16,12 @@ const ROOM: usize = 2049;
 // The most bytes of a text.
 const TEXT: usize = 65_536;
 
-fn from_bytes() -> Losses
+fn from_bytes(rt: &HostRuntime) -> Losses
     ensures count_bound { result.count ≤ 256 }
     ensures came { Came result }
 {
     let mut bytes = [0u8; ROOM];
-    let read = read_named(b"closeouts", b"read the file of losses", 1, &mut bytes);
+    let read = read_named(rt, b"closeouts", b"read the file of losses", 1, &mut bytes);
     if read.failed {
         return unreadable();
     }
@@ -29,7 +30,7 @@ fn from_bytes() -> Losses
 }
 
 // A line that says nothing is told.
-fn from_text(text: &[u8]) -> Losses
+fn from_text(rt: &HostRuntime, text: &[u8]) -> Losses
     ensures count_bound { result.count ≤ 256 }
     ensures said_by { result.readable ≡ true → SaidBy result (told_of text.now) }
     ensures readable_value { result.readable ≡ says_losses (told_of text.now) }
@@ -45,41 +46,41 @@ fn from_text(text: &[u8]) -> Losses
             count: said.count,
         };
     }
-    told::fault(said.line, said.fault);
+    told::fault(rt, said.line, said.fault);
     unreadable()
 }
 
-fn from_lines() -> Losses
+fn from_lines(rt: &HostRuntime) -> Losses
     ensures count_bound { result.count ≤ 256 }
     ensures lines_came { result.readable ≡ true → LinesCame result }
 {
     let mut text = [0u8; TEXT + 1];
-    let read = read_named(b"closeouts", b"read the file of losses", 2, &mut text);
+    let read = read_named(rt, b"closeouts", b"read the file of losses", 2, &mut text);
     if read.failed {
         return unreadable();
     }
     let n = read.count;
     if TEXT < n {
-        told::too_long();
+        told::too_long(rt);
         return unreadable();
     }
-    from_text(&text[..n])
+    from_text(rt, &text[..n])
 }
 
 // Of the first word, or of the second behind `--lines`.
-pub(crate) fn from_argument(lines: bool) -> Losses
+pub(crate) fn from_argument(rt: &HostRuntime, lines: bool) -> Losses
     ensures count_bound { result.count ≤ 256 }
     ensures came_as { result.readable ≡ true → CameAs lines result }
 {
     if lines {
-        if is_there(os::arg_count(), 2) {
-            return from_lines();
+        if is_there(words::count(rt), 2) {
+            return from_lines(rt);
         }
     } else {
-        if is_there(os::arg_count(), 1) {
-            return from_bytes();
+        if is_there(words::count(rt), 1) {
+            return from_bytes(rt);
         }
     }
-    told::none_named();
+    told::none_named(rt);
     unreadable()
 }

@@ -54,6 +54,7 @@ fn failed(fault: u8, count: usize) -> Put
     }
 }
 
+#[tactic(auto, unfolding(crate::specs::LossLines::loss_said, sums::specs::Choice::pick))]
 fn loss_of(line: &[u8]) -> Loss
     ensures { result ≡ loss_said line.now }
 {

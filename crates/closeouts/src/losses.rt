@@ -15,6 +15,7 @@ pub(crate) struct Losses {
 }
 
 // A length that is no multiple of eight gives no losses, which suit no book.
+#[tactic(auto, unfolding(crate::specs::Losses::loss_count, sums::specs::Choice::pick))]
 fn count_of(length: usize) -> usize
     ensures { result ≡ loss_count length }
 {

@@ -12,6 +12,7 @@ ghost use Rattle.closeouts.specs.LossLines.{text_of_lines};
 use feed::Table;
 use matching::{all_held, row_losses};
 use streams::standard::{too_many_words, write_output};
+use streams::words;
 use streams::words::is_same;
 
 mod file;
@@ -78,40 +79,40 @@ fn lines_text(
     close_out_text(t, &losses[..n], room)
 }
 
-fn close_out_lines(t: Table, named: [u16; 256], said: [u64; 256], count: usize)
+fn close_out_lines(rt: &HostRuntime, t: Table, named: [u16; 256], said: [u64; 256], count: usize)
     requires { count ≤ 256 }
 {
     let mut room = [0u8; 65536];
     let n = lines_text(t, named, said, count, &mut room);
-    write_output(b"closeouts", &room[..n]);
+    write_output(rt, b"closeouts", &room[..n]);
 }
 
-fn close_out(t: Table, list: [u64; 256], count: usize)
+fn close_out(rt: &HostRuntime, t: Table, list: [u64; 256], count: usize)
     requires { count ≤ 256 }
 {
     let losses = list;
     let mut room = [0u8; 65536];
     let n = close_out_text(t, &losses[..count], &mut room);
-    write_output(b"closeouts", &room[..n]);
+    write_output(rt, b"closeouts", &room[..n]);
 }
 
 // Whether the first word is `--lines`.
-fn asks_for_lines() -> bool {
-    let mut word = io::buffer();
-    let n = os::arg(1, &mut word);
+fn asks_for_lines(rt: &HostRuntime) -> bool {
+    let mut word = words::blank();
+    let n = words::put_or_none(rt, 1, &mut word);
     is_same(&word[..n], b"--lines")
 }
 
-fn run(lines: bool, from: usize) {
-    let losses = file::from_argument(lines);
+fn run(rt: &HostRuntime, lines: bool, from: usize) {
+    let losses = file::from_argument(rt, lines);
     if !losses.readable {
         return;
     }
-    let start = feed::books::from_word(b"closeouts", from);
+    let start = feed::books::from_word(rt, b"closeouts", from);
     if start.failed {
         return;
     }
-    let day = feed::whole_day(b"closeouts", false, start.table);
+    let day = feed::whole_day(rt, b"closeouts", false, start.table);
     if day.failed {
         return;
     }
@@ -119,28 +120,29 @@ fn run(lines: bool, from: usize) {
     let table = day.table;
     let numbers = losses.numbers;
     let list = losses.list;
-    let closed = report::closing(b"closeouts", word, day.read, day.done);
+    let closed = report::closing(rt, b"closeouts", word, day.read, day.done);
     if closed.failed {
         return;
     }
     if lines {
-        close_out_lines(table, numbers, list, losses.count);
+        close_out_lines(rt, table, numbers, list, losses.count);
     } else {
-        close_out(table, list, losses.count);
+        close_out(rt, table, list, losses.count);
     }
 }
 
-fn main() {
+fn main(rt: HostRuntime) {
     let help = streams::standard::help(
+        &rt,
         b"closeouts: carries out the day file on standard input over a fresh book, or over the one in the file FROM (- for a fresh one); the closing line, then who pays the losses in the file LOSSES, a line for each account; with --lines LOSSES is a text, a line NUMBER AMOUNT for each account that has a loss\nusage: closeouts [--lines] LOSSES [FROM] < DAYFILE\n",
     );
     if help.asked {
         return;
     }
-    let lines = asks_for_lines();
+    let lines = asks_for_lines(&rt);
     let from = if lines { 3 } else { 2 };
-    if too_many_words(b"closeouts", from) {
+    if too_many_words(&rt, b"closeouts", from) {
         return;
     }
-    run(lines, from);
+    run(&rt, lines, from);
 }

@@ -3,21 +3,18 @@ ghost use Rattle.std.specs.Prelude.{◌+◌, ◌≤◌, length};
 ghost use Rattle.text.specs.Inner.{Puts};
 ghost use Rattle.closeouts.specs.LossLines.{fault_words, fault_text};
 
-use libc::STDERR_FILENO;
+use streams::standard::tell;
 use text::{put_number, put_text};
 
-pub(crate) fn none_named() {
-    io::write_all(
-        STDERR_FILENO,
+pub(crate) fn none_named(rt: &HostRuntime) {
+    tell(
+        rt,
         b"closeouts: cannot read the file of losses: none is named\n",
     );
 }
 
-pub(crate) fn too_long() {
-    io::write_all(
-        STDERR_FILENO,
-        b"closeouts: the file of losses is too long\n",
-    );
+pub(crate) fn too_long(rt: &HostRuntime) {
+    tell(rt, b"closeouts: the file of losses is too long\n");
 }
 
 fn put_words(room: &mut [u8], at: usize, fault: u8) -> usize
@@ -43,8 +40,8 @@ fn put_fault(room: &mut [u8], line: usize, fault: u8) -> usize
     put_words(room, q, fault)
 }
 
-pub(crate) fn fault(line: usize, fault: u8) {
+pub(crate) fn fault(rt: &HostRuntime, line: usize, fault: u8) {
     let mut room = [0u8; 80];
     let n = put_fault(&mut room, line, fault);
-    io::write_all(STDERR_FILENO, &room[..n]);
+    tell(rt, &room[..n]);
 }

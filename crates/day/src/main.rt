@@ -5,37 +5,38 @@
 use feed::{Closing, Table};
 
 // Where TO is named. A book that isn't sound is not written: nothing was carried out.
-fn put_to(word: Closing, table: Table) -> bool {
+fn put_to(rt: &HostRuntime, word: Closing, table: Table) -> bool {
     match word {
         Closing::Unsound => true,
         _ => {
-            let put = feed::books::to_word(b"day", 2, table);
+            let put = feed::books::to_word(rt, b"day", 2, table);
             !put.failed
         }
     }
 }
 
-fn main() {
+fn main(rt: HostRuntime) {
     let help = streams::standard::help(
+        &rt,
         b"day: carries out the day file on standard input over a fresh book, or over the one in the file FROM (- for a fresh one); a line for each record, then the closing word, records read and records carried out; the book after it goes into the file TO\nusage: day [FROM [TO]] < DAYFILE\n",
     );
     if help.asked {
         return;
     }
-    if streams::standard::too_many_words(b"day", 2) {
+    if streams::standard::too_many_words(&rt, b"day", 2) {
         return;
     }
-    let from = feed::books::from_word(b"day", 1);
+    let from = feed::books::from_word(&rt, b"day", 1);
     if from.failed {
         return;
     }
-    let day = feed::whole_day(b"day", true, from.table);
+    let day = feed::whole_day(&rt, b"day", true, from.table);
     if day.failed {
         return;
     }
     let word = day.closing;
-    if !put_to(word, day.table) {
+    if !put_to(&rt, word, day.table) {
         return;
     }
-    report::closing(b"day", word, day.read, day.done);
+    report::closing(&rt, b"day", word, day.read, day.done);
 }

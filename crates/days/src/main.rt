@@ -27,7 +27,7 @@ fn number(a: u8, b: u8, c: u8, d: u8) -> usize {
 }
 
 // The length in front of a day: a bundle's days have fewer than 4,096 bytes.
-fn size() -> Next
+fn size(rt: &HostRuntime) -> Next
     ensures { result.size < 4096 }
 {
     let nothing = Next {
@@ -35,7 +35,7 @@ fn size() -> Next
         size: 0,
     };
     let mut head = [0u8; 4];
-    let got = read_input(b"days", &mut head);
+    let got = read_input(rt, b"days", &mut head);
     if got.count < 4 {
         return nothing;
     }
@@ -47,48 +47,49 @@ fn size() -> Next
 }
 
 // A day of fewer than 4,096 bytes has at most 682 records: their lines take one call. Answers whether all of it was printed.
-fn run_day(bytes: &[u8]) -> bool {
+fn run_day(rt: &HostRuntime, bytes: &[u8]) -> bool {
     let mut room = [0u8; 65536];
     let lined = lines::lines(book::fresh(), bytes, feed::MILLION, &mut room);
     let n = lined.text;
-    let put = write_output(b"days", &room[..n]);
+    let put = write_output(rt, b"days", &room[..n]);
     if put.failed {
         return false;
     }
     let word = lined.closing;
-    let closed = report::closing(b"days", word, lined.read, lined.done);
+    let closed = report::closing(rt, b"days", word, lined.read, lined.done);
     if closed.failed {
         return false;
     }
     let table = lined.table;
-    let stood = report::standings(b"days", table);
+    let stood = report::standings(rt, b"days", table);
     !stood.failed
 }
 
 // Reads the next day and runs it, and answers whether there was one. What is cut short ends the bundle.
-fn next_day() -> bool {
-    let mut room = io::buffer();
-    let next = size();
+fn next_day(rt: &HostRuntime) -> bool {
+    let mut room = streams::words::blank();
+    let next = size(rt);
     if !next.found {
         return false;
     }
     let n = next.size;
-    let got = read_input(b"days", &mut room[..n]);
+    let got = read_input(rt, b"days", &mut room[..n]);
     if got.count < n {
         return false;
     }
-    run_day(&room[..n])
+    run_day(rt, &room[..n])
 }
 
-fn main() {
+fn main(rt: HostRuntime) {
     let help = streams::standard::help(
+        &rt,
         b"days: carries out a bundle of small days on standard input, each over a fresh book; for each what `day` prints, then how each account stands\nusage: days < BUNDLE\n",
     );
     if help.asked {
         return;
     }
     let mut left = DAYS;
-    while left > 0 && next_day() {
+    while left > 0 && next_day(&rt) {
         left -= 1;
     }
 }

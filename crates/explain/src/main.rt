@@ -1,24 +1,25 @@
 // The day file on standard input over a fresh book, or over the one in the file FROM: `day`'s lines, and behind each refused record with one amount how much would have passed. No book is kept.
 #![tactic(auto)]
 
-fn main() {
+fn main(rt: HostRuntime) {
     let help = streams::standard::help(
+        &rt,
         b"explain: carries out the day file on standard input over a fresh book, or over the one in the file FROM (- for a fresh one), and keeps no book; the lines of day, and behind the line of each refused record with one amount the refusal or 0 and the largest amount that would have passed\nusage: explain [FROM] < DAYFILE\n",
     );
     if help.asked {
         return;
     }
-    if streams::standard::too_many_words(b"explain", 1) {
+    if streams::standard::too_many_words(&rt, b"explain", 1) {
         return;
     }
-    let from = feed::books::from_word(b"explain", 1);
+    let from = feed::books::from_word(&rt, b"explain", 1);
     if from.failed {
         return;
     }
-    let day = feed::explained_day(b"explain", from.table);
+    let day = feed::explained_day(&rt, b"explain", from.table);
     if day.failed {
         return;
     }
     let word = day.closing;
-    report::closing(b"explain", word, day.read, day.done);
+    report::closing(&rt, b"explain", word, day.read, day.done);
 }

@@ -36,6 +36,7 @@ pub struct Day {
     pub failed: bool,
 }
 
+#[tactic(auto, unfolding(crate::specs::Fed::no_day))]
 fn no_day() -> Day
     ensures { result ≡ no_day }
 {
@@ -66,7 +67,7 @@ fn unsound(t: Table) -> Day
 
 // The turns over a sound book. The end of a piece is no cut: the rest of it stays, and the next piece is read behind it. Only a piece that doesn't fill the
 // space is the last one.
-fn in_turns(program: &[u8], printing: bool, explained: bool, t: Table) -> Day
+fn in_turns(rt: &HostRuntime, program: &[u8], printing: bool, explained: bool, t: Table) -> Day
     requires { Sound (turned_back t) }
     ensures { CameWith (told_text printing explained (turned_back t)) (turned_back t) result }
 {
@@ -100,7 +101,7 @@ fn in_turns(program: &[u8], printing: bool, explained: bool, t: Table) -> Day
     let mut printed: usize = 0;
     let mut ended = false;
     let closing = loop {
-        let got = pieces::refill_input(program, &mut space, rest, ended);
+        let got = pieces::refill_input(rt, program, &mut space, rest, ended);
         let held = rest + got.count;
         let told = turn::carry_on(
             &mut sort,
@@ -125,7 +126,7 @@ fn in_turns(program: &[u8], printing: bool, explained: bool, t: Table) -> Day
         let word = went.closing;
         let stands = went.at;
         let n = told.text;
-        let put = turn::hand_over(program, printing, &text, n);
+        let put = turn::hand_over(rt, program, printing, &text, n);
         if got.failed | put.failed {
             return no_day();
         }
@@ -152,21 +153,21 @@ fn in_turns(program: &[u8], printing: bool, explained: bool, t: Table) -> Day
 
 // The day file on standard input, carried out over a book, with a line for each record on standard output where that is asked for. Of a book that isn't sound
 // nothing is read. A failure is told on standard error, for the program named.
-pub fn whole_day(program: &[u8], printing: bool, t: Table) -> Day
+pub fn whole_day(rt: &HostRuntime, program: &[u8], printing: bool, t: Table) -> Day
     ensures { Came printing (turned_back t) result }
 {
     if !book::is_sound(t) {
         return unsound(t);
     }
-    in_turns(program, printing, false, t)
+    in_turns(rt, program, printing, false, t)
 }
 
 // The same, with how much would have passed behind the line of each refused record with one amount.
-pub fn explained_day(program: &[u8], t: Table) -> Day
+pub fn explained_day(rt: &HostRuntime, program: &[u8], t: Table) -> Day
     ensures { CameExplained (turned_back t) result }
 {
     if !book::is_sound(t) {
         return unsound(t);
     }
-    in_turns(program, true, true, t)
+    in_turns(rt, program, true, true, t)
 }

@@ -72,7 +72,13 @@ pub(crate) fn carry_on(
 }
 
 // Prints a turn's text from the room's start. Nothing else of this crate prints; where nothing is to be printed there is no text.
-pub(crate) fn hand_over(program: &[u8], printing: bool, text: &[u8], n: usize) -> Moved
+pub(crate) fn hand_over(
+    rt: &HostRuntime,
+    program: &[u8],
+    printing: bool,
+    text: &[u8],
+    n: usize,
+) -> Moved
     requires { (n ≤ length text.now) × (printing ≡ false → n ≡ 0) }
     ensures { (result.count ≤ n) × (result.failed ≡ ltb result.count n) }
 {
@@ -82,5 +88,5 @@ pub(crate) fn hand_over(program: &[u8], printing: bool, text: &[u8], n: usize) -
             count: 0,
         };
     }
-    write_output(program, &text[..n])
+    write_output(rt, program, &text[..n])
 }

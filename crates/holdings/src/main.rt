@@ -2,28 +2,29 @@
 // each row held with all that the book has of it and its use. Of a book that isn't sound there is no text but the closing line.
 #![tactic(auto)]
 
-fn main() {
+fn main(rt: HostRuntime) {
     let help = streams::standard::help(
+        &rt,
         b"holdings: carries out the day file on standard input over a fresh book, or over the one in the file FROM (- for a fresh one); the closing line, then the next serial and number, and what the book has of each account, a line for each account\nusage: holdings [FROM] < DAYFILE\n",
     );
     if help.asked {
         return;
     }
-    if streams::standard::too_many_words(b"holdings", 1) {
+    if streams::standard::too_many_words(&rt, b"holdings", 1) {
         return;
     }
-    let from = feed::books::from_word(b"holdings", 1);
+    let from = feed::books::from_word(&rt, b"holdings", 1);
     if from.failed {
         return;
     }
-    let day = feed::whole_day(b"holdings", false, from.table);
+    let day = feed::whole_day(&rt, b"holdings", false, from.table);
     if day.failed {
         return;
     }
     let word = day.closing;
-    let closed = report::closing(b"holdings", word, day.read, day.done);
+    let closed = report::closing(&rt, b"holdings", word, day.read, day.done);
     if closed.failed {
         return;
     }
-    report::holdings(b"holdings", day.table);
+    report::holdings(&rt, b"holdings", day.table);
 }

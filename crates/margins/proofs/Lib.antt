@@ -1,4 +1,3 @@
-pub mod Least
 pub mod Alike
 pub mod Parting
 pub mod Naming

@@ -2,7 +2,7 @@
 ghost use Rattle.std.specs.Prelude.{◌≡◌};
 ghost use Rattle.margins.specs.Asked.{not_asked, asked_for, asked_by_words, Came};
 
-use streams::words::is_same;
+use streams::words::{blank, count, is_same, put_or_none};
 use text::decimals::{Decimal, number_of};
 
 #[derive(Clone, Copy)]
@@ -26,6 +26,7 @@ fn nothing() -> Asked
     }
 }
 
+#[tactic(auto, unfolding(crate::specs::Asked::asked_for, sums::specs::Choice::pick))]
 fn from_numbers(record: bool, serial: u64, account: u64, initial: u64) -> Asked
     ensures { result ≡ asked_for «record» (Decimal.Is serial) (Decimal.Is account) (Decimal.Is initial) }
 {
@@ -41,6 +42,7 @@ fn from_numbers(record: bool, serial: u64, account: u64, initial: u64) -> Asked
     }
 }
 
+#[tactic(auto, unfolding(crate::specs::Asked::asked_for))]
 fn from_three(record: bool, serial: Decimal, account: Decimal, initial: Decimal) -> Asked
     ensures { result ≡ asked_for «record» serial account initial }
 {
@@ -57,6 +59,7 @@ fn from_three(record: bool, serial: Decimal, account: Decimal, initial: Decimal)
 }
 
 // So many words, the program's own name among them; the first four behind the name.
+#[tactic(auto, unfolding(crate::specs::Asked::asked_by_words, sums::specs::Choice::pick))]
 fn from_four(count: usize, a: &[u8], b: &[u8], c: &[u8], d: &[u8]) -> Asked
     ensures { result ≡ asked_by_words count a.now b.now c.now d.now }
 {
@@ -73,19 +76,19 @@ fn from_four(count: usize, a: &[u8], b: &[u8], c: &[u8], d: &[u8]) -> Asked
 }
 
 // A word that is missing, or too long for its room, counts as empty.
-pub(crate) fn from_words() -> Asked
+pub(crate) fn from_words(rt: &HostRuntime) -> Asked
     ensures { Came result }
 {
-    let mut a = io::buffer();
-    let mut b = io::buffer();
-    let mut c = io::buffer();
-    let mut d = io::buffer();
-    let first = os::arg(1, &mut a);
-    let second = os::arg(2, &mut b);
-    let third = os::arg(3, &mut c);
-    let fourth = os::arg(4, &mut d);
+    let mut a = blank();
+    let mut b = blank();
+    let mut c = blank();
+    let mut d = blank();
+    let first = put_or_none(rt, 1, &mut a);
+    let second = put_or_none(rt, 2, &mut b);
+    let third = put_or_none(rt, 3, &mut c);
+    let fourth = put_or_none(rt, 4, &mut d);
     from_four(
-        os::arg_count(),
+        count(rt),
         &a[..first],
         &b[..second],
         &c[..third],

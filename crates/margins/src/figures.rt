@@ -25,6 +25,7 @@ enum Figure {
 const LARGEST: u64 = 9_223_372_036_854_775_807;
 
 // One that does not fit the signed type counts as its largest or its least.
+#[tactic(auto, unfolding(sums::specs::Choice::pick))]
 fn above(n: u64) -> i64
     ensures { result ≡ above_zero n }
 {
@@ -35,6 +36,7 @@ fn above(n: u64) -> i64
     }
 }
 
+#[tactic(auto, unfolding(sums::specs::Choice::pick))]
 fn below(n: u64) -> i64
     ensures { result ≡ below_zero n }
 {
@@ -45,6 +47,7 @@ fn below(n: u64) -> i64
     }
 }
 
+#[tactic(auto, unfolding(crate::specs::Figures::figure_of, sums::specs::Choice::pick))]
 fn figure_of(word: &[u8]) -> Figure
     ensures { result ≡ figure_of word.now }
 {
@@ -63,6 +66,7 @@ fn figure_of(word: &[u8]) -> Figure
     Figure::Is(above(n))
 }
 
+#[tactic(auto, unfolding(crate::specs::Figures::told))]
 fn all_of(premium: Figure, loss: Figure, exercise: Figure, settlement: Figure) -> Line
     ensures { result ≡ told premium loss exercise settlement }
 {

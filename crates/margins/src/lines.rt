@@ -21,6 +21,7 @@ pub(crate) enum Line {
     Bad,
 }
 
+#[tactic(auto, unfolding(crate::specs::Lines::holding))]
 fn held(product: u8, side: Word, notional: Decimal) -> Line
     ensures { result ≡ holding product side notional }
 {

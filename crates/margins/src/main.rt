@@ -8,9 +8,8 @@ ghost use Rattle.margins.specs.Printed.{printed_for};
 
 use answers::answer;
 use asked::Asked;
-use libc::STDERR_FILENO;
 use streams::Moved;
-use streams::standard::{read_input, write_output};
+use streams::standard::{read_input, tell, write_output};
 
 mod answers;
 mod asked;
@@ -27,7 +26,7 @@ mod words;
 const INPUT: usize = 65_536;
 
 // Hands over what is printed of the input's text, whole unless a write failed.
-fn hand_over(asked: Asked, text: &[u8]) -> Moved
+fn hand_over(rt: &HostRuntime, asked: Asked, text: &[u8]) -> Moved
     requires { length text.now ≤ 65_536 }
     ensures { result.failed ≡ false → result.count ≡ length (printed_for asked (held_in text.now)) }
 {
@@ -37,35 +36,36 @@ fn hand_over(asked: Asked, text: &[u8]) -> Moved
     let said = answer(asked, held, &mut out, &mut err);
     let told = said.told;
     let printed = said.printed;
-    io::write_all(STDERR_FILENO, &err[..told]);
-    write_output(b"margins", &out[..printed])
+    tell(rt, &err[..told]);
+    write_output(rt, b"margins", &out[..printed])
 }
 
-fn run(asked: Asked) {
+fn run(rt: &HostRuntime, asked: Asked) {
     let mut room = [0u8; INPUT + 1];
-    let read = read_input(b"margins", &mut room);
+    let read = read_input(rt, b"margins", &mut room);
     if read.failed {
         return;
     }
     let n = read.count;
     if INPUT < n {
-        told::too_long();
+        told::too_long(rt);
         return;
     }
-    hand_over(asked, &room[..n]);
+    hand_over(rt, asked, &room[..n]);
 }
 
-fn main() {
+fn main(rt: HostRuntime) {
     let help = streams::standard::help(
+        &rt,
         b"margins: a client's initial margin, the extreme loss margin of its positions and what its figures come to, on standard input a line each, PRODUCT SIDE NOTIONAL, and at most once figures PREMIUM LOSS [EXERCISE SETTLEMENT]; prints the refusal or 0 and the margin, with --record the record that sets it\nusage: margins [--record] SERIAL ACCOUNT INITIAL < POSITIONS\n",
     );
     if help.asked {
         return;
     }
-    let asked = asked::from_words();
+    let asked = asked::from_words(&rt);
     if !asked.is_good {
-        told::bad_words();
+        told::bad_words(&rt);
         return;
     }
-    run(asked);
+    run(&rt, asked);
 }

@@ -20,6 +20,7 @@ pub(crate) struct Held {
     pub(crate) bad: u64,
 }
 
+#[tactic(auto, unfolding(crate::specs::Positions::first_of, crate::specs::Positions::positions_in, crate::specs::Positions::told_in, crate::specs::Positions::figures_in, crate::specs::Positions::first_bad, crate::specs::Positions::held_by))]
 fn none() -> Held
     ensures { result ≡ held_by [] }
 {
@@ -43,6 +44,7 @@ fn none() -> Held
     }
 }
 
+#[tactic(auto, unfolding(sums::specs::Choice::pick))]
 fn with_position(held: Held, position: Position) -> Held
     requires { held.number ≤ 65_536 }
     ensures { result ≡ with_position held position }
@@ -59,6 +61,7 @@ fn with_position(held: Held, position: Position) -> Held
 }
 
 // The first line that is none counts.
+#[tactic(auto, unfolding(sums::specs::Choice::pick))]
 fn with_bad(held: Held, number: u64) -> Held
     ensures { result ≡ with_bad held number }
 {
@@ -70,6 +73,7 @@ fn with_bad(held: Held, number: u64) -> Held
 }
 
 // Figures stand there at most once.
+#[tactic(auto, unfolding(sums::specs::Choice::pick))]
 fn with_figures(held: Held, figures: Figures, number: u64) -> Held
     ensures { result ≡ with_figures held figures number }
 {

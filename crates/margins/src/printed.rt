@@ -17,6 +17,7 @@ fn put_pair(room: &mut [u8], refusal: u64, margin: u64) -> usize
 }
 
 // "the refusal or 0, then the margin (0 with a refusal)"
+#[tactic(auto, unfolding(crate::specs::Printed::line_made))]
 fn put_line(room: &mut [u8], made: Made) -> usize
     requires { 70 ≤ length room.old }
     ensures { Puts room.old 0 (line_made made) room.new result }
@@ -37,6 +38,7 @@ fn put_written(room: &mut [u8], record: Record) -> usize
     }
 }
 
+#[tactic(auto, unfolding(crate::specs::Printed::record_made))]
 fn put_record(room: &mut [u8], made: Made) -> usize
     requires { 70 ≤ length room.old }
     ensures { Puts room.old 0 (record_made made) room.new result }
@@ -47,6 +49,7 @@ fn put_record(room: &mut [u8], made: Made) -> usize
     }
 }
 
+#[tactic(auto, unfolding(sums::specs::Choice::pick))]
 pub(crate) fn put_made(room: &mut [u8], as_record: bool, made: Made) -> usize
     requires { 70 ≤ length room.old }
     ensures { Puts room.old 0 (pick as_record (record_made made) (line_made made)) room.new result }

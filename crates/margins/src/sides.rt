@@ -11,6 +11,7 @@ pub(crate) enum Word {
     No,
 }
 
+#[tactic(auto, unfolding(crate::specs::Sides::side_of, sums::specs::Choice::pick))]
 pub(crate) fn side_of(word: &[u8]) -> Word
     ensures { result ≡ side_of word.now }
 {

@@ -4,18 +4,18 @@ ghost use Rattle.text.specs.Inner.{Puts};
 ghost use Rattle.margins.specs.Printed.{refusal_made, refused_text, bad_text, told_made};
 
 use currency::Made;
-use libc::STDERR_FILENO;
+use streams::standard::tell;
 use text::{put_number, put_text};
 
-pub(crate) fn bad_words() {
-    io::write_all(
-        STDERR_FILENO,
+pub(crate) fn bad_words(rt: &HostRuntime) {
+    tell(
+        rt,
         b"margins: the words are not [--record] SERIAL ACCOUNT INITIAL\n",
     );
 }
 
-pub(crate) fn too_long() {
-    io::write_all(STDERR_FILENO, b"margins: standard input is too long\n");
+pub(crate) fn too_long(rt: &HostRuntime) {
+    tell(rt, b"margins: standard input is too long\n");
 }
 
 pub(crate) fn put_bad(room: &mut [u8], line: u64) -> usize
@@ -36,6 +36,7 @@ fn put_refused(room: &mut [u8], refusal: u8) -> usize
 }
 
 // The refusal of what was made, or that of the day file's writer.
+#[tactic(auto, unfolding(crate::specs::Printed::refusal_made))]
 fn refusal_of(made: Made) -> u8
     ensures { result ≡ refusal_made made }
 {
@@ -45,6 +46,7 @@ fn refusal_of(made: Made) -> u8
     }
 }
 
+#[tactic(auto, unfolding(crate::specs::Printed::told_made, sums::specs::Choice::pick))]
 pub(crate) fn put_told(room: &mut [u8], as_record: bool, made: Made) -> usize
     requires { 70 ≤ length room.old }
     ensures { Puts room.old 0 (told_made as_record made) room.new result }

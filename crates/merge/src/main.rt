@@ -4,12 +4,10 @@
 
 ghost use Rattle.std.specs.Prelude.{◌≤◌, length};
 
-use libc::STDERR_FILENO;
 use merging::Merged;
-use streams::Moved;
 use streams::files::{read_named, within};
 use streams::standard::write_output;
-use streams::words::is_there;
+use streams::{Moved, standard, words};
 
 // The most bytes of each file, of both, and one more than the longest.
 const LONGEST: usize = 1_048_576;
@@ -18,82 +16,83 @@ const BOTH: usize = 2_097_152;
 
 const ROOM: usize = 1_048_577;
 
-fn too_few_words() -> bool {
-    let few = !is_there(os::arg_count(), 2);
+fn too_few_words(rt: &HostRuntime) -> bool {
+    let few = !words::is_there(words::count(rt), 2);
     if few {
-        io::write_all(
-            STDERR_FILENO,
+        standard::tell(
+            rt,
             b"merge: it takes two words, A and B, and then FROM where it is wanted\n",
         );
     }
     few
 }
 
-fn read(word: usize, room: &mut [u8]) -> Moved
+fn read(rt: &HostRuntime, word: usize, room: &mut [u8]) -> Moved
     ensures { result.count ≤ length room.new }
 {
-    let read = read_named(b"merge", b"read the day file", word, room);
-    within(b"merge", b"read the day file", word, read, LONGEST)
+    let read = read_named(rt, b"merge", b"read the day file", word, room);
+    within(rt, b"merge", b"read the day file", word, read, LONGEST)
 }
 
 // The file's name is the word of its number. 15 can't be: the room has both files' most bytes.
-fn tell(merged: Merged) {
-    let mut name = io::buffer();
-    let n = os::arg(merged.file as usize, &mut name);
+fn tell(rt: &HostRuntime, merged: Merged) {
+    let mut name = words::blank();
+    let n = words::put_or_none(rt, merged.file as usize, &mut name);
     let mut line = [0u8; 52];
     let k = text::put_refused(&mut line, 0, merged.refusal, merged.index, b'\n');
-    io::write_all(STDERR_FILENO, b"merge: ");
-    io::write_all(STDERR_FILENO, &name[..n]);
-    io::write_all(STDERR_FILENO, b": ");
-    io::write_all(STDERR_FILENO, &line[..k]);
+    standard::tell(rt, b"merge: ");
+    standard::tell(rt, &name[..n]);
+    standard::tell(rt, b": ");
+    standard::tell(rt, &line[..k]);
 }
 
 // The room comes by value, as its type says how long it is.
-fn merge(blank: [u8; BOTH], a: &[u8], b: &[u8], next: u16) {
+fn merge(rt: &HostRuntime, blank: [u8; BOTH], a: &[u8], b: &[u8], next: u16) {
     let mut room = blank;
     let merged = merging::merge(a, b, next, &mut room);
     if merged.refusal != 0 {
-        tell(merged);
+        tell(rt, merged);
         return;
     }
     let n = merged.length;
-    write_output(b"merge", &room[..n]);
+    write_output(rt, b"merge", &room[..n]);
 }
 
 // Both files are read before FROM is, each into a room that has a byte more than the longest.
-fn run(blank_a: [u8; ROOM], blank_b: [u8; ROOM]) {
+fn run(rt: &HostRuntime, blank_a: [u8; ROOM], blank_b: [u8; ROOM]) {
     let mut a = blank_a;
     let mut b = blank_b;
-    let in_a = read(1, &mut a);
+    let in_a = read(rt, 1, &mut a);
     if in_a.failed {
         return;
     }
-    let in_b = read(2, &mut b);
+    let in_b = read(rt, 2, &mut b);
     if in_b.failed {
         return;
     }
-    let from = feed::books::from_word(b"merge", 3);
+    let from = feed::books::from_word(rt, b"merge", 3);
     if from.failed {
         return;
     }
     let n = in_a.count;
     let m = in_b.count;
     let table = from.table;
-    merge([0; BOTH], &a[..n], &b[..m], table.serial);
+    merge(rt, [0; BOTH], &a[..n], &b[..m], table.serial);
 }
 
-fn main() {
+fn main(rt: HostRuntime) {
     let help = streams::standard::help(
+        &rt,
         b"merge: makes one day file of two counters', the records of the file A and then those of the file B, numbered from the next serial of the book in the file FROM, or from 0; a file that can't be merged is told on standard error with its refusal and the record at fault, counted from 0, and nothing is written\nusage: merge A B [FROM] > MERGED\n",
     );
     if help.asked {
         return;
     }
-    if streams::standard::too_many_words(b"merge", 3) {
+    if streams::standard::too_many_words(&rt, b"merge", 3) {
         return;
     }
-    if too_few_words() {
+    if too_few_words(&rt) {
         return;
     }
-    run([0; ROOM], [0; ROOM]);
+    run(&rt, [0; ROOM], [0; ROOM]);
 }

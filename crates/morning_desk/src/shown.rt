@@ -2,68 +2,69 @@
 use book::Figures;
 use dayfile::Wrote;
 use desk::{Answer, Outcome};
+use streams::standard::show;
 
-pub fn say(text: &[u8]) {
-    io::write_all(1, text);
+pub fn say(rt: &HostRuntime, text: &[u8]) {
+    show(rt, text);
 }
 
 // A word or more, then a number.
-pub fn told(text: &[u8], n: u64) {
-    say(text);
-    say(b" ");
-    io::print_decimal(1, n);
+pub fn told(rt: &HostRuntime, text: &[u8], n: u64) {
+    say(rt, text);
+    say(rt, b" ");
+    let _ = rt.print(n);
 }
 
-fn outcome(o: Outcome) {
+fn outcome(rt: &HostRuntime, o: Outcome) {
     match o {
-        Outcome::CarriedOut => say(b"carried out"),
-        Outcome::Opened(n) => told(b"opened as", n as u64),
-        Outcome::Refused(n) => told(b"refused", n as u64),
-        Outcome::End => say(b"the end"),
+        Outcome::CarriedOut => say(rt, b"carried out"),
+        Outcome::Opened(n) => told(rt, b"opened as", n as u64),
+        Outcome::Refused(n) => told(rt, b"refused", n as u64),
+        Outcome::End => say(rt, b"the end"),
     }
 }
 
 // The record's serial, code and account, and what became of it.
-pub fn answer(a: Answer) {
-    told(b": serial", a.serial as u64);
-    told(b", code", a.code as u64);
-    told(b", account", a.account as u64);
-    say(b": ");
+pub fn answer(rt: &HostRuntime, a: Answer) {
+    told(rt, b": serial", a.serial as u64);
+    told(rt, b", code", a.code as u64);
+    told(rt, b", account", a.account as u64);
+    say(rt, b": ");
     let o = a.outcome;
-    outcome(o);
+    outcome(rt, o);
 }
 
-pub fn wrote(w: Wrote) {
+pub fn wrote(rt: &HostRuntime, w: Wrote) {
     match w {
-        Wrote::Written(n) => told(b"written: bytes", n as u64),
-        Wrote::Refused(n) => told(b"not written: refused", n as u64),
+        Wrote::Written(n) => told(rt, b"written: bytes", n as u64),
+        Wrote::Refused(n) => told(rt, b"not written: refused", n as u64),
     }
-    say(b"\n");
+    say(rt, b"\n");
 }
 
-pub fn figures(account: u64, f: Figures) {
-    told(b"standing of", account);
-    told(b": refusal", f.refusal as u64);
-    told(b", collateral", f.collateral);
-    told(b", need", f.need);
-    told(b", blocked", f.blocked);
-    told(b", deemed", f.deemed);
-    told(b", free", f.free);
+pub fn figures(rt: &HostRuntime, account: u64, f: Figures) {
+    told(rt, b"standing of", account);
+    told(rt, b": refusal", f.refusal as u64);
+    told(rt, b", collateral", f.collateral);
+    told(rt, b", need", f.need);
+    told(rt, b", blocked", f.blocked);
+    told(rt, b", deemed", f.deemed);
+    told(rt, b", free", f.free);
     if f.mode {
-        say(b", mode on");
+        say(rt, b", mode on");
     } else {
-        say(b", mode off");
+        say(rt, b", mode off");
     }
-    told(b", shortfall", f.shortfall);
-    say(b"\n");
+    told(rt, b", shortfall", f.shortfall);
+    say(rt, b"\n");
 }
 
 // An account's four amounts of a close-out.
-pub fn paid(account: u64, own: u64, tm: u64, cm: u64, uncovered: u64) {
-    told(b"loss of", account);
-    told(b": own", own);
-    told(b", the TM's", tm);
-    told(b", the CM's", cm);
-    told(b", uncovered", uncovered);
-    say(b"\n");
+pub fn paid(rt: &HostRuntime, account: u64, own: u64, tm: u64, cm: u64, uncovered: u64) {
+    told(rt, b"loss of", account);
+    told(rt, b": own", own);
+    told(rt, b", the TM's", tm);
+    told(rt, b", the CM's", cm);
+    told(rt, b", uncovered", uncovered);
+    say(rt, b"\n");
 }

@@ -4,37 +4,38 @@
 use feed::{Closing, Table};
 
 // Of a book that isn't sound nothing is told.
-fn list(word: Closing, table: Table) {
+fn list(rt: &HostRuntime, word: Closing, table: Table) {
     match word {
         Closing::Unsound => {}
         _ => {
-            report::needs(b"needs", table);
+            report::needs(rt, b"needs", table);
         }
     }
 }
 
-fn main() {
+fn main(rt: HostRuntime) {
     let help = streams::standard::help(
+        &rt,
         b"needs: carries out the day file on standard input over a fresh book, or over the one in the file FROM (- for a fresh one); the closing line, then what each account needs, a line for each account\nusage: needs [FROM] < DAYFILE\n",
     );
     if help.asked {
         return;
     }
-    if streams::standard::too_many_words(b"needs", 1) {
+    if streams::standard::too_many_words(&rt, b"needs", 1) {
         return;
     }
-    let from = feed::books::from_word(b"needs", 1);
+    let from = feed::books::from_word(&rt, b"needs", 1);
     if from.failed {
         return;
     }
-    let day = feed::whole_day(b"needs", false, from.table);
+    let day = feed::whole_day(&rt, b"needs", false, from.table);
     if day.failed {
         return;
     }
     let word = day.closing;
-    let closed = report::closing(b"needs", word, day.read, day.done);
+    let closed = report::closing(&rt, b"needs", word, day.read, day.done);
     if closed.failed {
         return;
     }
-    list(word, day.table);
+    list(&rt, word, day.table);
 }

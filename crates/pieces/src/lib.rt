@@ -4,7 +4,7 @@
 ghost use Rattle.std.specs.Prelude.{true, false, ◌≡◌, ◌+◌, ◌-◌, ◌≤◌, length, take, drop};
 ghost use Rattle.numbers.specs.Bytes.{Bytes};
 
-use libc::STDIN_FILENO;
+use std::fs::File;
 use streams::Moved;
 use streams::files::read_on;
 use streams::standard::read_input;
@@ -12,14 +12,20 @@ use streams::standard::read_input;
 // 16,384 bytes and the longest record.
 pub const SPACE: usize = 16_454;
 
-// From the file that a word names and that was opened; word 0 is standard input.
-fn read_from(program: &[u8], word: usize, fd: i32, room: &mut [u8]) -> Moved
+// Where a file comes from: standard input, or the file that a word names and that was opened.
+#[derive(Drop)]
+pub enum Source {
+    Input,
+    Named(usize, File),
+}
+
+fn read_from(rt: &HostRuntime, program: &[u8], source: &mut Source, room: &mut [u8]) -> Moved
     ensures { result.count ≤ length room.new }
 {
-    if word == 0 {
-        return read_input(program, room);
+    match source {
+        Source::Input => read_input(rt, program, room),
+        Source::Named(word, file) => read_on(rt, program, b"read the text", *word, file, room),
     }
-    read_on(program, b"read the text", word, fd, room)
 }
 
 pub fn blank() -> [u8; SPACE]
@@ -30,9 +36,9 @@ pub fn blank() -> [u8; SPACE]
 
 // Reads on behind the rest, unless the file was at its end before: a terminal isn't asked again.
 pub fn refill(
+    rt: &HostRuntime,
     program: &[u8],
-    word: usize,
-    fd: i32,
+    source: &mut Source,
     space: &mut [u8],
     rest: usize,
     ended: bool,
@@ -48,17 +54,24 @@ pub fn refill(
             count: 0,
         };
     }
-    read_from(program, word, fd, &mut space[rest..])
+    read_from(rt, program, source, &mut space[rest..])
 }
 
 // The same from standard input.
-pub fn refill_input(program: &[u8], space: &mut [u8], rest: usize, ended: bool) -> Moved
+pub fn refill_input(
+    rt: &HostRuntime,
+    program: &[u8],
+    space: &mut [u8],
+    rest: usize,
+    ended: bool,
+) -> Moved
     requires { rest ≤ length space.old }
     ensures count_in_bounds { rest + result.count ≤ length space.new }
     ensures space_unchanged { take rest space.new ≡ take rest space.old }
     ensures bytes { Bytes space.new × (ended ≡ true → (result.failed ≡ false) × (result.count ≡ 0)) }
 {
-    refill(program, 0, STDIN_FILENO, space, rest, ended)
+    let mut input = Source::Input;
+    refill(rt, program, &mut input, space, rest, ended)
 }
 
 // Brings the bytes from a place on to the front, and gives how many they are.

@@ -23,6 +23,7 @@ pub(crate) enum Percent {
     Without,
 }
 
+#[tactic(auto, unfolding(crate::specs::Holdings::percent_of, sums::specs::Choice::pick))]
 fn percent_of(used: u64, collateral: u64) -> Percent
     requires { used ≤ 100_000_000_000_000_000 }
     ensures { result ≡ percent_of used collateral }

@@ -104,41 +104,41 @@ pub fn close_out_text(
 }
 
 // Prints the closing line for the program named: "`end`, `cut` or `long`, then records read .. and records carried out".
-pub fn closing(program: &[u8], word: Closing, read: u64, done: u64) -> Moved
+pub fn closing(rt: &HostRuntime, program: &[u8], word: Closing, read: u64, done: u64) -> Moved
     ensures count_in_bounds { result.count ≤ length (closing_line_of word read done) }
     ensures failed_value { result.failed ≡ ltb result.count (length (closing_line_of word read done)) }
 {
     let mut room = [0u8; 64];
     let n = lines::closing_line(word, read, done, &mut room);
-    write_output(program, &room[..n])
+    write_output(rt, program, &room[..n])
 }
 
 // Prints the lines of all accounts' standings for the program named.
-pub fn standings(program: &[u8], t: Table) -> Moved
+pub fn standings(rt: &HostRuntime, program: &[u8], t: Table) -> Moved
     ensures count_in_bounds { result.count ≤ length (standings_text (turned_back t)) }
     ensures failed_value { result.failed ≡ ltb result.count (length (standings_text (turned_back t))) }
 {
     let mut room = [0u8; 65536];
     let n = standings_text(t, &mut room);
-    write_output(program, &room[..n])
+    write_output(rt, program, &room[..n])
 }
 
 // Prints the lines of all rows held for the program named.
-pub fn holdings(program: &[u8], t: Table) -> Moved
+pub fn holdings(rt: &HostRuntime, program: &[u8], t: Table) -> Moved
     ensures count_in_bounds { result.count ≤ length (holdings_text (turned_back t)) }
     ensures failed_value { result.failed ≡ ltb result.count (length (holdings_text (turned_back t))) }
 {
     let mut room = [0u8; 65536];
     let n = holdings_text(t, &mut room);
-    write_output(program, &room[..n])
+    write_output(rt, program, &room[..n])
 }
 
 // Prints the lines of all accounts' needs for the program named.
-pub fn needs(program: &[u8], t: Table) -> Moved
+pub fn needs(rt: &HostRuntime, program: &[u8], t: Table) -> Moved
     ensures count_in_bounds { result.count ≤ length (needs_text (turned_back t)) }
     ensures failed_value { result.failed ≡ ltb result.count (length (needs_text (turned_back t))) }
 {
     let mut room = [0u8; 65536];
     let n = needs_text(t, &mut room);
-    write_output(program, &room[..n])
+    write_output(rt, program, &room[..n])
 }

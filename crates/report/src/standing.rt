@@ -59,6 +59,7 @@ pub(crate) fn put_standing(
 }
 
 // The figures of a row's account, where its need and its mode are given, or that it has none: 1 where the book isn't sound, 7 where the row is retired.
+#[tactic(auto, unfolding(sums::specs::Choice::pick))]
 pub(crate) fn figures_of(sound: bool, r: Row, need: u64, mode: bool, top: bool) -> Figures
     requires { sound ≡ true → InRange r }
     ensures { result ≡ figures_by sound r need mode top }

@@ -4,37 +4,38 @@
 use feed::{Closing, Table};
 
 // Of a book that isn't sound nothing is told.
-fn list(word: Closing, table: Table) {
+fn list(rt: &HostRuntime, word: Closing, table: Table) {
     match word {
         Closing::Unsound => {}
         _ => {
-            report::standings(b"standings", table);
+            report::standings(rt, b"standings", table);
         }
     }
 }
 
-fn main() {
+fn main(rt: HostRuntime) {
     let help = streams::standard::help(
+        &rt,
         b"standings: carries out the day file on standard input over a fresh book, or over the one in the file FROM (- for a fresh one); the closing line, then how each account stands, a line for each account\nusage: standings [FROM] < DAYFILE\n",
     );
     if help.asked {
         return;
     }
-    if streams::standard::too_many_words(b"standings", 1) {
+    if streams::standard::too_many_words(&rt, b"standings", 1) {
         return;
     }
-    let from = feed::books::from_word(b"standings", 1);
+    let from = feed::books::from_word(&rt, b"standings", 1);
     if from.failed {
         return;
     }
-    let day = feed::whole_day(b"standings", false, from.table);
+    let day = feed::whole_day(&rt, b"standings", false, from.table);
     if day.failed {
         return;
     }
     let word = day.closing;
-    let closed = report::closing(b"standings", word, day.read, day.done);
+    let closed = report::closing(&rt, b"standings", word, day.read, day.done);
     if closed.failed {
         return;
     }
-    list(word, day.table);
+    list(&rt, word, day.table);
 }

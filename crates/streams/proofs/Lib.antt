@@ -1,4 +1,3 @@
-mod Signed
 mod NamesPut
 mod SameBytes
 pub mod Taken

@@ -1,7 +1,8 @@
 -- The names beside a file's own, by which its new bytes are written before they are brought to its place: the name, a dot and two digits.
-use Rattle.std.specs.Prelude.{Bool, true, ◌&&◌, List, [], ◌∷◌, ◌++◌, ◌≡◌, ℕ, ◌+◌, ◌-◌, ◌/◌, ◌%◌, ◌<◌, ℤ, length, take}
+use Rattle.std.specs.Prelude.{Bool, true, List, [], ◌∷◌, ◌++◌, ◌≡◌, ℕ, ◌+◌, ◌-◌, ◌/◌, ◌%◌, ◌<◌, ℤ, pos, Option, Result, length, take}
+use Rattle.std.specs.IoError.{raw_os_error}
 use Rattle.streams.specs.declared.beside.Tried.{Tried}
-use Rattle.streams.specs.Calls.{failed_by, error_is}
+use Rattle.streams.specs.Calls.{failed_with}
 
 -- `.00`
 abbrev pub beside_mark : List ℕ
@@ -16,11 +17,11 @@ unfoldable pub name_of : ℕ → List ℕ → List ℕ
 name_of k name = take (length name - 2) name ++ try_digits k
 
 -- EEXIST, which is 17: there is a file of that name, and the next is tried
-abbrev pub taken_by : ℤ → ℤ → Bool
-taken_by answer error = failed_by answer && error_is 17 error
+abbrev pub taken_by : {T E : Type 0} → (E → Option ℤ) → Result T E → Bool
+taken_by number answer = failed_with (pos 17) number answer
 
 -- the try that came last, of a hundred: only the last of them ends it with a name that is taken
 pub record LastTry (before after : List ℕ) (m : Tried) : Type 0 where
   pub few : m.tries < 100
   pub name : after ≡ name_of m.tries before
-  pub last : taken_by m.fd m.error ≡ true → m.tries ≡ 99
+  pub last : taken_by raw_os_error m.made ≡ true → m.tries ≡ 99

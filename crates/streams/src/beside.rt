@@ -1,17 +1,23 @@
 // The names beside a file's own, by which its new bytes are written before they are brought to its place.
 ghost use Rattle.std.specs.Prelude.{◌++◌, ◌≡◌, ◌+◌, ◌≤◌, ◌<◌, length, take};
+ghost use Rattle.std.specs.IoError.{raw_os_error};
 ghost use Rattle.streams.specs.Names.{beside_mark, name_of, taken_by, LastTry};
 
-use libc::EEXIST;
+use crate::paths::create;
+use crate::reasons::has_number;
+use std::fs::File;
+use std::io;
 
 // The last of a hundred tries.
 const LAST: usize = 99;
 
-// What a try came to: the descriptor, or less than 0, and errno behind it.
-#[derive(Clone, Copy)]
+// The system's number of a name that is taken, EEXIST.
+const TAKEN: i32 = 17;
+
+// What a try came to: the file that was made, or why it wasn't.
+#[derive(Drop)]
 pub(crate) struct Tried {
-    pub(crate) fd: i32,
-    pub(crate) error: i32,
+    pub(crate) made: io::Result<File>,
     pub(crate) tries: usize,
 }
 
@@ -43,34 +49,36 @@ fn put_try(name: &mut [u8], tries: usize)
 }
 
 // Whether a file of that name was there.
-fn is_taken(fd: i32, error: i32) -> bool
-    ensures { result ≡ taken_by fd error }
+fn is_taken(made: &io::Result<File>) -> bool
+    ensures { result ≡ taken_by raw_os_error made.now }
 {
-    (fd < 0) & (error == EEXIST)
+    match made {
+        Ok(_) => false,
+        Err(error) => has_number(*error, TAKEN),
+    }
 }
 
-fn create_try(name: &mut [u8], tries: usize) -> Tried
+fn create_try(rt: &HostRuntime, name: &mut [u8], tries: usize) -> Tried
     requires { (2 ≤ length name.old) × (tries < 100) }
     ensures tries_value { result.tries ≡ tries }
     ensures name_after { name.new ≡ name_of tries name.old }
 {
     put_try(name, tries);
-    let fd = os::create(name);
-    let error = os::errno();
-    Tried { fd, error, tries }
+    let made = create(rt, name);
+    Tried { made, tries }
 }
 
 // Makes a file that isn't there yet, by the first of a hundred names that is free: a run that was cut off may have left one.
-pub(crate) fn create_beside(name: &mut [u8]) -> Tried
+pub(crate) fn create_beside(rt: &HostRuntime, name: &mut [u8]) -> Tried
     requires { 3 ≤ length name.old }
     ensures { LastTry name.old name.new result }
 {
-    let mut made = create_try(name, 0);
-    while made.tries < LAST {
-        if !is_taken(made.fd, made.error) {
+    let mut tried = create_try(rt, name, 0);
+    while tried.tries < LAST {
+        if !is_taken(&tried.made) {
             break;
         }
-        made = create_try(name, made.tries + 1);
+        tried = create_try(rt, name, tried.tries + 1);
     }
-    made
+    tried
 }

@@ -1,33 +1,38 @@
 // Files that a program's words name. What fails is told on standard error: the program, what it can't do, the name, the system's reason.
-ghost use Rattle.std.specs.Prelude.{true, false, ◌++◌, ◌≡◌, ◌≤◌, ◌<◌, length};
+ghost use Rattle.std.specs.Prelude.{true, false, ◌++◌, ◌≡◌, ◌≤◌, ◌<◌, length, IfOk};
 ghost use Rattle.sums.specs.Choice.{pick};
-ghost use Rattle.streams.specs.Calls.{failed_by, error_is, nothing_moved, within_of, and_then};
+ghost use Rattle.streams.specs.Calls.{failed_by, nothing_moved, within_of, and_then};
 ghost use Rattle.streams.specs.Names.{beside_mark};
 
 use crate::beside::{create_beside, put_beside};
-use crate::{Moved, read_all, write_all};
-use libc::STDERR_FILENO;
+use crate::paths::{open_read, rename, unlink};
+use crate::reasons::{reason, tell_reason};
+use crate::standard::tell;
+use crate::{Moved, read_through, words, write_through};
+use std::fs::File;
+use std::io;
+use std::io::Error;
 
 // The longest name that a program's word can be, and three bytes more.
 const BESIDE: usize = 4099;
 
-// A file's number where it could be opened; one below 0 where not.
-#[derive(Clone, Copy)]
+// A file where it could be opened.
+#[derive(Drop)]
 pub struct Opened {
     pub failed: bool,
-    pub fd: i32,
+    pub file: io::Result<File>,
 }
 
-// Called right behind the call that failed: a write that takes all leaves errno as it was.
-pub(crate) fn cannot(program: &[u8], what: &[u8], name: &[u8]) {
-    io::write_all(STDERR_FILENO, program);
-    io::write_all(STDERR_FILENO, b": cannot ");
-    io::write_all(STDERR_FILENO, what);
-    io::write_all(STDERR_FILENO, b": ");
-    os::fail(name);
+fn cannot(rt: &HostRuntime, program: &[u8], what: &[u8], name: &[u8], why: Error) {
+    tell(rt, program);
+    tell(rt, b": cannot ");
+    tell(rt, what);
+    tell(rt, b": ");
+    tell(rt, name);
+    tell_reason(rt, why);
 }
 
-pub(crate) fn nothing_moved() -> Moved
+fn nothing_moved() -> Moved
     ensures { result ≡ nothing_moved }
 {
     Moved {
@@ -36,208 +41,347 @@ pub(crate) fn nothing_moved() -> Moved
     }
 }
 
-// A move, or nothing where the call behind it failed: that is told.
-fn and_then(program: &[u8], what: &[u8], name: &[u8], put: Moved, answer: i32) -> Moved
-    ensures { result ≡ and_then put answer }
-{
-    if answer < 0 {
-        cannot(program, what, name);
-        return nothing_moved();
-    }
-    put
-}
-
-// Reads from a file that was opened, or that couldn't be.
-pub(crate) fn read_opened(
+// Of a call that failed: that is told, and nothing counts as moved.
+pub(crate) fn not_moved(
+    rt: &HostRuntime,
     program: &[u8],
     what: &[u8],
     name: &[u8],
-    fd: i32,
+    why: Error,
+) -> Moved
+    ensures { result ≡ nothing_moved }
+{
+    cannot(rt, program, what, name, why);
+    nothing_moved()
+}
+
+// A move, or nothing where the call behind it failed: that is told.
+#[tactic(auto, unfolding(crate::specs::Calls::and_then, sums::specs::Choice::pick))]
+fn and_then(
+    rt: &HostRuntime,
+    program: &[u8],
+    what: &[u8],
+    name: &[u8],
+    put: Moved,
+    answer: io::Result<()>,
+) -> Moved
+    ensures { result ≡ and_then put answer }
+{
+    match answer {
+        Ok(()) => put,
+        Err(why) => not_moved(rt, program, what, name, why),
+    }
+}
+
+// Reads from a file, which is closed then.
+fn read_whole(
+    rt: &HostRuntime,
+    program: &[u8],
+    what: &[u8],
+    name: &[u8],
+    file: File,
     room: &mut [u8],
 ) -> Moved
     ensures count_in_bounds { result.count ≤ length room.new }
     ensures count_value { result.failed ≡ true → result.count ≡ 0 }
-    ensures fd_value { result.failed ≡ false → failed_by fd ≡ false }
 {
-    if fd < 0 {
-        cannot(program, what, name);
-        return nothing_moved();
+    let mut from = file;
+    let read = read_through(&mut from, room);
+    if read.moved.failed {
+        return not_moved(rt, program, what, name, reason(read.why));
     }
-    let read = read_all(fd, room);
-    if read.failed {
-        cannot(program, what, name);
-        libc::close(fd);
-        return nothing_moved();
-    }
-    libc::close(fd);
-    read
+    read.moved
 }
 
-// Reads the file of a name that was had whole, where errno is 0.
-fn read_file(program: &[u8], what: &[u8], name: &[u8], error: i32, room: &mut [u8]) -> Moved
+// Reads from a file that was opened, or that couldn't be.
+pub(crate) fn read_opened(
+    rt: &HostRuntime,
+    program: &[u8],
+    what: &[u8],
+    name: &[u8],
+    opened: io::Result<File>,
+    room: &mut [u8],
+) -> Moved
     ensures count_in_bounds { result.count ≤ length room.new }
     ensures count_value { result.failed ≡ true → result.count ≡ 0 }
-    ensures error_value { result.failed ≡ false → error_is 0 error ≡ true }
+    ensures opened_value { result.failed ≡ false → failed_by opened ≡ false }
 {
-    if error != 0 {
-        cannot(program, what, b"its name");
-        return nothing_moved();
+    match opened {
+        Ok(file) => read_whole(rt, program, what, name, file, room),
+        Err(error) => not_moved(rt, program, what, name, error),
     }
-    read_opened(program, what, name, os::open_read(name), room)
+}
+
+// Reads the file of a name that was had whole, or that wasn't.
+fn read_file(
+    rt: &HostRuntime,
+    program: &[u8],
+    what: &[u8],
+    name: &[u8],
+    had: io::Result<usize>,
+    room: &mut [u8],
+) -> Moved
+    requires { IfOk had (λ n. n ≤ length name.now) }
+    ensures count_in_bounds { result.count ≤ length room.new }
+    ensures count_value { result.failed ≡ true → result.count ≡ 0 }
+    ensures error_value { result.failed ≡ false → failed_by had ≡ false }
+{
+    match had {
+        Ok(n) => {
+            let opened = open_read(rt, &name[..n]);
+            read_opened(rt, program, what, &name[..n], opened, room)
+        }
+        Err(error) => not_moved(rt, program, what, b"its name", error),
+    }
 }
 
 // Reads the file that a word names until the room is full or the file ends. Word 1 is the first behind the program's own name.
-pub fn read_named(program: &[u8], what: &[u8], word: usize, room: &mut [u8]) -> Moved
+pub fn read_named(
+    rt: &HostRuntime,
+    program: &[u8],
+    what: &[u8],
+    word: usize,
+    room: &mut [u8],
+) -> Moved
     ensures count_in_bounds { result.count ≤ length room.new }
     ensures count_value { result.failed ≡ true → result.count ≡ 0 }
 {
-    let mut name = io::buffer();
-    let n = os::arg(word, &mut name);
-    read_file(program, what, &name[..n], os::errno(), room)
+    let mut name = words::blank();
+    let had = words::put(rt, word, &mut name);
+    read_file(rt, program, what, &name, had, room)
 }
 
 // A file that was opened, told where that failed.
-fn opened_by(program: &[u8], what: &[u8], name: &[u8], fd: i32) -> Opened
-    ensures { (result.failed ≡ failed_by result.fd) × (result.fd ≡ fd) }
+fn opened_by(
+    rt: &HostRuntime,
+    program: &[u8],
+    what: &[u8],
+    name: &[u8],
+    opened: io::Result<File>,
+) -> Opened
+    ensures { (result.failed ≡ failed_by result.file) × (result.file ≡ opened) }
 {
-    let failed = fd < 0;
-    if failed {
-        cannot(program, what, name);
+    match opened {
+        Ok(file) => Opened {
+            failed: false,
+            file: Ok(file),
+        },
+        Err(error) => {
+            cannot(rt, program, what, name, error);
+            Opened {
+                failed: true,
+                file: Err(error),
+            }
+        }
     }
-    Opened { failed, fd }
 }
 
-// Opens the file of a name that was had whole, where errno is 0.
-fn open_file(program: &[u8], what: &[u8], name: &[u8], error: i32) -> Opened
-    ensures failed_value { result.failed ≡ failed_by result.fd }
-    ensures error_value { result.failed ≡ false → error_is 0 error ≡ true }
+// Opens the file of a name that was had whole, or that wasn't.
+fn open_file(
+    rt: &HostRuntime,
+    program: &[u8],
+    what: &[u8],
+    name: &[u8],
+    had: io::Result<usize>,
+) -> Opened
+    requires { IfOk had (λ n. n ≤ length name.now) }
+    ensures failed_value { result.failed ≡ failed_by result.file }
+    ensures error_value { result.failed ≡ false → failed_by had ≡ false }
 {
-    if error != 0 {
-        cannot(program, what, b"its name");
-        return Opened {
-            failed: true,
-            fd: -1,
-        };
+    match had {
+        Ok(n) => {
+            let opened = open_read(rt, &name[..n]);
+            opened_by(rt, program, what, &name[..n], opened)
+        }
+        Err(error) => {
+            cannot(rt, program, what, b"its name", error);
+            Opened {
+                failed: true,
+                file: Err(error),
+            }
+        }
     }
-    opened_by(program, what, name, os::open_read(name))
 }
 
 // Opens the file that a word names. Where that fails it is told.
-pub fn open_named(program: &[u8], what: &[u8], word: usize) -> Opened
-    ensures { result.failed ≡ failed_by result.fd }
+pub fn open_named(rt: &HostRuntime, program: &[u8], what: &[u8], word: usize) -> Opened
+    ensures { result.failed ≡ failed_by result.file }
 {
-    let mut name = io::buffer();
-    let n = os::arg(word, &mut name);
-    open_file(program, what, &name[..n], os::errno())
+    let mut name = words::blank();
+    let had = words::put(rt, word, &mut name);
+    open_file(rt, program, what, &name, had)
 }
 
-// Reads on from the file that a word names and that was opened, until the room is full or the file ends. A read that fails is told, with the name, which is had before: asking for it sets errno.
-pub fn read_on(program: &[u8], what: &[u8], word: usize, fd: i32, room: &mut [u8]) -> Moved
+// Reads on from the file that a word names and that was opened, until the room is full or the file ends. A read that fails is told, with the name.
+pub fn read_on(
+    rt: &HostRuntime,
+    program: &[u8],
+    what: &[u8],
+    word: usize,
+    file: &mut File,
+    room: &mut [u8],
+) -> Moved
     ensures count_in_bounds { result.count ≤ length room.new }
     ensures count_in_bounds_2 { result.failed ≡ true → result.count < length room.new }
 {
-    let mut name = io::buffer();
-    let n = os::arg(word, &mut name);
-    let moved = read_all(fd, room);
-    if moved.failed {
-        cannot(program, what, &name[..n]);
+    let read = read_through(file, room);
+    if read.moved.failed {
+        let mut name = words::blank();
+        let n = words::put_or_none(rt, word, &mut name);
+        cannot(rt, program, what, &name[..n], reason(read.why));
     }
-    moved
+    read.moved
 }
 
 // Like the system's reasons, behind the name.
-fn tell_long(program: &[u8], what: &[u8], name: &[u8]) {
-    io::write_all(STDERR_FILENO, program);
-    io::write_all(STDERR_FILENO, b": cannot ");
-    io::write_all(STDERR_FILENO, what);
-    io::write_all(STDERR_FILENO, b": ");
-    io::write_all(STDERR_FILENO, name);
-    io::write_all(STDERR_FILENO, b": it is too long\n");
+fn tell_long(rt: &HostRuntime, program: &[u8], what: &[u8], name: &[u8]) {
+    tell(rt, program);
+    tell(rt, b": cannot ");
+    tell(rt, what);
+    tell(rt, b": ");
+    tell(rt, name);
+    tell(rt, b": it is too long\n");
 }
 
 // What was read of the file that a word names, which may have so many bytes. One that has more is told: a byte more is read, and what lies further on can't matter.
-pub fn within(program: &[u8], what: &[u8], word: usize, read: Moved, longest: usize) -> Moved
+#[tactic(auto, unfolding(sums::specs::Choice::pick))]
+pub fn within(
+    rt: &HostRuntime,
+    program: &[u8],
+    what: &[u8],
+    word: usize,
+    read: Moved,
+    longest: usize,
+) -> Moved
     ensures { result ≡ within_of read longest }
 {
     if longest < read.count {
-        let mut name = io::buffer();
-        let n = os::arg(word, &mut name);
-        tell_long(program, what, &name[..n]);
+        let mut name = words::blank();
+        let n = words::put_or_none(rt, word, &mut name);
+        tell_long(rt, program, what, &name[..n]);
         return nothing_moved();
     }
     read
 }
 
 // All of a text, on the disk and not only with the system.
-fn fill(program: &[u8], what: &[u8], name: &[u8], fd: i32, text: &[u8]) -> Moved
+#[tactic(auto, unfolding(crate::specs::Calls::and_then, sums::specs::Choice::pick))]
+fn fill(
+    rt: &HostRuntime,
+    program: &[u8],
+    what: &[u8],
+    name: &[u8],
+    file: &mut File,
+    text: &[u8],
+) -> Moved
     ensures { result.count ≡ pick result.failed 0 (length text.now) }
 {
-    let put = write_all(fd, text);
-    if put.failed {
-        cannot(program, what, name);
-        return nothing_moved();
+    let put = write_through(file, text);
+    if put.moved.failed {
+        return not_moved(rt, program, what, name, reason(put.why));
     }
-    and_then(program, what, name, put, libc::fsync(fd))
+    let synced = file.sync_all();
+    and_then(rt, program, what, name, put.moved, synced)
+}
+
+// Fills the file, and closes it.
+fn fill_whole(
+    rt: &HostRuntime,
+    program: &[u8],
+    what: &[u8],
+    name: &[u8],
+    file: File,
+    text: &[u8],
+) -> Moved
+    ensures { result.count ≡ pick result.failed 0 (length text.now) }
+{
+    let mut to = file;
+    fill(rt, program, what, name, &mut to, text)
 }
 
 // Fills the file that was made beside, or that couldn't be, and then gives it the other's name.
+#[tactic(auto, unfolding(crate::specs::Calls::and_then, sums::specs::Choice::pick))]
 fn replace_by(
+    rt: &HostRuntime,
     program: &[u8],
     what: &[u8],
     name: &[u8],
     beside: &[u8],
-    fd: i32,
+    made: io::Result<File>,
     text: &[u8],
 ) -> Moved
     ensures count_value { result.count ≡ pick result.failed 0 (length text.now) }
-    ensures fd_value { result.failed ≡ false → failed_by fd ≡ false }
+    ensures made_value { result.failed ≡ false → failed_by made ≡ false }
 {
-    if fd < 0 {
-        cannot(program, what, name);
-        return nothing_moved();
-    }
-    let put = fill(program, what, name, fd, text);
-    libc::close(fd);
+    let file = match made {
+        Ok(file) => file,
+        Err(error) => return not_moved(rt, program, what, name, error),
+    };
+    let put = fill_whole(rt, program, what, name, file, text);
     if put.failed {
-        os::unlink(beside);
+        unlink(rt, beside);
         return put;
     }
-    let replaced = and_then(program, what, name, put, os::rename(beside, name));
+    let answer = rename(rt, beside, name);
+    let replaced = and_then(rt, program, what, name, put, answer);
     if replaced.failed {
-        os::unlink(beside);
+        unlink(rt, beside);
     }
     replaced
 }
 
 // Writes a text whole into a new file beside, and then gives it the other's name.
-fn replace_beside(program: &[u8], what: &[u8], name: &[u8], beside: &mut [u8], text: &[u8]) -> Moved
+fn replace_beside(
+    rt: &HostRuntime,
+    program: &[u8],
+    what: &[u8],
+    name: &[u8],
+    beside: &mut [u8],
+    text: &[u8],
+) -> Moved
     requires { beside.old ≡ name.now ++ beside_mark }
     ensures { result.count ≡ pick result.failed 0 (length text.now) }
 {
-    let made = create_beside(beside);
-    replace_by(program, what, name, beside, made.fd, text)
+    let tried = create_beside(rt, beside);
+    replace_by(rt, program, what, name, beside, tried.made, text)
 }
 
-// Writes a text beside the place of a file whose name was had whole, where errno is 0, and brings it there whole: at any moment the old file stands there or the new one.
-fn replace_file(program: &[u8], what: &[u8], name: &[u8], error: i32, text: &[u8]) -> Moved
-    requires { length name.now ≤ 4096 }
+// Writes a text beside the place of a file whose name was had whole, and brings it there whole: at any moment the old file stands there or the new one.
+#[tactic(auto, unfolding(sums::specs::Choice::pick))]
+fn replace_file(
+    rt: &HostRuntime,
+    program: &[u8],
+    what: &[u8],
+    name: &[u8],
+    had: io::Result<usize>,
+    text: &[u8],
+) -> Moved
+    requires had { IfOk had (λ n. n ≤ length name.now) }
+    requires name { length name.now ≤ 4096 }
     ensures count_value { result.count ≡ pick result.failed 0 (length text.now) }
-    ensures error_value { result.failed ≡ false → error_is 0 error ≡ true }
+    ensures error_value { result.failed ≡ false → failed_by had ≡ false }
 {
-    if error != 0 {
-        cannot(program, what, b"its name");
-        return nothing_moved();
+    match had {
+        Ok(n) => {
+            let mut beside = [0u8; BESIDE];
+            let m = put_beside(&name[..n], &mut beside);
+            replace_beside(rt, program, what, &name[..n], &mut beside[..m], text)
+        }
+        Err(error) => not_moved(rt, program, what, b"its name", error),
     }
-    let mut beside = [0u8; BESIDE];
-    let n = put_beside(name, &mut beside);
-    replace_beside(program, what, name, &mut beside[..n], text)
 }
 
 // The same for the file that a word names: all of the text is there, or none of it.
-pub fn replace_named(program: &[u8], what: &[u8], word: usize, text: &[u8]) -> Moved
+pub fn replace_named(
+    rt: &HostRuntime,
+    program: &[u8],
+    what: &[u8],
+    word: usize,
+    text: &[u8],
+) -> Moved
     ensures { result.count ≡ pick result.failed 0 (length text.now) }
 {
-    let mut name = io::buffer();
-    let n = os::arg(word, &mut name);
-    replace_file(program, what, &name[..n], os::errno(), text)
+    let mut name = words::blank();
+    let had = words::put(rt, word, &mut name);
+    replace_file(rt, program, what, &name, had, text)
 }

@@ -1,17 +1,27 @@
-// Bytes read from and written to a descriptor, whole. A call that a signal interrupted is tried again; one that failed is told by whoever asked.
+// Bytes read from and written to a file or a stream, whole. A call that a signal interrupted is tried again; one that failed is told by whoever asked.
 #![tactic(auto)]
 
-ghost use Rattle.std.specs.Prelude.{true, ◌≡◌, ◌≤◌, ◌<◌, ltb, length};
+ghost use Rattle.std.specs.Prelude.{true, ◌≡◌, ◌≤◌, ◌<◌, min, ltb, length};
+ghost use Rattle.std.specs.IoError.{raw_os_error};
 ghost use Rattle.streams.specs.Calls.{interrupted_by, moved_by, stopped_at};
+
+use reasons::has_number;
+use std::io;
+use std::io::{Error, Read, Write};
 
 mod beside;
 pub mod files;
 pub mod optional;
+mod paths;
+mod reasons;
 pub mod standard;
 pub mod words;
 
 // How often a call is tried again that a signal interrupted before a byte was moved; then it counts as failed.
 const AGAIN: usize = 100;
+
+// The system's number of a call that a signal interrupted, EINTR.
+const INTERRUPTED: i32 = 4;
 
 // How many bytes were moved, and whether a call failed after them.
 #[derive(Clone, Copy)]
@@ -20,37 +30,63 @@ pub struct Moved {
     pub count: usize,
 }
 
-// Whether a call that answered `got` was interrupted before a byte was moved, by errno behind it.
-fn interrupted(got: isize, error: i32) -> bool
-    ensures { result ≡ interrupted_by got error }
+// The same with the reason of the call that failed. One that took nothing has none.
+#[derive(Clone, Copy)]
+pub(crate) struct Ended {
+    pub(crate) moved: Moved,
+    pub(crate) why: Option<Error>,
+}
+
+// Whether a call was interrupted before a byte was moved.
+fn interrupted(got: io::Result<usize>) -> bool
+    ensures { result ≡ interrupted_by raw_os_error got }
 {
-    (got < 0) & (error == libc::EINTR)
+    match got {
+        Ok(_) => false,
+        Err(error) => has_number(error, INTERRUPTED),
+    }
+}
+
+fn lesser(a: usize, b: usize) -> usize
+    ensures { result ≡ min a b }
+{
+    if a < b { a } else { b }
 }
 
 // What a call came to that was to move these bytes.
-fn meant(got: isize, bytes: &[u8]) -> Moved
+#[tactic(auto, unfolding(crate::specs::Calls::moved_by))]
+fn meant(got: io::Result<usize>, bytes: &[u8]) -> Moved
     ensures { result ≡ moved_by got (length bytes.now) }
 {
-    Moved {
-        failed: got < 0,
-        count: io::count(got, bytes),
+    match got {
+        Ok(n) => Moved {
+            failed: false,
+            count: lesser(n, bytes.len()),
+        },
+        Err(_) => Moved {
+            failed: true,
+            count: 0,
+        },
     }
 }
 
-fn read_more(fd: i32, room: &mut [u8]) -> Moved
-    ensures count_in_bounds { result.count ≤ length room.new }
-    ensures count_value { result.failed ≡ true → result.count ≡ 0 }
+fn read_more<F: Read>(from: &mut F, room: &mut [u8]) -> Ended
+    ensures count_in_bounds { result.moved.count ≤ length room.new }
+    ensures count_value { result.moved.failed ≡ true → result.moved.count ≡ 0 }
 {
     let mut left = AGAIN;
-    let mut got = libc::read(fd, room);
+    let mut got = from.read(room);
     while 0 < left {
-        if !interrupted(got, os::errno()) {
+        if !interrupted(got) {
             break;
         }
         left -= 1;
-        got = libc::read(fd, room);
+        got = from.read(room);
     }
-    meant(got, room)
+    Ended {
+        moved: meant(got, room),
+        why: got.err(),
+    }
 }
 
 // What reads came to that stopped at a place, at the end of the input or at one that failed.
@@ -63,58 +99,87 @@ fn stopped_at(n: usize, more: Moved) -> Moved
     }
 }
 
-// Reads until the room is full, the input ends or a read fails. Which bytes came no contract can say.
-pub fn read_all(fd: i32, room: &mut [u8]) -> Moved
-    ensures count_in_bounds { result.count ≤ length room.new }
-    ensures count_in_bounds_2 { result.failed ≡ true → result.count < length room.new }
+pub(crate) fn read_through<F: Read>(from: &mut F, room: &mut [u8]) -> Ended
+    ensures count_in_bounds { result.moved.count ≤ length room.new }
+    ensures count_in_bounds_2 { result.moved.failed ≡ true → result.moved.count < length room.new }
 {
     let mut n: usize = 0;
     while n < room.len() {
-        let more = read_more(fd, &mut room[n..]);
-        if more.count == 0 {
-            return stopped_at(n, more);
+        let more = read_more(from, &mut room[n..]);
+        if more.moved.count == 0 {
+            return Ended {
+                moved: stopped_at(n, more.moved),
+                why: more.why,
+            };
         }
-        n += more.count;
+        n += more.moved.count;
     }
-    Moved {
-        failed: false,
-        count: n,
+    Ended {
+        moved: Moved {
+            failed: false,
+            count: n,
+        },
+        why: None,
     }
 }
 
-fn write_more(fd: i32, text: &[u8]) -> usize
-    ensures { result ≤ length text.now }
+// Reads until the room is full, the input ends or a read fails. Which bytes came no contract can say.
+pub fn read_all<F: Read>(from: &mut F, room: &mut [u8]) -> Moved
+    ensures count_in_bounds { result.count ≤ length room.new }
+    ensures count_in_bounds_2 { result.failed ≡ true → result.count < length room.new }
+{
+    read_through(from, room).moved
+}
+
+fn write_more<F: Write>(to: &mut F, text: &[u8]) -> Ended
+    ensures { result.moved.count ≤ length text.now }
 {
     let mut left = AGAIN;
-    let mut put = libc::write(fd, text);
+    let mut put = to.write(text);
     while 0 < left {
-        if !interrupted(put, os::errno()) {
+        if !interrupted(put) {
             break;
         }
         left -= 1;
-        put = libc::write(fd, text);
+        put = to.write(text);
     }
-    io::count(put, text)
+    Ended {
+        moved: meant(put, text),
+        why: put.err(),
+    }
 }
 
-// Writes all of a text, or stops at a write that fails or takes nothing.
-pub fn write_all(fd: i32, text: &[u8]) -> Moved
-    ensures count_in_bounds { result.count ≤ length text.now }
-    ensures failed_value { result.failed ≡ ltb result.count (length text.now) }
+pub(crate) fn write_through<F: Write>(to: &mut F, text: &[u8]) -> Ended
+    ensures count_in_bounds { result.moved.count ≤ length text.now }
+    ensures failed_value { result.moved.failed ≡ ltb result.moved.count (length text.now) }
 {
     let mut n: usize = 0;
     while n < text.len() {
-        let more = write_more(fd, &text[n..]);
-        if more == 0 {
-            return Moved {
-                failed: true,
-                count: n,
+        let more = write_more(to, &text[n..]);
+        if more.moved.count == 0 {
+            return Ended {
+                moved: Moved {
+                    failed: true,
+                    count: n,
+                },
+                why: more.why,
             };
         }
-        n += more;
+        n += more.moved.count;
     }
-    Moved {
-        failed: false,
-        count: n,
+    Ended {
+        moved: Moved {
+            failed: false,
+            count: n,
+        },
+        why: None,
     }
+}
+
+// Writes all of a text, or stops at a write that fails or takes nothing.
+pub fn write_all<F: Write>(to: &mut F, text: &[u8]) -> Moved
+    ensures count_in_bounds { result.count ≤ length text.now }
+    ensures failed_value { result.failed ≡ ltb result.count (length text.now) }
+{
+    write_through(to, text).moved
 }

@@ -3,9 +3,10 @@ ghost use Rattle.std.specs.Prelude.{true, ◌≡◌, ◌≤◌, ◌<◌, ltb, le
 ghost use Rattle.sums.specs.Choice.{pick};
 ghost use Rattle.streams.specs.Words.{same_bytes, help_word, Counted, HelpAsked};
 
+use crate::reasons::{reason, tell_reason};
 use crate::words::{is_same, too_many};
-use crate::{Moved, read_all, write_all};
-use libc::{STDERR_FILENO, STDIN_FILENO, STDOUT_FILENO};
+use crate::{Moved, read_through, words, write_all, write_through};
+use std::io::Error;
 
 // Whether help was asked for, whether it couldn't be told whole, and how many bytes of it were told.
 #[derive(Clone, Copy)]
@@ -15,40 +16,53 @@ pub struct Helped {
     pub count: usize,
 }
 
-// A line on standard error: the program, what it can't do, the system's reason. Called right behind the call that failed: a write that takes all leaves
-// errno as it was.
-fn cannot(program: &[u8], what: &[u8]) {
-    io::write_all(STDERR_FILENO, program);
-    io::write_all(STDERR_FILENO, b": cannot ");
-    os::fail(what);
+// Tells a text on standard error. Where that fails, there is nowhere else to tell it.
+pub fn tell(rt: &HostRuntime, text: &[u8]) {
+    let _ = rt.stderr().write_all(text);
+}
+
+// Shows a text on standard output, whose failure doesn't matter.
+pub fn show(rt: &HostRuntime, text: &[u8]) {
+    let _ = rt.stdout().write_all(text);
+}
+
+// A line on standard error: the program, what it can't do, the system's reason.
+fn cannot(rt: &HostRuntime, program: &[u8], what: &[u8], why: Error) {
+    tell(rt, program);
+    tell(rt, b": cannot ");
+    tell(rt, what);
+    tell_reason(rt, why);
 }
 
 // Reads standard input until the room is full or the input ends. A read that fails is told.
-pub fn read_input(program: &[u8], room: &mut [u8]) -> Moved
+pub fn read_input(rt: &HostRuntime, program: &[u8], room: &mut [u8]) -> Moved
     ensures count_in_bounds { result.count ≤ length room.new }
     ensures count_in_bounds_2 { result.failed ≡ true → result.count < length room.new }
 {
-    let moved = read_all(STDIN_FILENO, room);
-    if moved.failed {
-        cannot(program, b"read standard input");
+    let mut input = rt.stdin();
+    let read = read_through(&mut input, room);
+    if read.moved.failed {
+        cannot(rt, program, b"read standard input", reason(read.why));
     }
-    moved
+    read.moved
 }
 
 // Writes a text to standard output. A write that fails is told.
-pub fn write_output(program: &[u8], text: &[u8]) -> Moved
+pub fn write_output(rt: &HostRuntime, program: &[u8], text: &[u8]) -> Moved
     ensures count_in_bounds { result.count ≤ length text.now }
     ensures failed_value { result.failed ≡ ltb result.count (length text.now) }
 {
-    let moved = write_all(STDOUT_FILENO, text);
-    if moved.failed {
-        cannot(program, b"write standard output");
+    let mut output = rt.stdout();
+    let put = write_through(&mut output, text);
+    if put.moved.failed {
+        cannot(rt, program, b"write standard output", reason(put.why));
     }
-    moved
+    put.moved
 }
 
 // Where a word is `--help`, the text goes to standard error.
-fn help_by(word: &[u8], text: &[u8]) -> Helped
+#[tactic(auto, unfolding(sums::specs::Choice::pick))]
+fn help_by(rt: &HostRuntime, word: &[u8], text: &[u8]) -> Helped
     ensures asked_value { result.asked ≡ same_bytes word.now help_word }
     ensures count_bound { (result.count ≤ pick result.asked (length text.now) 0)
         × (result.failed ≡ ltb result.count (pick result.asked (length text.now) 0)) }
@@ -60,7 +74,8 @@ fn help_by(word: &[u8], text: &[u8]) -> Helped
             count: 0,
         };
     }
-    let told = write_all(STDERR_FILENO, text);
+    let mut errors = rt.stderr();
+    let told = write_all(&mut errors, text);
     Helped {
         asked: true,
         failed: told.failed,
@@ -69,22 +84,22 @@ fn help_by(word: &[u8], text: &[u8]) -> Helped
 }
 
 // The same for the first word; a program that was asked for help does nothing else.
-pub fn help(text: &[u8]) -> Helped
+pub fn help(rt: &HostRuntime, text: &[u8]) -> Helped
     ensures { HelpAsked (length text.now) result }
 {
-    let mut word = io::buffer();
-    let n = os::arg(1, &mut word);
-    help_by(&word[..n], text)
+    let mut word = words::blank();
+    let n = words::put_or_none(rt, 1, &mut word);
+    help_by(rt, &word[..n], text)
 }
 
 // Whether there are more words than a program takes. That is told: a word that nothing reads may be a name that was meant.
-pub fn too_many_words(program: &[u8], most: usize) -> bool
+pub fn too_many_words(rt: &HostRuntime, program: &[u8], most: usize) -> bool
     ensures { Counted most result }
 {
-    let many = too_many(os::arg_count(), most);
+    let many = too_many(words::count(rt), most);
     if many {
-        io::write_all(STDERR_FILENO, program);
-        io::write_all(STDERR_FILENO, b": too many words\n");
+        tell(rt, program);
+        tell(rt, b": too many words\n");
     }
     many
 }

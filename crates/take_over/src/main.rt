@@ -3,56 +3,53 @@
 #![tactic(auto)]
 
 use feed::Table;
-use libc::STDERR_FILENO;
 use streams::standard::write_output;
-use streams::words::is_there;
+use streams::words;
 
 // Both words are wanted.
-fn too_few_words() -> bool {
-    let few = !is_there(os::arg_count(), 2);
+fn too_few_words(rt: &HostRuntime) -> bool {
+    let few = !words::is_there(words::count(rt), 2);
     if few {
-        io::write_all(
-            STDERR_FILENO,
-            b"take_over: it takes two words, FROM and TO\n",
-        );
+        streams::standard::tell(rt, b"take_over: it takes two words, FROM and TO\n");
     }
     few
 }
 
-fn tell(refusal: u8) {
+fn tell(rt: &HostRuntime, refusal: u8) {
     let mut line = [0u8; 21];
     let n = text::put_number(&mut line, 0, refusal as u64, b'\n');
-    write_output(b"take_over", &line[..n]);
+    write_output(rt, b"take_over", &line[..n]);
 }
 
-fn take_over(before: Table) {
+fn take_over(rt: &HostRuntime, before: Table) {
     let taken = book::take_over(before);
     let refusal = taken.refusal;
     if refusal == 0 {
-        let put = feed::books::to_word(b"take_over", 2, taken.table);
+        let put = feed::books::to_word(rt, b"take_over", 2, taken.table);
         if put.failed {
             return;
         }
     }
-    tell(refusal);
+    tell(rt, refusal);
 }
 
-fn main() {
+fn main(rt: HostRuntime) {
     let help = streams::standard::help(
+        &rt,
         b"take_over: takes the book in the file FROM over to the rule by which government securities count less a tenth, into the file TO; prints 0, or 1 where the book isn't sound by the old rule\nusage: take_over FROM TO\n",
     );
     if help.asked {
         return;
     }
-    if streams::standard::too_many_words(b"take_over", 2) {
+    if streams::standard::too_many_words(&rt, b"take_over", 2) {
         return;
     }
-    if too_few_words() {
+    if too_few_words(&rt) {
         return;
     }
-    let from = feed::books::from_word(b"take_over", 1);
+    let from = feed::books::from_word(&rt, b"take_over", 1);
     if from.failed {
         return;
     }
-    take_over(from.table);
+    take_over(&rt, from.table);
 }

@@ -2,16 +2,15 @@
 use mathlib.Core.Bool.{Bool, true, false, ◌&&◌, ◌||◌}
 use mathlib.Core.List.{List, [], ◌∷◌, ◌++◌, append-nil}
 use mathlib.Core.Path.{◌≡◌, refl, sym, ap, ◌∙◌}
-use Prim.Native.Nat.{ℕ, zero, suc, ◌+◌, ◌-◌, ◌≤◌, ◌<◌}
+use Prim.Native.Nat.{ℕ, ◌+◌, ◌-◌, ◌≤◌, ◌<◌}
 use native.Mathlib.Omega.{arith}
 use lib.Dec.{eqb, leb}
 use lib.ListN.{length, length-append}
 use borrow.Author.Tests.{le-leb, lt-leb}
 use Rattle.sums.specs.Choice.{pick}
-use Rattle.sums.proofs.Choices.{pick_yes, pick_no, and_left, test-clash}
+use Rattle.sums.proofs.Choices.{pick_no, and_left, test-clash}
 use Rattle.words.specs.Texts.{Turned, puts, fails, wrong, file_by, file_from, on_first, lines_of, line_turned}
-use Rattle.words.specs.Pieces.{Taking, stop, after, taken_by, taken_from, ended, bytes_taken}
-use Rattle.words.proofs.GoodLines.{line-told}
+use Rattle.words.specs.Pieces.{stop, after, taken_by, taken_from, ended}
 use Rattle.words.proofs.Splitting.{Plain, none, byte}
 use Rattle.wording.specs.Wording.{too_long, line_within, day_within}
 use Rattle.wording.proofs.Lengths.{together}

@@ -9,9 +9,13 @@ use lib.ListN.{length, take, drop, length-append, drop_of_length-le}
 use lib.Seq.{length-take-le, take-add, drop_at}
 use borrow.Author.Tests.{eqb-true, ltb-true, ltb-false, lt-ltb, not-true}
 use Rattle.sums.specs.Choice.{pick}
+use Rattle.sums.specs.Room.{at_start}
 use Rattle.sums.proofs.Choices.{and_left, and_right}
 use Rattle.numbers.specs.Bytes.{Bytes}
 use Rattle.numbers.proofs.Numbers.{bytes_take, bytes_drop}
+use Rattle.text.proofs.Puts.{text-within-room}
+use Rattle.streams.specs.declared.Moved.{Moved}
+use Rattle.streams.proofs.Taken.{all-taken}
 use Rattle.words.specs.declared.Taken.{Taken}
 use Rattle.words.specs.Texts.{File, file, wrong}
 use Rattle.words.specs.Pieces.{Taking, told_of}
@@ -117,6 +121,29 @@ pub record Piece (spelling printing : Bool) (first : ℕ) (space : List ℕ) (re
   pub some : 70 ≤ room
   pub is : r ≡ told_of (taking spelling (ltb held 16454) room running (take held filled))
 
+-- the same by what was read behind the rest, into a space as long as it was
+pub piece-of : {spelling printing : Bool} {first : ℕ} {space : List ℕ} {rest running lines printed : ℕ} {ended : Bool} {turns : ℕ}
+    → Sofar spelling printing first space rest running lines printed ended turns
+    → (filled room : List ℕ) (m : Moved) (r : Taken)
+    → rest + m.count ≤ length filled
+    → take rest filled ≡ take rest space
+    → Bytes filled × (ended ≡ true → (m.failed ≡ false) × (m.count ≡ 0))
+    → length filled ≡ length space
+    → length room ≡ 32768
+    → r ≡ told_of (taking spelling (ltb (rest + m.count) 16454) (length room) running (take (rest + m.count) filled))
+    → Piece spelling printing first space rest running lines printed ended turns filled (rest + m.count) (length room) r
+piece-of g filled room m r h old bytes size long is = record {
+  before = g;
+  size = size ∙ g.size;
+  least = omega arith;
+  most = omega (arith, h, size, g.size);
+  old = old;
+  bytes = bytes.0;
+  over = λ e. omega (arith, (bytes.1 e).1);
+  some = omega (arith, long);
+  is = is;
+}
+
 module _ {spelling printing : Bool} {first : ℕ} {space : List ℕ} {rest running lines printed : ℕ} {ended : Bool} {turns : ℕ} {filled : List ℕ} {held room : ℕ} {r : Taken}
     (g : Piece spelling printing first space rest running lines printed ended turns filled held room r) where
   abbrev last : Bool
@@ -158,6 +185,18 @@ module _ {spelling printing : Bool} {first : ℕ} {space : List ℕ} {rest runni
   -- so many bytes were printed of it
   abbrev pub Shown : ℕ → Type 0
   Shown count = count ≡ length (pick printing k.bytes [])
+
+  count-is : r.count ≡ length k.bytes
+  count-is = ap (λ (x : Taken). x.count) g.is
+
+  -- what is handed over stands in the room
+  pub put-within : (n : ℕ) (before after : List ℕ) → n ≡ pick printing r.count 0 → after ≡ at_start k.bytes before → n ≤ length after
+  put-within n before after e f = shown-within printing e (text-within-room r.count k.bytes before after count-is f)
+
+  -- where no write failed
+  pub shown-now : (m : Moved) (n : ℕ) (after : List ℕ) → n ≤ length after → n ≡ pick printing r.count 0 → m.count ≤ length (take n after) → m.failed ≡ ltb m.count (length (take n after))
+      → m.failed ≡ false → Shown m.count
+  shown-now m n after h e b f z = all-taken m _ b f z ∙ length-take-le n after h ∙ shown-is printing k.bytes e count-is
 
   pub place-within : r.place ≤ held
   place-within = rw g.is (omega (arith, (step-within last room running s (omega (arith, long, g)) (λ e. omega (arith, long, ltb-true held 16454 e)) spelling).0, long))

@@ -2,7 +2,7 @@
 use mathlib.Core.Bool.{Bool, true, false, ◌&&◌, ◌||◌}
 use mathlib.Core.List.{List, [], ◌∷◌, ◌++◌, append_assoc}
 use mathlib.Core.Path.{◌≡◌, refl, sym, ap, ◌∙◌}
-use Prim.Native.Nat.{ℕ, suc, ◌+◌, ◌-◌, ◌≤◌, ◌<◌}
+use Prim.Native.Nat.{ℕ, ◌+◌, ◌-◌, ◌≤◌, ◌<◌}
 use native.Mathlib.Omega.{arith}
 use lib.Dec.{eqb, leb}
 use lib.ListN.{length, drop}
@@ -10,16 +10,15 @@ use borrow.Author.Tests.{le-leb}
 use Rattle.sums.specs.Choice.{pick}
 use Rattle.sums.proofs.Choices.{test-clash}
 use Rattle.dayfile.specs.Reading.{found_at}
-use Rattle.words.specs.Texts.{moved, Turned, puts, fails, File, file, wrong, behind, file_by, file_from, line_turned, lines_of, record_turned, records_to, records_of, text_from, text_of, on_first}
+use Rattle.words.specs.Texts.{moved, Turned, puts, fails, File, file, wrong, behind, file_by, file_from, line_turned, lines_of, record_turned, records_to, records_of, text_from, on_first}
 use Rattle.words.specs.Pieces.{Taking, stop, taken_by, taken_from, ended, is_whole}
 use Rattle.words.proofs.GoodLines.{line-told}
 use Rattle.words.proofs.LinesAt.{lines_stay}
 use Rattle.words.proofs.RecordsAt.{records-stay}
 use Rattle.words.proofs.Joining.{follows, joined}
-use Rattle.words.proofs.Splitting.{Plain}
-use Rattle.wording.specs.Wording.{too_long, line_within, day_within, in_text}
+use Rattle.wording.specs.Wording.{too_long, line_within}
 use Rattle.wording.specs.Inner.{turned_as, taking}
-use Rattle.wording.proofs.Lengths.{together, within, lines-within, records-within}
+use Rattle.wording.proofs.Lengths.{within, lines-within, records-within}
 use Rattle.wording.proofs.LongLines.{same_taken, plain-text, long-text}
 
 -- no record fails

@@ -9,10 +9,9 @@ ghost use Rattle.words.specs.Pieces.{told_of};
 ghost use Rattle.wording.specs.Wording.{no_words, worded_of, day_within, in_text, Came};
 ghost use Rattle.wording.specs.Inner.{turned_as, taking};
 
-use libc::{STDERR_FILENO, STDIN_FILENO};
-use pieces::{SPACE, refill, to_front};
+use pieces::{SPACE, Source, refill, to_front};
 use streams::files::open_named;
-use streams::standard::write_output;
+use streams::standard::{tell, write_output};
 use words::{Taken, bytes_of_text, text_of_bytes};
 
 // What is put of a piece stands here.
@@ -30,6 +29,7 @@ pub struct Worded {
     pub printed: u64,
 }
 
+#[tactic(auto, unfolding(crate::specs::Wording::no_words))]
 fn no_words() -> Worded
     ensures { result ≡ no_words }
 {
@@ -42,12 +42,13 @@ fn no_words() -> Worded
 }
 
 // A line that says nothing. A text is printed only after it was judged: it was changed in between, and that is told.
-fn bad_line(program: &[u8], printing: bool, line: u64, fault: u8) -> Worded
+#[tactic(auto, unfolding(crate::specs::Wording::worded_of, sums::specs::Choice::pick))]
+fn bad_line(rt: &HostRuntime, program: &[u8], printing: bool, line: u64, fault: u8) -> Worded
     ensures { result ≡ worded_of printing (wrong line fault) }
 {
     if printing {
-        io::write_all(STDERR_FILENO, program);
-        io::write_all(STDERR_FILENO, b": the text was changed while it was read\n");
+        tell(rt, program);
+        tell(rt, b": the text was changed while it was read\n");
         return no_words();
     }
     Worded {
@@ -58,6 +59,7 @@ fn bad_line(program: &[u8], printing: bool, line: u64, fault: u8) -> Worded
     }
 }
 
+#[tactic(auto, unfolding(crate::specs::Inner::taking, sums::specs::Choice::pick))]
 fn take_in(spelling: bool, held: &[u8], last: bool, running: u16, room: &mut [u8]) -> Taken
     ensures value { result ≡ told_of (taking spelling last (length room.old) running held.now) }
     ensures room_after { room.new ≡ at_start (taking spelling last (length room.old) running held.now).bytes room.old }
@@ -68,6 +70,7 @@ fn take_in(spelling: bool, held: &[u8], last: bool, running: u16, room: &mut [u8
     bytes_of_text(held, last, running, room)
 }
 
+#[tactic(auto, unfolding(sums::specs::Choice::pick))]
 fn shown(printing: bool, count: usize) -> usize
     ensures { result ≡ pick printing count 0 }
 {
@@ -79,15 +82,16 @@ fn shown(printing: bool, count: usize) -> usize
 
 // A piece that doesn't fill the space is the file's last. What isn't taken of a piece stays, and the next is read behind it; a line that fills the whole space is too long.
 fn in_pieces(
+    rt: &HostRuntime,
     program: &[u8],
-    word: usize,
-    fd: i32,
+    from: Source,
     spelling: bool,
     printing: bool,
     first: u16,
 ) -> Worded
     ensures { Came (turned_as spelling first) printing result }
 {
+    let mut source = from;
     let mut space = pieces::blank();
     let mut room = [0u8; ROOM];
     let mut rest: usize = 0;
@@ -97,7 +101,7 @@ fn in_pieces(
     let mut ended = false;
     let mut turns: u64 = 0;
     while turns < TURNS {
-        let got = refill(program, word, fd, &mut space, rest, ended);
+        let got = refill(rt, program, &mut source, &mut space, rest, ended);
         if got.failed {
             return no_words();
         }
@@ -105,7 +109,7 @@ fn in_pieces(
         ended = held < SPACE;
         let taken = take_in(spelling, &space[..held], ended, running, &mut room);
         let n = shown(printing, taken.count);
-        let put = write_output(program, &room[..n]);
+        let put = write_output(rt, program, &room[..n]);
         if put.failed {
             return no_words();
         }
@@ -113,7 +117,7 @@ fn in_pieces(
         printed += put.count as u64;
         running = taken.running;
         if taken.fault != 0 {
-            return bad_line(program, printing, lines + 1, taken.fault);
+            return bad_line(rt, program, printing, lines + 1, taken.fault);
         }
         if ended & (taken.place == held) {
             return Worded {
@@ -124,7 +128,7 @@ fn in_pieces(
             };
         }
         if !spelling & !ended & (taken.place == 0) {
-            return bad_line(program, printing, lines + 1, 34);
+            return bad_line(rt, program, printing, lines + 1, 34);
         }
         rest = to_front(&mut space, taken.place, held);
         turns += 1;
@@ -133,35 +137,36 @@ fn in_pieces(
 }
 
 // The day file on standard input, its text on standard output. The running serial begins with this one. A failure is told on standard error, for the program named.
-pub fn in_words(program: &[u8], running: u16) -> Worded
+pub fn in_words(rt: &HostRuntime, program: &[u8], running: u16) -> Worded
     ensures { Came (in_text running) true result }
 {
-    in_pieces(program, 0, STDIN_FILENO, true, true, running)
+    in_pieces(rt, program, Source::Input, true, true, running)
 }
 
 // The text in the file that a word names.
-fn in_file(program: &[u8], word: usize, printing: bool, running: u16) -> Worded
+fn in_file(rt: &HostRuntime, program: &[u8], word: usize, printing: bool, running: u16) -> Worded
     ensures { Came (day_within running) printing result }
 {
-    let file = open_named(program, b"read the text", word);
-    if file.failed {
-        return no_words();
+    let opened = open_named(rt, program, b"read the text", word);
+    match opened.file {
+        Ok(file) => {
+            let source = Source::Named(word, file);
+            in_pieces(rt, program, source, false, printing, running)
+        }
+        Err(_) => no_words(),
     }
-    let d = in_pieces(program, word, file.fd, false, printing, running);
-    libc::close(file.fd);
-    d
 }
 
 // Whether every line of the text in the file that a word names says something, or which is the first that doesn't. Nothing is printed.
-pub fn judged(program: &[u8], word: usize, running: u16) -> Worded
+pub fn judged(rt: &HostRuntime, program: &[u8], word: usize, running: u16) -> Worded
     ensures { Came (day_within running) false result }
 {
-    in_file(program, word, false, running)
+    in_file(rt, program, word, false, running)
 }
 
 // The day file that this text says, on standard output.
-pub fn as_bytes(program: &[u8], word: usize, running: u16) -> Worded
+pub fn as_bytes(rt: &HostRuntime, program: &[u8], word: usize, running: u16) -> Worded
     ensures { Came (day_within running) true result }
 {
-    in_file(program, word, true, running)
+    in_file(rt, program, word, true, running)
 }

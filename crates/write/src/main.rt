@@ -1,80 +1,82 @@
 // A day file from text in the file TEXT, a record a line. A line that says nothing is told on standard error, and nothing is written then: TEXT is judged whole before it is turned.
 #![tactic(auto)]
 
-use libc::STDERR_FILENO;
+use streams::standard::tell;
+use streams::words;
 
-fn too_few_words() -> bool {
-    let few = !streams::words::is_there(os::arg_count(), 1);
+fn too_few_words(rt: &HostRuntime) -> bool {
+    let few = !words::is_there(words::count(rt), 1);
     if few {
-        io::write_all(
-            STDERR_FILENO,
+        tell(
+            rt,
             b"write: it takes a word, TEXT, and then FROM where it is wanted\n",
         );
     }
     few
 }
 
-fn tell_fault(fault: u8) -> bool {
+fn tell_fault(rt: &HostRuntime, fault: u8) {
     match fault {
-        4 => io::write_all(STDERR_FILENO, b"no such word\n"),
-        5 => io::write_all(STDERR_FILENO, b"kinds missing, or not of this word\n"),
-        6 => io::write_all(STDERR_FILENO, b"an amount missing or out of range\n"),
-        30 => io::write_all(
-            STDERR_FILENO,
+        4 => tell(rt, b"no such word\n"),
+        5 => tell(rt, b"kinds missing, or not of this word\n"),
+        6 => tell(rt, b"an amount missing or out of range\n"),
+        30 => tell(
+            rt,
             b"something more in the line (kinds stand in the order cash, deposits, guarantees, securities)\n",
         ),
-        31 => io::write_all(STDERR_FILENO, b"no serial after serial\n"),
-        32 => io::write_all(STDERR_FILENO, b"no bytes after raw\n"),
-        33 => io::write_all(STDERR_FILENO, b"no account\n"),
-        _ => io::write_all(STDERR_FILENO, b"too long\n"),
+        31 => tell(rt, b"no serial after serial\n"),
+        32 => tell(rt, b"no bytes after raw\n"),
+        33 => tell(rt, b"no account\n"),
+        _ => tell(rt, b"too long\n"),
     }
 }
 
 // A number, a mark and a space.
-fn tell_number(n: u64, mark: u8) {
+fn tell_number(rt: &HostRuntime, n: u64, mark: u8) {
     let mut room = [0u8; 21];
     let k = text::put_number(&mut room, 0, n, mark);
-    io::write_all(STDERR_FILENO, &room[..k]);
-    io::write_all(STDERR_FILENO, b" ");
+    tell(rt, &room[..k]);
+    tell(rt, b" ");
 }
 
 // As `write: line 3: 33, no account`.
-fn tell(line: u64, fault: u8) {
-    io::write_all(STDERR_FILENO, b"write: line ");
-    tell_number(line, b':');
-    tell_number(fault as u64, b',');
-    tell_fault(fault);
+fn tell_line(rt: &HostRuntime, line: u64, fault: u8) {
+    tell(rt, b"write: line ");
+    tell_number(rt, line, b':');
+    tell_number(rt, fault as u64, b',');
+    tell_fault(rt, fault);
 }
 
-fn run(running: u16) {
-    let judged = wording::judged(b"write", 1, running);
+fn run(rt: &HostRuntime, running: u16) {
+    let judged = wording::judged(rt, b"write", 1, running);
     if judged.failed {
         return;
     }
     if judged.fault != 0 {
-        tell(judged.line, judged.fault);
+        tell_line(rt, judged.line, judged.fault);
         return;
     }
-    wording::as_bytes(b"write", 1, running);
+    wording::as_bytes(rt, b"write", 1, running);
 }
 
-fn main() {
+fn main(rt: HostRuntime) {
     let help = streams::standard::help(
+        &rt,
         b"write: writes the day file that the text in the file TEXT says, a record a line; lines without a serial get the running one, which begins with the next serial of the book in the file FROM, or with 0; a line that says nothing is told on standard error, and nothing is written\nusage: write TEXT [FROM] > DAYFILE\n",
     );
     if help.asked {
         return;
     }
-    if streams::standard::too_many_words(b"write", 2) {
+    if streams::standard::too_many_words(&rt, b"write", 2) {
         return;
     }
-    if too_few_words() {
+    if too_few_words(&rt) {
         return;
     }
-    let from = feed::books::from_word(b"write", 2);
+    let from = feed::books::from_word(&rt, b"write", 2);
     if from.failed {
         return;
     }
     let table = from.table;
-    run(table.serial);
+    run(&rt, table.serial);
 }

@@ -24,7 +24,7 @@ put_lines-text-requires c =
     let l = r.limit in
     let a = r.args in
     let e : l.result ≡ limit_of a.most a.room.now = l.ensures in
-    let size : length d.new.room ≡ length blank = d.auto.1.1.1.0 in (
+    let size : length d.new.room ≡ length blank = d.auto.room in (
       c.fill.ensures,
       omega (arith, length-replicate 10240 zero, ap (λ x. x.read) d.ensures.value, read-most (turned_back a.t) a.piece.now (room_for l.result blank)),
       omega (arith, ap (λ x. x.read) d.ensures.value, read-most (turned_back a.t) a.piece.now (room_for l.result blank)),
@@ -37,7 +37,8 @@ returns c =
     let l = r.limit in
     let a = r.args in
     let e : l.result ≡ limit_of a.most a.room.now = l.ensures in
-    rw (← e) (lines_left (turned_back a.t) a.piece.now l.result blank (fits l.result (omega arith)) d.ensures.value d.ensures.room_after c.put_lines-text.ensures)
+    let whole = lines_left (turned_back a.t) a.piece.now l.result blank (fits l.result (omega arith)) d.ensures.value d.ensures.room_after c.put_lines-text.ensures in
+    record { value = rw (← e) whole.0; room_after = rw (← e) whole.1 }
 
 pub fill-requires : goal.fill-requires
 fill-requires c = length-replicate {A = ℕ} 1000 0

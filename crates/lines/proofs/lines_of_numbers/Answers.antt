@@ -16,7 +16,9 @@ returns c =
     l.least-k.result ≡ fitting a.count a.numbers.now a.room.now) =
     let l = c in
     l.least-k.ensures ∙ ap (min l.args.count) l.least.ensures
-    in let p = c in rw (← asked) (puts-at-start p.put_lines.ensures)
+    in
+    let whole = puts-at-start c.put_lines.ensures in
+    record { value = rw (← asked) whole.0; room_after = rw (← asked) whole.1 }
 
 pub fill-requires : goal.fill-requires
 fill-requires c = length-replicate {A = ℕ} 1000 0

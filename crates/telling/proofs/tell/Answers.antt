@@ -1,13 +1,13 @@
 -- `telling::tell` meets its contract: `Runs` and `Told` hold at each turn of the book that the words are, whatever number of records the loop is held to.
-use mathlib.Core.Bool.{true, false}
-use mathlib.Core.Logic.{inl, inr}
-use mathlib.Core.Path.{◌≡◌, subst}
-use Prim.Native.Nat.{◌-◌, ◌+◌, ◌≤◌, ◌<◌}
+use mathlib.Core.Bool.{true, ◌||◌}
+use mathlib.Core.Logic.{inl, inr, ⊎_elim}
+use mathlib.Core.Path.{◌≡◌, refl, subst}
+use Prim.Native.Nat.{ℕ, zero, suc, ◌-◌, ◌+◌, ◌≤◌, ◌<◌}
 use native.Mathlib.Omega.{arith}
 use lib.Dec.{leb, ltb}
 use lib.ListN.{length}
-use borrow.Author.Tests.{leb-false, ltb-false}
-use Rattle.sums.proofs.Choices.{or-fails}
+use borrow.Author.Tests.{leb-true, leb-false, ltb-true, ltb-false}
+use Rattle.sums.proofs.Choices.{or-fails, or_split}
 use Rattle.codes.specs.declared.asked.Headed.{Headed}
 use Rattle.codes.specs.Asking.{HeadedAt}
 use Rattle.records.proofs.Turning.{turn-ends, turn-cuts, long-cut, long-whole}
@@ -143,3 +143,12 @@ returns-then-most-read-2 c =
     let t = w in
     let v = t.loop-h in
     record { excess_value = (long-whole _ _ _ _ _ _ _ _ _ _ v.place v.read v.done (v.invariant.0 v.read (omega arith)) _ _ (omega arith) (met _ w.in-Whole.is).0).0; going = v.invariant.1; puts = all_told _ _ _ _ v.invariant.2 v.read (omega arith) (inl (omega arith)); read_le_most = (v.invariant.3, λ l. some_read c.if-most-read-2.true) }
+  where
+    by : (n : ℕ) → c.loop-h.read ≡ n → length c.args.text.now - 147 < c.loop-h.put → 0 < c.loop-h.read
+    by zero q l = absurd (omega (arith, c.loop-h.invariant.2.none q))
+    by (suc n) q l = omega arith
+
+    some_read : (leb c.args.most c.loop-h.read || ltb (length c.args.text.now - 147) c.loop-h.put) ≡ true → 0 < c.args.most → 0 < c.loop-h.read
+    some_read e m =
+        ⊎_elim (λ h. omega (arith, leb-true c.args.most c.loop-h.read h)) (λ h. by c.loop-h.read refl (ltb-true (length c.args.text.now - 147) c.loop-h.put h))
+        (or_split (leb c.args.most c.loop-h.read) _ e)
