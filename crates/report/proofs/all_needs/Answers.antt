@@ -6,7 +6,7 @@ use Rattle.report.proofs.NeedLines.{needs-tested}
 use Rattle.report.proofs.all_needs.Goals as goal
 
 pub returns : goal.returns
-returns c = 
+returns c =
     let n = c.args.n in
     let z = c.zeros-needs in
     let g = c.needs-refusal in

@@ -1,7 +1,6 @@
-use Rattle.std.proofs.Common.{◌≡◌, ◌≤◌, true, length, append_assoc, refl, sym, ◌∙◌, arith}
+use Rattle.std.proofs.Common.{append_assoc, refl, sym, ◌∙◌, arith}
 use Rattle.table.specs.Words.{turned_back}
-use Rattle.text.proofs.Puts.{puts_none, puts-length, and_then, puts-as}
-use Rattle.book.proofs.SoundTest.{sound→}
+use Rattle.text.proofs.Puts.{puts_none, and_then, puts-as}
 use Rattle.report.specs.Reports.{lines_of}
 use Rattle.report.specs.Holdings.{book_line, columns, holding_at}
 use Rattle.report.proofs.HoldingLines.{no-holding, every-holding}
@@ -11,7 +10,7 @@ pub returns-then-not-is_sound : goal.returns-then-not-is_sound
 returns-then-not-is_sound c = rw (no-holding (turned_back c.args.t) (sym c.is_sound.ensures ∙ c.if-not-is_sound.true)) (puts_none _ _ refl (omega arith))
 
 pub returns : goal.returns
-returns c = 
+returns c =
     let b = turned_back c.args.t in
     rw (every-holding b (sym c.is_sound.ensures ∙ c.if-not-is_sound.false))
     (puts-as (append_assoc (book_line b.serial b.next) columns (lines_of (holding_at b) b.count))

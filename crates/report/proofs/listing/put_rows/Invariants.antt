@@ -1,4 +1,4 @@
-use Rattle.std.proofs.Common.{◌≡◌, ◌+◌, ◌-◌, ◌*◌, ◌≤◌, length}
+use Rattle.std.proofs.Common.{◌+◌, ◌-◌, ◌*◌, ◌≤◌, length}
 use Rattle.table.specs.Words.{turned_back}
 use Rattle.text.specs.Inner.{Puts}
 use Rattle.report.specs.Reports.{lines_of}

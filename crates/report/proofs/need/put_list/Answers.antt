@@ -10,7 +10,7 @@ loop-i-init c = (puts_none _ _ (omega arith) (omega arith), omega arith, omega a
 
 pub loop-i-preserved : goal.loop-i-preserved
 unfolding lines_of
-loop-i-preserved c = 
+loop-i-preserved c =
     let l = c.loop-i in
     let e = puts-as (ap (λ k. need_line k (get_or c.args.needs.now l.i 0)) c.number_at-number.ensures) c.put_spaced-at.ensures.puts in
     (rw (add-one l.i) (and_then _ _ l.invariant.0 e), omega (arith, c.put_spaced-at.ensures.upper_bound, l.invariant.1), omega (arith, c.loop-i-test.true))

@@ -1,6 +1,5 @@
-use Rattle.std.proofs.Common.{◌≤◌, length, take, refl, sym, ◌∙◌, subst, arith}
+use Rattle.std.proofs.Common.{take, refl, ◌∙◌, subst, arith}
 use borrow.Author.Tests.{not-true, not-false}
-use lib.Seq.{length-take-le}
 use Rattle.table.specs.Words.{turned_back}
 use Rattle.text.proofs.Puts.{puts_none}
 use Rattle.report.specs.Inner.{Tested}
@@ -11,7 +10,7 @@ pub returns-then-not-tested : goal.returns-then-not-tested
 returns-then-not-tested c = rw (no_line (turned_back c.args.t) (c.all_needs-tested.ensures.0.is ∙ not-true _ c.if-not-tested.true)) (puts_none _ _ refl (omega arith))
 
 pub returns : goal.returns
-returns c = 
+returns c =
     let b = turned_back c.args.t in
     let n = take c.args.n c.all_needs-tested.result.needs in
     rw (tested-text b n (subst (λ t. Tested b t n) (not-false _ c.if-not-tested.false) c.all_needs-tested.ensures.0)) at c.put_list.ensures
