@@ -73,8 +73,8 @@ module _ {keep : ℕ → Bool} where
       → (answers_to c rs ≡ answers_to b rs) × ButForArchived (after_all b rs) (after_all c rs)
   unfolding answers_to NoneIsNine after_all
   list-alike s t d [] h = (refl, but-for s t d)
-  list-alike {b} {c} s t d (r ∷ rs) h =
-      let rest = list-alike (next-sound s t d r h.0) (next-sound' s t d r h.0) (next-thinned s t d r h.0) rs h.1 in
+  list-alike {b = b} {c = c} s t d (r ∷ rs) h =
+      let rest = list-alike {b = (step_of b r).book} {c = (step_of c r).book} (next-sound s t d r h.0) (next-sound' s t d r h.0) (next-thinned s t d r h.0) rs h.1 in
       (both (one_answer s t d r h.0) rest.0, rest.1)
 
   -- a piece of the day file

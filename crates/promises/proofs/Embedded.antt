@@ -23,7 +23,9 @@ use Rattle.lent.specs.Held.{sound_in, lent_refusal}
 use Rattle.embedded.specs.Carrying.{are_fit, carried_book}
 use Rattle.embedded_day.specs.Day.{day_refusal, day_book}
 use Rattle.embedded.proofs as embedded
+use Rattle.embedded.specs.contracts as embedded_contracts
 use Rattle.embedded_day.proofs as embedded_day
+use Rattle.embedded_day.specs.contracts as embedded_day_contracts
 use Rattle.lent.proofs.Lent.{read-tells, two-sound, none-refused}
 use Rattle.lent.proofs.Refused.{given}
 use Rattle.promises.specs.OneResult.{OneResultOnly}
@@ -31,59 +33,59 @@ use Rattle.promises.specs.OneResult.{OneResultOnly}
 -- ---- one result only
 
 -- 0 or 15, and the bytes of a fresh book
-pub of-embedded-loft-fresh : OneResultOnly embedded.loft_fresh.ended embedded.loft_fresh.Reads.Learnt
+pub of-embedded-loft-fresh : OneResultOnly embedded_contracts.loft_fresh.ended embedded.loft_fresh.Reads.Learnt
 of-embedded-loft-fresh κs a x y u v p q = (p.0 ∙ sym q.0, λ i. ((p.1 ∙ sym q.1) i, tt))
 
 -- whether bytes are a sound book
-pub of-embedded-loft-is-sound : OneResultOnly embedded.loft_is_sound.ended embedded.loft_is_sound.Reads.Learnt
+pub of-embedded-loft-is-sound : OneResultOnly embedded_contracts.loft_is_sound.ended embedded.loft_is_sound.Reads.Learnt
 of-embedded-loft-is-sound κs a x y u v p q = (p ∙ sym q, refl)
 
 -- the refusal or 0, and the figures
-pub of-embedded-loft-standing : OneResultOnly embedded.loft_standing.ended embedded.loft_standing.Reads.Learnt
+pub of-embedded-loft-standing : OneResultOnly embedded_contracts.loft_standing.ended embedded.loft_standing.Reads.Learnt
 of-embedded-loft-standing κs a x y u v p q = (p.0 ∙ sym q.0, λ i. (tt, (tt, ((p.1 ∙ sym q.1) i, tt))))
 
 -- the refusal or 0, the bytes and the answer
-pub of-embedded-loft-carry-out : OneResultOnly embedded.loft_carry_out.ended embedded.loft_carry_out.Reads.Learnt
+pub of-embedded-loft-carry-out : OneResultOnly embedded_contracts.loft_carry_out.ended embedded.loft_carry_out.Reads.Learnt
 of-embedded-loft-carry-out κs a x y u v p q = (p.0 ∙ sym q.0, λ i. ((p.1.0 ∙ sym q.1.0) i, (tt, (tt, (tt, (tt, (tt, ((p.1.1 ∙ sym q.1.1) i, tt))))))))
 
 -- the refusal or 0, the bytes, the answers and what is told
-pub of-embedded-day-loft-day : OneResultOnly embedded_day.loft_day.ended embedded_day.loft_day.Reads.Learnt
+pub of-embedded-day-loft-day : OneResultOnly embedded_day_contracts.loft_day.ended embedded_day.loft_day.Reads.Learnt
 of-embedded-day-loft-day κs a x y u v p q = (p.0 ∙ sym q.0, λ i. ((p.1.0 ∙ sym q.1.0) i, (tt, (tt, ((p.1.1.0 ∙ sym q.1.1.0) i, ((p.1.1.1 ∙ sym q.1.1.1) i, tt))))))
 
 -- the refusal or 0, and the amount
-pub of-embedded-loft-most : OneResultOnly embedded.loft_most.ended embedded.loft_most.Reads.Learnt
+pub of-embedded-loft-most : OneResultOnly embedded_contracts.loft_most.ended embedded.loft_most.Reads.Learnt
 of-embedded-loft-most κs a x y u v p q = (p.0 ∙ sym q.0, λ i. (tt, (tt, (tt, (tt, ((p.1 ∙ sym q.1) i, tt))))))
 
 -- the refusal or 0, and the needs
-pub of-embedded-loft-needs : OneResultOnly embedded.loft_needs.ended embedded.loft_needs.Reads.Learnt
+pub of-embedded-loft-needs : OneResultOnly embedded_contracts.loft_needs.ended embedded.loft_needs.Reads.Learnt
 of-embedded-loft-needs κs a x y u v p q = (p.0 ∙ sym q.0, λ i. (tt, ((p.1 ∙ sym q.1) i, tt)))
 
 -- the refusal or 0, the amounts and the total
-pub of-embedded-loft-close-out : OneResultOnly embedded.loft_close_out.ended embedded.loft_close_out.Reads.Learnt
+pub of-embedded-loft-close-out : OneResultOnly embedded_contracts.loft_close_out.ended embedded.loft_close_out.Reads.Learnt
 of-embedded-loft-close-out κs a x y u v p q = (p.0 ∙ sym q.0, λ i. (tt, (tt, ((p.1.0 ∙ sym q.1.0) i, ((p.1.1 ∙ sym q.1.1) i, tt)))))
 
 -- the refusal or 0, and the record's bytes
-pub of-embedded-loft-margin : OneResultOnly embedded.loft_margin.ended embedded.loft_margin.Reads.Learnt
+pub of-embedded-loft-margin : OneResultOnly embedded_contracts.loft_margin.ended embedded.loft_margin.Reads.Learnt
 of-embedded-loft-margin κs a x y u v p q = (p.0 ∙ sym q.0, λ i. (tt, (tt, (tt, (tt, (tt, (tt, (tt, ((p.1 ∙ sym q.1) i, tt)))))))))
 
 -- the refusal or 0
-pub of-embedded-loft-statement : OneResultOnly embedded.loft_statement.ended embedded.loft_statement.Reads.Learnt
+pub of-embedded-loft-statement : OneResultOnly embedded_contracts.loft_statement.ended embedded.loft_statement.Reads.Learnt
 of-embedded-loft-statement κs a x y u v p q = (p ∙ sym q, refl)
 
 -- the refusal or 0, the bytes, the entries and how many moved
-pub of-embedded-loft-archive : OneResultOnly embedded.loft_archive.ended embedded.loft_archive.Reads.Learnt
+pub of-embedded-loft-archive : OneResultOnly embedded_contracts.loft_archive.ended embedded.loft_archive.Reads.Learnt
 of-embedded-loft-archive κs a x y u v p q = (p.0 ∙ sym q.0, λ i. ((p.1.0 ∙ sym q.1.0) i, ((p.1.1.0 ∙ sym q.1.1.0) i, ((p.1.1.1 ∙ sym q.1.1.1) i, tt))))
 
 -- the refusal or 0, and the bytes
-pub of-embedded-loft-take-over : OneResultOnly embedded.loft_take_over.ended embedded.loft_take_over.Reads.Learnt
+pub of-embedded-loft-take-over : OneResultOnly embedded_contracts.loft_take_over.ended embedded.loft_take_over.Reads.Learnt
 of-embedded-loft-take-over κs a x y u v p q = (p.0 ∙ sym q.0, λ i. ((p.1 ∙ sym q.1) i, tt))
 
 -- the refusal or 0, the room and the length
-pub of-embedded-loft-write-record : OneResultOnly embedded.loft_write_record.ended embedded.loft_write_record.Reads.Learnt
+pub of-embedded-loft-write-record : OneResultOnly embedded_contracts.loft_write_record.ended embedded.loft_write_record.Reads.Learnt
 of-embedded-loft-write-record κs a x y u v p q = (p.0 ∙ sym q.0, λ i. (tt, (tt, (tt, (tt, (tt, ((p.1.0 ∙ sym q.1.0) i, ((p.1.1 ∙ sym q.1.1) i, tt))))))))
 
 -- the refusal, 255 or 0, and the numbers
-pub of-embedded-loft-read-record : OneResultOnly embedded.loft_read_record.ended embedded.loft_read_record.Reads.Learnt
+pub of-embedded-loft-read-record : OneResultOnly embedded_contracts.loft_read_record.ended embedded.loft_read_record.Reads.Learnt
 of-embedded-loft-read-record κs a x y u v p q = (p.0 ∙ sym q.0, λ i. (tt, (tt, ((p.1 ∙ sym q.1) i, tt))))
 
 -- ---- what is left in the bytes of a sound book, for every value of the type (`bookfile.Facts.Fits`)

@@ -33,11 +33,15 @@ use Rattle.run.proofs as run
 use Rattle.lines.proofs as lines
 use Rattle.closeout.proofs as closeout
 use Rattle.streams.proofs as streams
+use Rattle.streams.specs.contracts as streams_contracts
 use Rattle.feed.proofs as feed
+use Rattle.feed.specs.contracts as feed_contracts
 use Rattle.wording.specs.Wording.{in_text, day_within, no_words, worded_of}
 use Rattle.wording.proofs as wording
+use Rattle.wording.specs.contracts as wording_contracts
 use Rattle.bookfile.proofs as bookfile
 use Rattle.report.proofs as report
+use Rattle.report.specs.contracts as report_contracts
 use Rattle.currency.proofs as currency
 use Rattle.exposure.proofs as exposure
 
@@ -59,28 +63,28 @@ as-taken x y n p q =
 
 -- How much of the closing line was handed over: all of it, unless a write failed, which no promise can say. Where as many bytes were taken, and where none failed, the results are the same.
 pub of-report-closing :
-    (κs : Lfts 1) (a : Args report.closing.signature κs) (x y : Res report.closing.signature κs) (e : AtExit report.closing.ended κs)
+    (κs : Lfts 1) (a : Args report_contracts.closing.signature κs) (x y : Res report_contracts.closing.signature κs) (e : AtExit report_contracts.closing.ended κs)
     (p : report.closing.Reads.Learnt κs a x e) (q : report.closing.Reads.Learnt κs a y e) →
     (x.count ≡ y.count → x ≡ y) × (x.failed ≡ false → y.failed ≡ false → x ≡ y)
 of-report-closing κs a x y e p q = as-taken x y _ p q
 
 -- of the standings' lines
 pub of-report-standings :
-    (κs : Lfts 1) (a : Args report.standings.signature κs) (x y : Res report.standings.signature κs) (e : AtExit report.standings.ended κs)
+    (κs : Lfts 1) (a : Args report_contracts.standings.signature κs) (x y : Res report_contracts.standings.signature κs) (e : AtExit report_contracts.standings.ended κs)
     (p : report.standings.Reads.Learnt κs a x e) (q : report.standings.Reads.Learnt κs a y e) →
     (x.count ≡ y.count → x ≡ y) × (x.failed ≡ false → y.failed ≡ false → x ≡ y)
 of-report-standings κs a x y e p q = as-taken x y _ p q
 
 -- of the lines of all rows held
 pub of-report-holdings :
-    (κs : Lfts 1) (a : Args report.holdings.signature κs) (x y : Res report.holdings.signature κs) (e : AtExit report.holdings.ended κs)
+    (κs : Lfts 1) (a : Args report_contracts.holdings.signature κs) (x y : Res report_contracts.holdings.signature κs) (e : AtExit report_contracts.holdings.ended κs)
     (p : report.holdings.Reads.Learnt κs a x e) (q : report.holdings.Reads.Learnt κs a y e) →
     (x.count ≡ y.count → x ≡ y) × (x.failed ≡ false → y.failed ≡ false → x ≡ y)
 of-report-holdings κs a x y e p q = as-taken x y _ p q
 
 -- of the needs' lines
 pub of-report-needs :
-    (κs : Lfts 1) (a : Args report.needs.signature κs) (x y : Res report.needs.signature κs) (e : AtExit report.needs.ended κs)
+    (κs : Lfts 1) (a : Args report_contracts.needs.signature κs) (x y : Res report_contracts.needs.signature κs) (e : AtExit report_contracts.needs.ended κs)
     (p : report.needs.Reads.Learnt κs a x e) (q : report.needs.Reads.Learnt κs a y e) →
     (x.count ≡ y.count → x ≡ y) × (x.failed ≡ false → y.failed ≡ false → x ≡ y)
 of-report-needs κs a x y e p q = as-taken x y _ p q
@@ -89,28 +93,28 @@ of-report-needs κs a x y e p q = as-taken x y _ p q
 
 -- How much of a text was written: where as many bytes were taken the results are the same, and where none failed all were.
 pub of-streams-write-all :
-    (κs : Lfts 1) (a : Args streams.write_all.signature κs) (x y : Res streams.write_all.signature κs) (e : AtExit streams.write_all.ended κs)
+    (κs : Lfts 1) (a : Args streams_contracts.write_all.signature κs) (x y : Res streams_contracts.write_all.signature κs) (e : AtExit streams_contracts.write_all.ended κs)
     (p : streams.write_all.Reads.Learnt κs a x e) (q : streams.write_all.Reads.Learnt κs a y e) →
     (x.count ≡ y.count → x ≡ y) × (x.failed ≡ false → y.failed ≡ false → x ≡ y)
 of-streams-write-all κs a x y e p q = as-taken x y _ p q
 
 -- the same of standard output
 pub of-streams-standard-write-output :
-    (κs : Lfts 2) (a : Args streams.standard.write_output.signature κs) (x y : Res streams.standard.write_output.signature κs) (e : AtExit streams.standard.write_output.ended κs)
+    (κs : Lfts 2) (a : Args streams_contracts.standard.write_output.signature κs) (x y : Res streams_contracts.standard.write_output.signature κs) (e : AtExit streams_contracts.standard.write_output.ended κs)
     (p : streams.standard.write_output.Reads.Learnt κs a x e) (q : streams.standard.write_output.Reads.Learnt κs a y e) →
     (x.count ≡ y.count → x ≡ y) × (x.failed ≡ false → y.failed ≡ false → x ≡ y)
 of-streams-standard-write-output κs a x y e p q = as-taken x y _ p q
 
 -- A file that is replaced: where both failed or neither did, the results are the same.
 pub of-streams-files-replace-named :
-    (κs : Lfts 3) (a : Args streams.files.replace_named.signature κs) (x y : Res streams.files.replace_named.signature κs) (e : AtExit streams.files.replace_named.ended κs)
+    (κs : Lfts 3) (a : Args streams_contracts.files.replace_named.signature κs) (x y : Res streams_contracts.files.replace_named.signature κs) (e : AtExit streams_contracts.files.replace_named.ended κs)
     (p : streams.files.replace_named.Reads.Learnt κs a x e) (q : streams.files.replace_named.Reads.Learnt κs a y e) →
     x.failed ≡ y.failed → x ≡ y
 of-streams-files-replace-named κs a x y e p q luck = same-moved x y luck (p ∙ ap (λ t. pick t 0 (length a.1.1.1.0.now)) luck ∙ sym q)
 
 -- A file that is opened: where the system gave the same number for it, the results are the same.
 pub of-streams-files-open-named :
-    (κs : Lfts 2) (a : Args streams.files.open_named.signature κs) (x y : Res streams.files.open_named.signature κs) (e : AtExit streams.files.open_named.ended κs)
+    (κs : Lfts 2) (a : Args streams_contracts.files.open_named.signature κs) (x y : Res streams_contracts.files.open_named.signature κs) (e : AtExit streams_contracts.files.open_named.ended κs)
     (p : streams.files.open_named.Reads.Learnt κs a x e) (q : streams.files.open_named.Reads.Learnt κs a y e) →
     x.fd ≡ y.fd → x ≡ y
 of-streams-files-open-named κs a x y e p q luck =
@@ -118,7 +122,7 @@ of-streams-files-open-named κs a x y e p q luck =
 
 -- Whether help was asked for: where the first word is the same, and as many bytes of the help were taken.
 pub of-streams-standard-help :
-    (κs : Lfts 1) (a : Args streams.standard.help.signature κs) (x y : Res streams.standard.help.signature κs) (e : AtExit streams.standard.help.ended κs)
+    (κs : Lfts 1) (a : Args streams_contracts.standard.help.signature κs) (x y : Res streams_contracts.standard.help.signature κs) (e : AtExit streams_contracts.standard.help.ended κs)
     (p : streams.standard.help.Reads.Learnt κs a x e) (q : streams.standard.help.Reads.Learnt κs a y e) →
     p.word ≡ q.word → x.count ≡ y.count → x ≡ y
 of-streams-standard-help κs a x y e p q same taken =
@@ -130,7 +134,7 @@ of-streams-standard-help κs a x y e p q same taken =
 
 -- Whether there are too many words: where there are as many.
 pub of-streams-standard-too-many-words :
-    (κs : Lfts 1) (a : Args streams.standard.too_many_words.signature κs) (x y : Res streams.standard.too_many_words.signature κs) (e : AtExit streams.standard.too_many_words.ended κs)
+    (κs : Lfts 1) (a : Args streams_contracts.standard.too_many_words.signature κs) (x y : Res streams_contracts.standard.too_many_words.signature κs) (e : AtExit streams_contracts.standard.too_many_words.ended κs)
     (p : streams.standard.too_many_words.Reads.Learnt κs a x e) (q : streams.standard.too_many_words.Reads.Learnt κs a y e) →
     p.count ≡ q.count → x ≡ y
 of-streams-standard-too-many-words κs a x y e p q same = p.is ∙ ap (λ n. too_many n a.1.0) same ∙ sym q.is
@@ -139,7 +143,7 @@ of-streams-standard-too-many-words κs a x y e p q same = p.is ∙ ap (λ n. too
 
 -- A day file in words.
 pub of-wording-in-words :
-    (κs : Lfts 1) (a : Args wording.in_words.signature κs) (x y : Res wording.in_words.signature κs) (e : AtExit wording.in_words.ended κs)
+    (κs : Lfts 1) (a : Args wording_contracts.in_words.signature κs) (x y : Res wording_contracts.in_words.signature κs) (e : AtExit wording_contracts.in_words.ended κs)
     (p : wording.in_words.Reads.Learnt κs a x e) (q : wording.in_words.Reads.Learnt κs a y e) →
     p.input ≡ q.input → x.failed ≡ y.failed → x ≡ y
 of-wording-in-words κs a x y e p q same luck =
@@ -147,7 +151,7 @@ of-wording-in-words κs a x y e p q same luck =
 
 -- A text judged.
 pub of-wording-judged :
-    (κs : Lfts 1) (a : Args wording.judged.signature κs) (x y : Res wording.judged.signature κs) (e : AtExit wording.judged.ended κs)
+    (κs : Lfts 1) (a : Args wording_contracts.judged.signature κs) (x y : Res wording_contracts.judged.signature κs) (e : AtExit wording_contracts.judged.ended κs)
     (p : wording.judged.Reads.Learnt κs a x e) (q : wording.judged.Reads.Learnt κs a y e) →
     p.input ≡ q.input → x.failed ≡ y.failed → x ≡ y
 of-wording-judged κs a x y e p q same luck =
@@ -155,7 +159,7 @@ of-wording-judged κs a x y e p q same luck =
 
 -- A text as a day file.
 pub of-wording-as-bytes :
-    (κs : Lfts 1) (a : Args wording.as_bytes.signature κs) (x y : Res wording.as_bytes.signature κs) (e : AtExit wording.as_bytes.ended κs)
+    (κs : Lfts 1) (a : Args wording_contracts.as_bytes.signature κs) (x y : Res wording_contracts.as_bytes.signature κs) (e : AtExit wording_contracts.as_bytes.ended κs)
     (p : wording.as_bytes.Reads.Learnt κs a x e) (q : wording.as_bytes.Reads.Learnt κs a y e) →
     p.input ≡ q.input → x.failed ≡ y.failed → x ≡ y
 of-wording-as-bytes κs a x y e p q same luck =
@@ -166,7 +170,7 @@ of-wording-as-bytes κs a x y e p q same luck =
 -- The day of standard input: its promise is that some bytes came, of which this is the day, unless a read or a write failed. Where the bytes that came are
 -- the same, and neither failed or both did, so are the results,
 pub of-feed-whole-day :
-    (κs : Lfts 1) (a : Args feed.whole_day.signature κs) (x y : Res feed.whole_day.signature κs) (e : AtExit feed.whole_day.ended κs)
+    (κs : Lfts 1) (a : Args feed_contracts.whole_day.signature κs) (x y : Res feed_contracts.whole_day.signature κs) (e : AtExit feed_contracts.whole_day.ended κs)
     (p : feed.whole_day.Reads.Learnt κs a x e) (q : feed.whole_day.Reads.Learnt κs a y e) →
     p.input ≡ q.input → x.failed ≡ y.failed → x ≡ y
 of-feed-whole-day κs a x y e p q same luck =
@@ -176,7 +180,7 @@ of-feed-whole-day κs a x y e p q same luck =
 
 -- and that is all that it leaves open: the day of any bytes meets it, and so does a failure where the book is sound.
 pub whatever-bytes-came :
-    (κs : Lfts 1) (a : Args feed.whole_day.signature κs) (e : AtExit feed.whole_day.ended κs) (s : List ℕ) →
+    (κs : Lfts 1) (a : Args feed_contracts.whole_day.signature κs) (e : AtExit feed_contracts.whole_day.ended κs) (s : List ℕ) →
     Bytes s → feed.whole_day.Reads.Learnt κs a (whole_day a.1.0 (turned_back a.1.1.0) s) e
     × (sound_b (turned_back a.1.1.0) ≡ true → feed.whole_day.Reads.Learnt κs a no_day e)
 unfolding pick whole_day no_day
@@ -184,7 +188,7 @@ whatever-bytes-came κs a e s bytes = (record { input = s; bytes = bytes; is = r
 
 -- The same of an explained day.
 pub of-feed-explained-day :
-    (κs : Lfts 1) (a : Args feed.explained_day.signature κs) (x y : Res feed.explained_day.signature κs) (e : AtExit feed.explained_day.ended κs)
+    (κs : Lfts 1) (a : Args feed_contracts.explained_day.signature κs) (x y : Res feed_contracts.explained_day.signature κs) (e : AtExit feed_contracts.explained_day.ended κs)
     (p : feed.explained_day.Reads.Learnt κs a x e) (q : feed.explained_day.Reads.Learnt κs a y e) →
     p.input ≡ q.input → x.failed ≡ y.failed → x ≡ y
 of-feed-explained-day κs a x y e p q same luck =
@@ -194,7 +198,7 @@ of-feed-explained-day κs a x y e p q same luck =
 
 -- The book that a day starts from: where the words and the file's bytes are the same, so are the results.
 pub of-feed-books-from-word :
-    (κs : Lfts 1) (a : Args feed.books.from_word.signature κs) (x y : Res feed.books.from_word.signature κs) (e : AtExit feed.books.from_word.ended κs)
+    (κs : Lfts 1) (a : Args feed_contracts.books.from_word.signature κs) (x y : Res feed_contracts.books.from_word.signature κs) (e : AtExit feed_contracts.books.from_word.ended κs)
     (p : feed.books.from_word.Reads.Learnt κs a x e) (q : feed.books.from_word.Reads.Learnt κs a y e) →
     p.count ≡ q.count → p.name ≡ q.name → p.file ≡ q.file → x ≡ y
 of-feed-books-from-word κs a x y e p q many word same =
@@ -203,7 +207,7 @@ of-feed-books-from-word κs a x y e p q many word same =
 
 -- Where the book after it goes: where there are as many words, and both failed or neither did.
 pub of-feed-books-to-word :
-    (κs : Lfts 1) (a : Args feed.books.to_word.signature κs) (x y : Res feed.books.to_word.signature κs) (e : AtExit feed.books.to_word.ended κs)
+    (κs : Lfts 1) (a : Args feed_contracts.books.to_word.signature κs) (x y : Res feed_contracts.books.to_word.signature κs) (e : AtExit feed_contracts.books.to_word.ended κs)
     (p : feed.books.to_word.Reads.Learnt κs a x e) (q : feed.books.to_word.Reads.Learnt κs a y e) →
     p.count ≡ q.count → x.failed ≡ y.failed → x ≡ y
 of-feed-books-to-word κs a x y e p q many luck =
