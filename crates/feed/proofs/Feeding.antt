@@ -11,6 +11,7 @@ use borrow.Author.Tests.{ltb-false}
 use Rattle.sums.specs.Choice.{pick}
 use Rattle.numbers.specs.Bytes.{Bytes}
 use Rattle.numbers.proofs.Numbers.{bytes_take, bytes_drop}
+use Rattle.streams.specs.declared.Moved.{Moved}
 use Rattle.rows.specs.declared.Book.{Book}
 use Rattle.book.specs.Sound.{sound_b}
 use Rattle.records.specs.declared.Closing.TheVariants.{Unsound}
@@ -162,6 +163,28 @@ pub record Piece (printing explained : Bool) (b : Book) (space : List ℕ) (book
   pub bytes : Bytes filled
   pub some : 0 < takes
   pub is : r ≡ ran_of book (take held filled) (turn_most read takes)
+
+-- the same by what was read behind the rest, into a space as long as it was
+pub piece-of : {printing explained : Bool} {b : Book} {space : List ℕ} {book : Book} {rest read done printed : ℕ}
+    → Feeding printing explained b space book rest read done printed
+    → (filled : List ℕ) (m : Moved) (takes : ℕ) (r : Ran)
+    → rest + m.count ≤ length filled
+    → take rest filled ≡ take rest space
+    → Bytes filled
+    → length filled ≡ length space
+    → 0 < takes
+    → r ≡ ran_of book (take (rest + m.count) filled) (turn_most read takes)
+    → Piece printing explained b space book rest read done printed filled (rest + m.count) takes r
+piece-of g filled m takes r h old bytes size some is = record {
+  before = g;
+  size = size ∙ g.size;
+  least = omega arith;
+  most = omega (arith, h, size, g.size);
+  old = old;
+  bytes = bytes;
+  some = some;
+  is = is;
+}
 
 module _ {printing explained : Bool} {b : Book} {space : List ℕ} {book : Book} {rest read done printed : ℕ} {filled : List ℕ} {held takes : ℕ} {r : Ran}
     (g : Piece printing explained b space book rest read done printed filled held takes r) where

@@ -1,4 +1,4 @@
-use Rattle.std.proofs.Common.{ap}
+use Rattle.std.proofs.Common.{false, ap}
 use Rattle.table.specs.declared.Table.{Table}
 use Rattle.records.specs.declared.Closing.TheVariants.{Unsound}
 use Rattle.feed.proofs.unsound.Goals as goal

@@ -1,4 +1,4 @@
-use Rattle.std.proofs.Common.{[], length, arith}
+use Rattle.std.proofs.Common.{[], arith}
 use Rattle.feed.proofs.books.from_file.Goals as goal
 
 pub returns-then-read : goal.returns-then-read

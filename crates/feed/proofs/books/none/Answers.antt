@@ -1,4 +1,4 @@
-use Rattle.std.proofs.Common.{[], ◌≡◌, Bool, false, sym, ap, refl}
+use Rattle.std.proofs.Common.{[], ◌≡◌, false, sym, ap, refl}
 use Rattle.sums.specs.Choice.{pick}
 use Rattle.rows.specs.Rows.{fresh_book}
 use Rattle.table.specs.Words.{turned}

@@ -1,4 +1,4 @@
-use Rattle.std.proofs.Common.{ℕ, List, length, ap, ◌∙◌, eq-eqb}
+use Rattle.std.proofs.Common.{ℕ, length, ap, ◌∙◌, eq-eqb}
 use lib.ListN.{length-replicate}
 use Rattle.sums.specs.Choice.{pick}
 use Rattle.sums.proofs.Choices.{pick_yes}
