@@ -9,7 +9,7 @@ use lib.ListN.{length}
 use base.Logic.{sep}
 use contract.Lifetimes.{Lfts}
 use contract.Monad.{fact}
-use denote.Ref.{Bor}
+use denote.MutBor.{MutBor}
 use denote.Triple.Entry.{Args, Res}
 use denote.Triple.Clauses.{AtExit, at_exit}
 use borrow.Fn.World.{World}
@@ -62,7 +62,7 @@ one-result p q = p ∙ sym q
 
 -- What `Learnt` is: the two clauses of `book::needs`, word for word. x comes back, and `after` is in the room then.
 pub needs-word-for-word :
-    (κs : Lfts 1) (t : Table) (room : Bor (List ℕ)) (x : ℕ) (after : List ℕ) →
+    (κs : Lfts 1) (t : Table) (room : MutBor (List ℕ)) (x : ℕ) (after : List ℕ) →
     book.needs.Reads.Learnt κs (t, (room, tt)) x (at_exit book_contracts.needs.ended κs (t, (room, tt)) (tt, (after, tt))) ≡
     ((x ≡ needs_refusal (turned_back t) room.now) × (after ≡ needs_room (turned_back t) room.now))
 needs-word-for-word κs t room x after = refl
