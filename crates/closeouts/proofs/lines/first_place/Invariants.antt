@@ -1,4 +1,4 @@
-use Rattle.std.proofs.Common.{ℕ, ⊥, ◌≡◌, ◌-◌, ◌≤◌, ◌<◌, get_or}
+use Rattle.std.proofs.Common.{ℕ, ◌≡◌, ◌-◌, ◌≤◌, ◌<◌, get_or}
 use Rattle.closeouts.proofs.lines.first_place.Given as goal
 
 abbrev pub invariant-loop-i : goal.invariant-loop-i
