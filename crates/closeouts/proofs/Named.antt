@@ -20,9 +20,9 @@ use Rattle.words.specs.declared.Got.{Got}
 use Rattle.words.specs.Tokens.{number_at, ends_at}
 use Rattle.words.specs.Texts.{lines_of, line_length}
 use Rattle.words.proofs.LinesAt.{line-here, no_line}
-use Rattle.closeouts.specs.declared.lines.Loss.{Loss}
-use Rattle.closeouts.specs.declared.lines.Loss.TheVariants.{Nothing, Of, Bad}
-use Rattle.closeouts.specs.declared.lines.Put.{Put}
+use Rattle.closeouts.specs.declared.loss_lines.Loss.{Loss}
+use Rattle.closeouts.specs.declared.loss_lines.Loss.TheVariants.{Nothing, Of, Bad}
+use Rattle.closeouts.specs.declared.loss_lines.Put.{Put}
 use Rattle.closeouts.specs.Inner.{Puts}
 use Rattle.closeouts.specs.LossLines.{names, fails, loss_said, account_said, amount_said, named_by, losses, wrong, told_by, told_from, told_of, loss_for}
 

@@ -1,8 +1,8 @@
 -- Only for internal functions.
 use Rattle.std.specs.Prelude.{List, ◌≡◌, ℕ, ◌≤◌, length, take}
 use Rattle.sums.specs.Choice.{pick}
-use Rattle.closeouts.specs.declared.lines.Loss.{Loss}
-use Rattle.closeouts.specs.declared.lines.Put.{Put}
+use Rattle.closeouts.specs.declared.loss_lines.Loss.{Loss}
+use Rattle.closeouts.specs.declared.loss_lines.Put.{Put}
 use Rattle.closeouts.specs.LossLines.{names, fails, named_by}
 
 -- the accounts named and their losses, at the front of two arrays, after one line more

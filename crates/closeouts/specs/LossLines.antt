@@ -12,9 +12,9 @@ use Rattle.words.specs.Texts.{lines_of}
 use Rattle.text.specs.Numbers.{followed}
 use Rattle.report.specs.Reports.{accounts, refused_word, word_line}
 use Rattle.report.specs.Holdings.{bytes_in}
-use Rattle.closeouts.specs.declared.lines.Loss.{Loss}
-use Rattle.closeouts.specs.declared.lines.Loss.TheVariants.{Nothing, Of, Bad}
-use Rattle.closeouts.specs.declared.lines.Said.{Said}
+use Rattle.closeouts.specs.declared.loss_lines.Loss.{Loss}
+use Rattle.closeouts.specs.declared.loss_lines.Loss.TheVariants.{Nothing, Of, Bad}
+use Rattle.closeouts.specs.declared.loss_lines.Said.{Said}
 use Rattle.closeouts.specs.declared.losses.Losses.{Losses}
 use Rattle.closeouts.specs.Losses.{Came}
 use Rattle.closeouts.specs.Texts.{text_of}

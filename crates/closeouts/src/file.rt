@@ -3,7 +3,7 @@ ghost use Rattle.std.specs.Prelude.{true, ◌≡◌, ◌≤◌};
 ghost use Rattle.closeouts.specs.Losses.{Came};
 ghost use Rattle.closeouts.specs.LossLines.{told_of, says_losses, SaidBy, LinesCame, CameAs};
 
-use crate::lines::read_lines;
+use crate::loss_lines::read_lines;
 use crate::losses::{Losses, list, unreadable};
 use crate::told;
 use streams::files::read_named;

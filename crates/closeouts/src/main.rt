@@ -16,7 +16,7 @@ use streams::words;
 use streams::words::is_same;
 
 mod file;
-mod lines;
+mod loss_lines;
 mod losses;
 mod matching;
 mod told;

@@ -5,7 +5,7 @@ ghost use Rattle.sums.specs.Listed.{list_to};
 ghost use Rattle.rows.specs.Rows.{place_among};
 ghost use Rattle.closeouts.specs.LossLines.{loss_for};
 
-use crate::lines::first_place;
+use crate::loss_lines::first_place;
 
 fn loss_for(numbers: &[u16; 256], amounts: &[u64; 256], count: usize, n: u16) -> u64
     requires { (count ≤ 256) × (length numbers.now ≡ 256) × (length amounts.now ≡ 256) }

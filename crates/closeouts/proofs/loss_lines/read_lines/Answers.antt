@@ -1,7 +1,7 @@
 use Rattle.std.proofs.Common.{length, take, drop, arith}
 use Rattle.words.proofs.LinesAt.{line-more, line-within}
 use Rattle.closeouts.proofs.Named.{text-over, text-fails, text-goes}
-use Rattle.closeouts.proofs.lines.read_lines.Goals as goal
+use Rattle.closeouts.proofs.loss_lines.read_lines.Goals as goal
 
 pub slice_bounds-loss_of-end : goal.slice_bounds-loss_of-end
 slice_bounds-loss_of-end c =

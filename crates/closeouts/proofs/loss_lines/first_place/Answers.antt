@@ -1,7 +1,7 @@
 use Rattle.std.proofs.Common.{sym, arith}
 use Rattle.lookup.proofs.Places.{place_none}
 use Rattle.closeouts.proofs.Named.{place-first, none_yet}
-use Rattle.closeouts.proofs.lines.first_place.Goals as goal
+use Rattle.closeouts.proofs.loss_lines.first_place.Goals as goal
 
 pub loop-i-init : goal.loop-i-init
 loop-i-init c = (omega arith, λ j l e. absurd (omega arith))

@@ -1,6 +1,6 @@
 use Rattle.std.proofs.Common.{arith}
 use Rattle.closeouts.proofs.Named.{puts-nothing, puts-bad, puts-twice, puts_none, puts-loss}
-use Rattle.closeouts.proofs.lines.put_loss.Goals as goal
+use Rattle.closeouts.proofs.loss_lines.put_loss.Goals as goal
 
 pub returns-then-first_place-count : goal.returns-then-first_place-count
 returns-then-first_place-count c = rw c.in-Of.is (puts-twice c.args.numbers.now c.args.amounts.now c.args.count c.requires.0 c.requires.1 c.requires.2 _ _ _ c.first_place.ensures c.if-first_place-count.true c.failed-then-first_place-count.ensures)

@@ -1,7 +1,7 @@
 use Rattle.std.proofs.Common.{◌≡◌, ◌+◌, ◌-◌, ◌≤◌, length, take, drop}
 use Rattle.words.specs.Texts.{lines_of}
 use Rattle.closeouts.specs.LossLines.{told_of, told_from}
-use Rattle.closeouts.proofs.lines.read_lines.Given as goal
+use Rattle.closeouts.proofs.loss_lines.read_lines.Given as goal
 
 abbrev pub invariant-loop-place : goal.invariant-loop-place
 invariant-loop-place l = (told_from l.line (take l.count l.numbers) (take l.count l.amounts) (lines_of (drop l.place l.text)) ≡ told_of l.text) × (l.count ≤ 256) × (length l.numbers ≡ 256) × (length l.amounts ≡ 256) × (1 ≤ l.line) × (l.line ≤ l.place + 1) × (l.place ≤ length l.text)
