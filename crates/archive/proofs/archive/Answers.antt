@@ -1,4 +1,4 @@
-use Rattle.std.proofs.Common.{ℕ, ◌≤◌, ◌*◌, length, replicate, ap, sym, arith}
+use Rattle.std.proofs.Common.{◌≤◌, ◌*◌, length, replicate, ap, sym, arith}
 use lib.Seq.{length-take-le}
 use Rattle.table.specs.Words.{turned_back}
 use Rattle.archival.specs.declared.Archived.{Archived}

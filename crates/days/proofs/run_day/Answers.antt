@@ -1,4 +1,4 @@
-use Rattle.std.proofs.Common.{ℕ, ◌≤◌, length, replicate, sym, ap}
+use Rattle.std.proofs.Common.{◌≤◌, length, replicate, sym, ap}
 use lib.Seq.{length-take-le}
 use Rattle.table.specs.Words.{turned_back}
 use Rattle.lines.specs.declared.Lined.{Lined}

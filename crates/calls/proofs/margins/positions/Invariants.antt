@@ -1,4 +1,4 @@
-use Rattle.std.proofs.Common.{◌≡◌, ◌+◌, ◌-◌, ◌*◌, ◌≤◌, length}
+use Rattle.std.proofs.Common.{◌-◌, ◌≤◌}
 use Rattle.calls.proofs.margins.positions.Given as goal
 
 abbrev pub invariant-loop-i : goal.invariant-loop-i

@@ -1,4 +1,3 @@
-use Rattle.std.proofs.Common.{arith}
 use Rattle.closeouts.proofs.Named.{puts-nothing, puts-bad, puts-twice, puts_none, puts-loss}
 use Rattle.closeouts.proofs.loss_lines.put_loss.Goals as goal
 

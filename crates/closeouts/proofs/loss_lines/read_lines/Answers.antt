@@ -1,4 +1,4 @@
-use Rattle.std.proofs.Common.{length, take, drop, arith}
+use Rattle.std.proofs.Common.{arith}
 use Rattle.words.proofs.LinesAt.{line-more, line-within}
 use Rattle.closeouts.proofs.Named.{text-over, text-fails, text-goes}
 use Rattle.closeouts.proofs.loss_lines.read_lines.Goals as goal
