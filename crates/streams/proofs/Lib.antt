@@ -2,3 +2,4 @@ mod NamesPut
 mod SameBytes
 pub mod Taken
 pub mod Within
+pub mod Signed
