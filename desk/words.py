@@ -64,7 +64,7 @@ def new_name(line: str) -> str | None:
         return None
     behind = words[words.index("as") + 1 :]
     if len(behind) != 1:
-        raise BadLine('after "as" comes one name, in quotes if it has a blank')
+        raise BadLine('behind "as" stands one name, in quotes where it has blanks')
     try:
         return judged(behind[0])
     except BadName as bad:
@@ -114,7 +114,7 @@ def _record(word: str, rest: list[str], accounts: Accounts, at: int) -> str:
 def _opening(word: str, rest: list[str], accounts: Accounts, at: int) -> str:
     if "as" in rest:
         if rest.index("as") + 2 != len(rest):
-            raise BadLine('after "as" comes one name, in quotes if it has a blank')
+            raise BadLine('behind "as" stands one name, in quotes where it has blanks')
         rest = rest[: rest.index("as")]
     if len(rest) > 1:
         raise BadLine(f'{word}: something more in the line: {rest[1]} (the name of a new account comes after "as")')

@@ -35,3 +35,4 @@ pub mod TwoCounters
 pub mod TwoFiles
 pub mod Renumbered
 pub mod MergedFiles
+pub mod ReaderCall
