@@ -46,10 +46,9 @@ fn tell(rt: &HostRuntime, merged: Merged) {
     standard::tell(rt, &line[..k]);
 }
 
-// The room comes by value, as its type says how long it is.
-fn merge(rt: &HostRuntime, blank: [u8; BOTH], a: &[u8], b: &[u8], next: u16) {
-    let mut room = blank;
-    let merged = merging::merge(a, b, next, &mut room);
+// The room is lent whole, as its type says how long it is; each is made once, since a copy of it fills the stack.
+fn merge(rt: &HostRuntime, room: &mut [u8; BOTH], a: &[u8], b: &[u8], next: u16) {
+    let merged = merging::merge(a, b, next, room);
     if merged.refusal != 0 {
         tell(rt, merged);
         return;
@@ -59,14 +58,12 @@ fn merge(rt: &HostRuntime, blank: [u8; BOTH], a: &[u8], b: &[u8], next: u16) {
 }
 
 // Both files are read before FROM is, each into a room that has a byte more than the longest.
-fn run(rt: &HostRuntime, blank_a: [u8; ROOM], blank_b: [u8; ROOM]) {
-    let mut a = blank_a;
-    let mut b = blank_b;
-    let in_a = read(rt, 1, &mut a);
+fn run(rt: &HostRuntime, a: &mut [u8; ROOM], b: &mut [u8; ROOM], room: &mut [u8; BOTH]) {
+    let in_a = read(rt, 1, a);
     if in_a.failed {
         return;
     }
-    let in_b = read(rt, 2, &mut b);
+    let in_b = read(rt, 2, b);
     if in_b.failed {
         return;
     }
@@ -77,7 +74,7 @@ fn run(rt: &HostRuntime, blank_a: [u8; ROOM], blank_b: [u8; ROOM]) {
     let n = in_a.count;
     let m = in_b.count;
     let table = from.table;
-    merge(rt, [0; BOTH], &a[..n], &b[..m], table.serial);
+    merge(rt, room, &a[..n], &b[..m], table.serial);
 }
 
 fn main(rt: HostRuntime) {
@@ -94,5 +91,8 @@ fn main(rt: HostRuntime) {
     if too_few_words(&rt) {
         return;
     }
-    run(&rt, [0; ROOM], [0; ROOM]);
+    let mut a = [0; ROOM];
+    let mut b = [0; ROOM];
+    let mut room = [0; BOTH];
+    run(&rt, &mut a, &mut b, &mut room);
 }
