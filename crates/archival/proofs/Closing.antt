@@ -11,7 +11,7 @@ use Rattle.rows.specs.declared.Book.{Book}
 use Rattle.rows.specs.Rows.{row_at, mode_at, need_at, view}
 use Rattle.rows.proofs.KeptNeeds.{kept-none}
 use Rattle.table.specs.declared.Table.{Table}
-use Rattle.table.specs.Words.{marks_of, turned, turned_back}
+use Rattle.table.specs.Words.{turned, turned_back}
 use Rattle.table.specs.Facts.{Sized}
 use Rattle.table.proofs.Turning.{turned-from}
 use Rattle.book.specs.Facts.{Sound, MayBeOn}
@@ -47,7 +47,7 @@ module _ (b : Book) (s : Sound b) where
 
 -- what closing up asks, without the serial and the next number
 pub sound-closable : (t : Table) → Sound (turned_back t) → length t.modes ≡ 256 → length t.needs ≡ 256
-    → Closable (held_book t.count (marks_of t) t.amounts t.modes t.needs t.numbers)
+    → Closable (held_book t.count t.marks t.amounts t.modes t.needs t.numbers)
 sound-closable t s zm zn =
     let b = turned_back t in
     record {
@@ -64,9 +64,9 @@ sound-closable t s zm zn =
     }
 
 -- THE LAW: the table with them as they were
-pub closed-table : (t u : Table) → Sized (marks_of u) u.amounts → u.serial ≡ t.serial → u.next ≡ t.next
-    → held_book u.count (marks_of u) u.amounts u.modes u.needs u.numbers
-    ≡ archived (held_book t.count (marks_of t) t.amounts t.modes t.needs t.numbers)
+pub closed-table : (t u : Table) → Sized u.marks u.amounts → u.serial ≡ t.serial → u.next ≡ t.next
+    → held_book u.count u.marks u.amounts u.modes u.needs u.numbers
+    ≡ archived (held_book t.count t.marks t.amounts t.modes t.needs t.numbers)
     → u ≡ turned (archived (turned_back t))
 unfolding archived
 closed-table t u z es en e =

@@ -2,7 +2,8 @@
 use Rattle.std.specs.Prelude.{List, [], ℕ}
 use Rattle.sums.specs.Choice.{pick}
 use Rattle.rows.specs.declared.Book.{Book}
-use Rattle.table.specs.Words.{Marks, book_from}
+use Rattle.table.specs.declared.Marks.{Marks}
+use Rattle.table.specs.Words.{book_from}
 use Rattle.archiving.specs.Archiving.{is_retired, archived_row}
 
 -- what row i puts into the archive

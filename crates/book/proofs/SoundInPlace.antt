@@ -8,7 +8,8 @@ use Rattle.sums.specs.Sum.{all}
 use Rattle.sums.proofs.Sums.{all-eq}
 use Rattle.rows.specs.declared.Rule.{Rule}
 use Rattle.rows.specs.Inner.{Slot}
-use Rattle.table.specs.Words.{Marks, row_in, book_from}
+use Rattle.table.specs.declared.Marks.{Marks}
+use Rattle.table.specs.Words.{row_in, book_from}
 use Rattle.table.proofs.Gathered.{row-in}
 use Rattle.book.specs.Sound.{good_row, good_mode, row_sound, mode_sound, formed_b, kept_by, sound_b}
 use Rattle.book.specs.Inner.{modes_at}

@@ -5,7 +5,8 @@ use Rattle.rows.specs.declared.Account.{Account}
 use Rattle.rows.specs.declared.Book.{Book}
 use Rattle.rows.specs.View.{View, free_of}
 use Rattle.rows.specs.Rows.{ceiling}
-use Rattle.table.specs.Words.{Marks, book_from}
+use Rattle.table.specs.declared.Marks.{Marks}
+use Rattle.table.specs.Words.{book_from}
 use Rattle.book.specs.Facts.{Sound}
 use Rattle.book.specs.Placed.{place_numbers}
 use Rattle.closeout.specs.declared.pays.Paid.{Paid}

@@ -12,7 +12,8 @@ use Rattle.sums.proofs.Lists.{filled-step}
 use Rattle.rows.specs.declared.Row.{Row}
 use Rattle.rows.specs.declared.Book.{Book}
 use Rattle.rows.specs.Rows.{no_row, row_at, mode_at, need_at, number_at}
-use Rattle.table.specs.Words.{Marks, row_in, rows_of, book_from}
+use Rattle.table.specs.declared.Marks.{Marks}
+use Rattle.table.specs.Words.{row_in, rows_of, book_from}
 use Rattle.table.specs.Facts.{Sized}
 use Rattle.table.proofs.Gathered.{row-in}
 use Rattle.gaps.specs.Gaps.{place_after, with_tm, moved_row, kept_of, archived}

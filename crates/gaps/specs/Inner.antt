@@ -3,7 +3,8 @@ use Rattle.std.specs.Prelude.{Bool, false, List, [], ◌∷◌, ◌++◌, ◌≡
 use Rattle.sums.specs.Choice.{pick}
 use Rattle.rows.specs.declared.Book.{Book}
 use Rattle.rows.specs.Rows.{no_row, places, row_at, mode_at, need_at, number_at}
-use Rattle.table.specs.Words.{Marks, row_in, rows_of, book_from}
+use Rattle.table.specs.declared.Marks.{Marks}
+use Rattle.table.specs.Words.{row_in, rows_of, book_from}
 use Rattle.table.specs.Facts.{Sized}
 use Rattle.gaps.specs.Gaps.{place_after, kept_to, with_tm}
 

@@ -11,7 +11,8 @@ use Rattle.sums.specs.Table.{Line, ◌when◌, first}
 use Rattle.sums.proofs.Tables.{first-here, first-later}
 use Rattle.rows.specs.declared.Book.{Book}
 use Rattle.rows.specs.Rows.{row_at, number_at, place_of, is_live, is_live_client_of}
-use Rattle.table.specs.Words.{Marks, book_from}
+use Rattle.table.specs.declared.Marks.{Marks}
+use Rattle.table.specs.Words.{book_from}
 use Rattle.book.specs.Sound.{sound_b}
 use Rattle.statement.specs.Forms.{size_in}
 use Rattle.statement.specs.Statements.{clients_from, live_clients, record_faults, found, finding_from, asked_refusals, statement_finding}

@@ -5,7 +5,8 @@ use Rattle.sums.specs.Choice.{pick}
 use Rattle.rows.specs.declared.Rule.TheVariants.{New}
 use Rattle.rows.proofs.Counted.{counted-most}
 use Rattle.rows.specs.Modes.{mode_after}
-use Rattle.table.specs.Words.{Marks, word_at}
+use Rattle.table.specs.declared.Marks.{Marks}
+use Rattle.table.specs.Words.{word_at}
 use Rattle.steps.specs.declared.following.Due.{Due}
 use Rattle.steps.specs.Steps.{modes_in}
 use Rattle.steps.specs.Dues.{Small, Fits, Steady, Stands, Following, Risen, Lifted, Followed, collateral_in, due_of, excess_risen, due_at, due_risen, cm, tm, client, cp}

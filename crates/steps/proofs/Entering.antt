@@ -7,7 +7,8 @@ use Rattle.rows.specs.Facts.{NoneBeyond}
 use Rattle.rows.specs.DeemedUnder.{DeemedUnder}
 use Rattle.rows.specs.Modes.{looked}
 use Rattle.rows.specs.Inner.{in_tenths}
-use Rattle.table.specs.Words.{Marks, book_from}
+use Rattle.table.specs.declared.Marks.{Marks}
+use Rattle.table.specs.Words.{book_from}
 use Rattle.table.specs.Facts.{Sized, seen_book}
 use Rattle.table.proofs.Seen.{seen-view, seen-ranged}
 use Rattle.book.specs.Facts.{Sound}

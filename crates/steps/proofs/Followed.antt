@@ -8,7 +8,8 @@ use Rattle.rows.specs.View.{deemed_of}
 use Rattle.rows.specs.DeemedUnder.{client_due, member_due, deemed_under_tm, deemed_under_cm}
 use Rattle.rows.specs.Modes.{mode_after}
 use Rattle.rows.specs.Inner.{account_as}
-use Rattle.table.specs.Words.{Marks, word_at}
+use Rattle.table.specs.declared.Marks.{Marks}
+use Rattle.table.specs.Words.{word_at}
 use Rattle.codes.specs.Own.{account_in}
 use Rattle.steps.specs.declared.following.Due.{Due}
 use Rattle.steps.specs.Looks.{Past, look_in, excess_since, looked_since, deemed_under_since, needed_since}

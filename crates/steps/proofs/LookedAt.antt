@@ -15,7 +15,8 @@ use Rattle.rows.specs.Inner.{Slot, in_tenths}
 use Rattle.rows.proofs.Looks.{looked-size, look_twice, look-by}
 use Rattle.rows.proofs.KeptNeeds.{afresh-size, afresh-is}
 use Rattle.rows.proofs.RowPut.{row_same, opened-new}
-use Rattle.table.specs.Words.{Marks, word_at, book_from}
+use Rattle.table.specs.declared.Marks.{Marks}
+use Rattle.table.specs.Words.{word_at, book_from}
 use Rattle.table.proofs.Gathered.{row-in, rows-length}
 use Rattle.book.specs.Facts.{SoundRows}
 use Rattle.book.proofs.OneRow.{at_all}

@@ -19,7 +19,8 @@ use Rattle.rows.proofs.KeptNeeds.{kept_top, kept_by}
 use Rattle.rows.proofs.Looks.{looked-at, no_mode, look-by}
 use Rattle.rows.proofs.NeedSums.{need-own}
 use Rattle.rows.proofs.RowPut.{row_other}
-use Rattle.table.specs.Words.{Marks, word_at, row_in}
+use Rattle.table.specs.declared.Marks.{Marks}
+use Rattle.table.specs.Words.{word_at, row_in}
 use Rattle.table.proofs.Gathered.{row-in, rows-length}
 use Rattle.book.proofs.OneRow.{at_all}
 use Rattle.book.proofs.UnderMost.{excess-most}

@@ -3,7 +3,8 @@ use Rattle.std.specs.Prelude.{◌≡◌, ℕ, ◌+◌, ◌-◌, ◌*◌, ◌<◌
 use Rattle.rows.specs.Rows.{ceiling, counted}
 use Rattle.rows.specs.declared.Rule.TheVariants.{New}
 use Rattle.rows.specs.Modes.{mode_after}
-use Rattle.table.specs.Words.{Marks, word_at}
+use Rattle.table.specs.declared.Marks.{Marks}
+use Rattle.table.specs.Words.{word_at}
 use Rattle.steps.specs.declared.following.Due.{Due}
 use Rattle.sums.specs.Choice.{pick}
 use Rattle.steps.specs.Looks.{Past, needed_since, excess_since, looked_since}

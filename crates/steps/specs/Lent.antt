@@ -2,7 +2,8 @@
 use Rattle.std.specs.Prelude.{ℕ, Bool, List}
 use Rattle.std.specs.Borrow.{MutBor}
 use denote.Triple.Both.{Both}
-use Rattle.table.specs.Words.{Marks, marks_from}
+use Rattle.table.specs.declared.Marks.{Marks}
+use Rattle.table.specs.Words.{marks_from}
 
 -- a table's own arrays, and beside them each account's collateral, the modes that a look leaves, and what is in excess under each account, in tenths
 pub record Lent : Type 0 where

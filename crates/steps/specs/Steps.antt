@@ -14,7 +14,8 @@ use Rattle.rules.specs.Effects.{change_of, changed_by, book_after, next_serial}
 use Rattle.rules.specs.Numbered.{placed}
 use Rattle.codes.specs.Own.{alive_in}
 use Rattle.codes.specs.Asking.{meant, asked_of}
-use Rattle.table.specs.Words.{Marks, book_from}
+use Rattle.table.specs.declared.Marks.{Marks}
+use Rattle.table.specs.Words.{book_from}
 use Rattle.table.specs.Facts.{Sized}
 use Rattle.steps.specs.declared.At.{At}
 use Rattle.steps.specs.declared.Gone.{Gone}

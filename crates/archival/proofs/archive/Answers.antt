@@ -4,7 +4,7 @@ use mathlib.Core.Path.{◌≡◌, sym, ap, ◌∙◌}
 use native.Mathlib.Omega.{arith}
 use borrow.Author.Tests.{not-true, not-false}
 use Rattle.table.specs.declared.Table.{Table}
-use Rattle.table.specs.Words.{marks_of, turned_back}
+use Rattle.table.specs.Words.{turned_back}
 use Rattle.table.proofs.Gathered.{row-in}
 use Rattle.book.specs.Sound.{sound_b}
 use Rattle.book.specs.Facts.{Sound}
@@ -47,7 +47,7 @@ returns-then-room-moved c =
     in
     let counted : c.retired-moved.result ≡ retired_of (turned_back handed) =
     let t = handed in
-    c.retired-moved.ensures ∙ retired-in t.count t.serial (marks_of t) t.amounts t.modes t.needs t.next t.numbers sound.most
+    c.retired-moved.ensures ∙ retired-in t.count t.serial t.marks t.amounts t.modes t.needs t.next t.numbers sound.most
     in
     let t = c in
     let e = t in
@@ -68,14 +68,14 @@ put_archived-requires c =
     in
     let counted : c.retired-moved.result ≡ retired_of (turned_back handed) =
     let t = handed in
-    c.retired-moved.ensures ∙ retired-in t.count t.serial (marks_of t) t.amounts t.modes t.needs t.next t.numbers sound.most
+    c.retired-moved.ensures ∙ retired-in t.count t.serial t.marks t.amounts t.modes t.needs t.next t.numbers sound.most
     in
     let l = c in
     let e = l in
     let t = handed in
     let s = sound in (
       s.most,
-      λ i m. omega (arith, tm-low (turned_back t) s i m, ap (λ r. r.tm) (row-in (marks_of t) t.amounts i (omega (arith, s.most))), s.most),
+      λ i m. omega (arith, tm-low (turned_back t) s i m, ap (λ r. r.tm) (row-in t.marks t.amounts i (omega (arith, s.most))), s.most),
       omega (arith, archive-length (turned_back t), counted, l.if-room-moved.false),
     )
 
@@ -104,7 +104,7 @@ returns c =
     in
     let counted : c.retired-moved.result ≡ retired_of (turned_back handed) =
     let t = handed in
-    c.retired-moved.ensures ∙ retired-in t.count t.serial (marks_of t) t.amounts t.modes t.needs t.next t.numbers sound.most
+    c.retired-moved.ensures ∙ retired-in t.count t.serial t.marks t.amounts t.modes t.needs t.next t.numbers sound.most
     in
     let p = c in
     let l = p in

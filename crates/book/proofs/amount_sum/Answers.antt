@@ -3,7 +3,7 @@ use mathlib.Core.Bool.{true}
 use mathlib.Core.Path.{◌≡◌, sym, ap, ◌∙◌}
 use borrow.Author.Tests.{not-true, not-false}
 use Rattle.rows.specs.Inner.{Ranged}
-use Rattle.table.specs.Words.{marks_of, turned_back}
+use Rattle.table.specs.Words.{turned_back}
 use Rattle.table.specs.Inner.{amount_sum}
 use Rattle.table.proofs.EveningSums.{capped-in}
 use Rattle.book.specs.Sound.{sound_b}
@@ -17,7 +17,7 @@ pub returns-then-not-table_sound : goal.returns-then-not-table_sound
 returns-then-not-table_sound c =
     let tested : c.table_sound.result ≡ sound_b (turned_back c.args.t) =
     let t = c.args.t in
-    c.table_sound.ensures ∙ sound-serial t.count t.serial (marks_of t) t.amounts t.modes t.needs t.next t.numbers
+    c.table_sound.ensures ∙ sound-serial t.count t.serial t.marks t.amounts t.modes t.needs t.next t.numbers
     in
     let a = c.args in
     sym (unsound-evening (turned_back a.t) a.amount (sym tested ∙ not-true _ c.if-not-table_sound.true-raw))
@@ -26,7 +26,7 @@ pub amount_sum-total-requires : goal.amount_sum-total-requires
 amount_sum-total-requires c =
     let tested : c.table_sound.result ≡ sound_b (turned_back c.args.t) =
     let t = c.args.t in
-    c.table_sound.ensures ∙ sound-serial t.count t.serial (marks_of t) t.amounts t.modes t.needs t.next t.numbers
+    c.table_sound.ensures ∙ sound-serial t.count t.serial t.marks t.amounts t.modes t.needs t.next t.numbers
     in
     let holds : sound_b (turned_back c.args.t) ≡ true =
     sym tested ∙ not-false _ c.if-not-table_sound.false-raw
@@ -39,13 +39,13 @@ amount_sum-total-requires c =
     let t = e.args.t in
     let a = e.args.amount in
     let r = ranged in
-    rw run.amount_number-k.ensures (number-below a, r.most, capped-in (marks_of t) t.amounts (amount_number a) t.count (number-below a) r.most r.ranges)
+    rw run.amount_number-k.ensures (number-below a, r.most, capped-in t.marks t.amounts (amount_number a) t.count (number-below a) r.most r.ranges)
 
 pub returns : goal.returns
 returns c =
     let tested : c.table_sound.result ≡ sound_b (turned_back c.args.t) =
     let t = c.args.t in
-    c.table_sound.ensures ∙ sound-serial t.count t.serial (marks_of t) t.amounts t.modes t.needs t.next t.numbers
+    c.table_sound.ensures ∙ sound-serial t.count t.serial t.marks t.amounts t.modes t.needs t.next t.numbers
     in
     let holds : sound_b (turned_back c.args.t) ≡ true =
     sym tested ∙ not-false _ c.if-not-table_sound.false-raw

@@ -6,7 +6,7 @@ use borrow.Author.Tests.{not-true, not-false}
 use Rattle.sums.specs.Listed.{list_to}
 use Rattle.rows.specs.View.{need}
 use Rattle.rows.specs.Facts.{NeedsKept}
-use Rattle.table.specs.Words.{marks_of, turned_back}
+use Rattle.table.specs.Words.{turned_back}
 use Rattle.table.proofs.Seen.{seen-view, seen-ranged}
 use Rattle.book.specs.Sound.{sound_b}
 use Rattle.book.specs.NeedsListed.{all_needs}
@@ -20,7 +20,7 @@ pub returns-then-not-table_sound : goal.returns-then-not-table_sound
 returns-then-not-table_sound c =
     let tested : c.table_sound.result ≡ sound_b (turned_back c.args.t) =
     let t = c.args.t in
-    c.table_sound.ensures ∙ sound-serial t.count t.serial (marks_of t) t.amounts t.modes t.needs t.next t.numbers
+    c.table_sound.ensures ∙ sound-serial t.count t.serial t.marks t.amounts t.modes t.needs t.next t.numbers
     in
     let a = c.args in
     let whole = needs-by (turned_back a.t) a.room.now 1
@@ -31,7 +31,7 @@ pub returns-then-room-count : goal.returns-then-room-count
 returns-then-room-count c =
     let tested : c.table_sound.result ≡ sound_b (turned_back c.args.t) =
     let t = c.args.t in
-    c.table_sound.ensures ∙ sound-serial t.count t.serial (marks_of t) t.amounts t.modes t.needs t.next t.numbers
+    c.table_sound.ensures ∙ sound-serial t.count t.serial t.marks t.amounts t.modes t.needs t.next t.numbers
     in
     let holds : sound_b (turned_back c.args.t) ≡ true =
     sym tested ∙ not-false _ c.if-not-table_sound.false-raw
@@ -45,7 +45,7 @@ pub put_needs-requires : goal.put_needs-requires
 put_needs-requires c =
     let tested : c.table_sound.result ≡ sound_b (turned_back c.args.t) =
     let t = c.args.t in
-    c.table_sound.ensures ∙ sound-serial t.count t.serial (marks_of t) t.amounts t.modes t.needs t.next t.numbers
+    c.table_sound.ensures ∙ sound-serial t.count t.serial t.marks t.amounts t.modes t.needs t.next t.numbers
     in
     let holds : sound_b (turned_back c.args.t) ≡ true =
     sym tested ∙ not-false _ c.if-not-table_sound.false-raw
@@ -53,14 +53,14 @@ put_needs-requires c =
     let fits = c in
     let t = fits.args.t in
     let s = sound→ (turned_back t) holds in
-    let v = seen-view t.count t.serial (marks_of t) t.amounts t.modes t.needs t.next t.numbers in record { ranged = (seen-ranged t.count t.serial (marks_of t) t.amounts t.modes t.needs t.next t.numbers (sound-ranged (turned_back t) s), rw v s.shaped); needs_kept = (subst (λ w. NeedsKept w t.needs) (sym v) s.kept, omega (arith, fits.if-room-count.false)) }
+    let v = seen-view t.count t.serial t.marks t.amounts t.modes t.needs t.next t.numbers in record { ranged = (seen-ranged t.count t.serial t.marks t.amounts t.modes t.needs t.next t.numbers (sound-ranged (turned_back t) s), rw v s.shaped); needs_kept = (subst (λ w. NeedsKept w t.needs) (sym v) s.kept, omega (arith, fits.if-room-count.false)) }
 
 pub returns : goal.returns
 unfolding all_needs
 returns c =
     let tested : c.table_sound.result ≡ sound_b (turned_back c.args.t) =
     let t = c.args.t in
-    c.table_sound.ensures ∙ sound-serial t.count t.serial (marks_of t) t.amounts t.modes t.needs t.next t.numbers
+    c.table_sound.ensures ∙ sound-serial t.count t.serial t.marks t.amounts t.modes t.needs t.next t.numbers
     in
     let holds : sound_b (turned_back c.args.t) ≡ true =
     sym tested ∙ not-false _ c.if-not-table_sound.false-raw
@@ -70,5 +70,5 @@ returns c =
     let a = fits.args in
     let t = a.t in
     let whole = needs-by (turned_back t) a.room.now 0 (needs-given (turned_back t) a.room.now holds fits.if-room-count.false) refl
-    (put.put_needs.ensures ∙ ap (λ v. list_to (need v) t.count) (seen-view t.count t.serial (marks_of t) t.amounts t.modes t.needs t.next t.numbers)) in
+    (put.put_needs.ensures ∙ ap (λ v. list_to (need v) t.count) (seen-view t.count t.serial t.marks t.amounts t.modes t.needs t.next t.numbers)) in
     record { value = whole.0; room_after = whole.1 }

@@ -8,7 +8,7 @@ use Rattle.rows.specs.Rows.{row_at, mode_at, view, is_live}
 use Rattle.rows.specs.KeptNeeds.{kept_need}
 use Rattle.rows.specs.Inner.{Ranged}
 use Rattle.table.specs.declared.Table.{Table}
-use Rattle.table.specs.Words.{marks_of, turned_back, row_in}
+use Rattle.table.specs.Words.{turned_back, row_in}
 use Rattle.table.proofs.Gathered.{row-in}
 use Rattle.table.proofs.Seen.{seen-view, seen-ranged}
 use Rattle.book.specs.Sound.{sound_b}
@@ -23,7 +23,7 @@ pub returns-then-not-table_sound : goal.returns-then-not-table_sound
 returns-then-not-table_sound c =
     let tested : c.table_sound.result ≡ sound_b (turned_back c.args.t) =
     let t = c.args.t in
-    c.table_sound.ensures ∙ sound-serial t.count t.serial (marks_of t) t.amounts t.modes t.needs t.next t.numbers
+    c.table_sound.ensures ∙ sound-serial t.count t.serial t.marks t.amounts t.modes t.needs t.next t.numbers
     in
     let a = c.args in
     let b = turned_back a.t in
@@ -35,7 +35,7 @@ pub place_among-place-requires : goal.place_among-place-requires
 place_among-place-requires c =
     let tested : c.table_sound.result ≡ sound_b (turned_back c.args.t) =
     let t = c.args.t in
-    c.table_sound.ensures ∙ sound-serial t.count t.serial (marks_of t) t.amounts t.modes t.needs t.next t.numbers
+    c.table_sound.ensures ∙ sound-serial t.count t.serial t.marks t.amounts t.modes t.needs t.next t.numbers
     in
     let holds : sound_b (turned_back c.args.t) ≡ true =
     sym tested ∙ not-false _ c.if-not-table_sound.false-raw
@@ -53,7 +53,7 @@ returns-then-place-count c =
     in
     let tested : c.table_sound.result ≡ sound_b (turned_back c.args.t) =
     let t = c.args.t in
-    c.table_sound.ensures ∙ sound-serial t.count t.serial (marks_of t) t.amounts t.modes t.needs t.next t.numbers
+    c.table_sound.ensures ∙ sound-serial t.count t.serial t.marks t.amounts t.modes t.needs t.next t.numbers
     in
     let holds : sound_b (turned_back c.args.t) ≡ true =
     sym tested ∙ not-false _ c.if-not-table_sound.false-raw
@@ -70,7 +70,7 @@ pub bounds-t-i : goal.bounds-t-i
 bounds-t-i c =
     let tested : c.table_sound.result ≡ sound_b (turned_back c.args.t) =
     let t = c.args.t in
-    c.table_sound.ensures ∙ sound-serial t.count t.serial (marks_of t) t.amounts t.modes t.needs t.next t.numbers
+    c.table_sound.ensures ∙ sound-serial t.count t.serial t.marks t.amounts t.modes t.needs t.next t.numbers
     in
     let holds : sound_b (turned_back c.args.t) ≡ true =
     sym tested ∙ not-false _ c.if-not-table_sound.false-raw
@@ -86,7 +86,7 @@ returns-then-not-t-i c =
     in
     let tested : c.table_sound.result ≡ sound_b (turned_back c.args.t) =
     let t = c.args.t in
-    c.table_sound.ensures ∙ sound-serial t.count t.serial (marks_of t) t.amounts t.modes t.needs t.next t.numbers
+    c.table_sound.ensures ∙ sound-serial t.count t.serial t.marks t.amounts t.modes t.needs t.next t.numbers
     in
     let holds : sound_b (turned_back c.args.t) ≡ true =
     sym tested ∙ not-false _ c.if-not-table_sound.false-raw
@@ -102,9 +102,9 @@ returns-then-not-t-i c =
     sound-test-ranged (turned_back c.args.t) holds
     in
     let row : let t = handed in
-    row_at (turned_back t) place ≡ row_in (marks_of t) t.amounts place =
+    row_at (turned_back t) place ≡ row_in t.marks t.amounts place =
     let t = handed in
-    row-in (marks_of t) t.amounts place (omega (arith, ranged.most, c.if-place-count.false))
+    row-in t.marks t.amounts place (omega (arith, ranged.most, c.if-place-count.false))
     in
     let given = c in
     let at = given in
@@ -116,7 +116,7 @@ pub bounds-t-i-2 : goal.bounds-t-i-2
 bounds-t-i-2 c =
     let tested : c.table_sound.result ≡ sound_b (turned_back c.args.t) =
     let t = c.args.t in
-    c.table_sound.ensures ∙ sound-serial t.count t.serial (marks_of t) t.amounts t.modes t.needs t.next t.numbers
+    c.table_sound.ensures ∙ sound-serial t.count t.serial t.marks t.amounts t.modes t.needs t.next t.numbers
     in
     let holds : sound_b (turned_back c.args.t) ≡ true =
     sym tested ∙ not-false _ c.if-not-table_sound.false-raw
@@ -130,7 +130,7 @@ pub offset_bounds-t-i : goal.offset_bounds-t-i
 offset_bounds-t-i c =
     let tested : c.table_sound.result ≡ sound_b (turned_back c.args.t) =
     let t = c.args.t in
-    c.table_sound.ensures ∙ sound-serial t.count t.serial (marks_of t) t.amounts t.modes t.needs t.next t.numbers
+    c.table_sound.ensures ∙ sound-serial t.count t.serial t.marks t.amounts t.modes t.needs t.next t.numbers
     in
     let holds : sound_b (turned_back c.args.t) ≡ true =
     sym tested ∙ not-false _ c.if-not-table_sound.false-raw
@@ -143,7 +143,7 @@ pub bounds-t-i-3 : goal.bounds-t-i-3
 bounds-t-i-3 c =
     let tested : c.table_sound.result ≡ sound_b (turned_back c.args.t) =
     let t = c.args.t in
-    c.table_sound.ensures ∙ sound-serial t.count t.serial (marks_of t) t.amounts t.modes t.needs t.next t.numbers
+    c.table_sound.ensures ∙ sound-serial t.count t.serial t.marks t.amounts t.modes t.needs t.next t.numbers
     in
     let holds : sound_b (turned_back c.args.t) ≡ true =
     sym tested ∙ not-false _ c.if-not-table_sound.false-raw
@@ -156,7 +156,7 @@ pub figures-requires : goal.figures-requires
 figures-requires c =
     let tested : c.table_sound.result ≡ sound_b (turned_back c.args.t) =
     let t = c.args.t in
-    c.table_sound.ensures ∙ sound-serial t.count t.serial (marks_of t) t.amounts t.modes t.needs t.next t.numbers
+    c.table_sound.ensures ∙ sound-serial t.count t.serial t.marks t.amounts t.modes t.needs t.next t.numbers
     in
     let holds : sound_b (turned_back c.args.t) ≡ true =
     sym tested ∙ not-false _ c.if-not-table_sound.false-raw
@@ -173,9 +173,9 @@ figures-requires c =
     let given = c in
     let at = given in
     let t = handed in
-    let v = seen-view t.count t.serial (marks_of t) t.amounts t.modes t.needs t.next t.numbers in
+    let v = seen-view t.count t.serial t.marks t.amounts t.modes t.needs t.next t.numbers in
     let s = sound→ (turned_back t) holds in (
-      seen-ranged t.count t.serial (marks_of t) t.amounts t.modes t.needs t.next t.numbers ranged,
+      seen-ranged t.count t.serial t.marks t.amounts t.modes t.needs t.next t.numbers ranged,
       rw v s.shaped,
       given.if-place-count.false,
       s.kept place (omega (arith, s.most, given.if-place-count.false)) ∙ ap (λ w. kept_need w place) (sym v),
@@ -185,7 +185,7 @@ pub returns : goal.returns
 returns c =
     let tested : c.table_sound.result ≡ sound_b (turned_back c.args.t) =
     let t = c.args.t in
-    c.table_sound.ensures ∙ sound-serial t.count t.serial (marks_of t) t.amounts t.modes t.needs t.next t.numbers
+    c.table_sound.ensures ∙ sound-serial t.count t.serial t.marks t.amounts t.modes t.needs t.next t.numbers
     in
     let holds : sound_b (turned_back c.args.t) ≡ true =
     sym tested ∙ not-false _ c.if-not-table_sound.false-raw
@@ -200,9 +200,9 @@ returns c =
     sound-test-ranged (turned_back c.args.t) holds
     in
     let row : let t = handed in
-    row_at (turned_back t) place ≡ row_in (marks_of t) t.amounts place =
+    row_at (turned_back t) place ≡ row_in t.marks t.amounts place =
     let t = handed in
-    row-in (marks_of t) t.amounts place (omega (arith, ranged.most, c.if-place-count.false))
+    row-in t.marks t.amounts place (omega (arith, ranged.most, c.if-place-count.false))
     in
     let live = c in
     let given = live in
@@ -214,5 +214,5 @@ returns c =
     standing_by b n 0
     (live-answered b n holds (ap (is_live b) (sym e) ∙ simp (lt-ltb place t.count given.if-place-count.false, ap (λ r. r.live) row ∙ not-false _ live.if-not-t-i.false-raw)))
     (c.figures.ensures
-    ∙ ap (λ v. figures_of v (mode_at b place) place) (seen-view t.count t.serial (marks_of t) t.amounts t.modes t.needs t.next t.numbers)
+    ∙ ap (λ v. figures_of v (mode_at b place) place) (seen-view t.count t.serial t.marks t.amounts t.modes t.needs t.next t.numbers)
     ∙ ap (λ p. figures_of (view b) (mode_at b p) p) e)

@@ -14,7 +14,7 @@ use Rattle.rows.specs.Inner.{Ranged}
 use Rattle.rows.specs.KeptNeeds.{needs_afresh}
 use Rattle.rows.proofs.KeptNeeds.{kept-CM}
 use Rattle.table.specs.declared.Table.{Table}
-use Rattle.table.specs.Words.{marks_of, turned_back}
+use Rattle.table.specs.Words.{turned_back}
 use Rattle.table.specs.Facts.{seen_book}
 use Rattle.table.proofs.Seen.{seen-view, seen-account, seen-ranged}
 use Rattle.book.specs.Sound.{formed_b, kept_by, covered_by}
@@ -31,10 +31,10 @@ abbrev kept_old : Table → Bool
 kept_old t = formed_b (turned_back t) && kept_by Old (turned_back t)
 
 ranged : (t : Table) → SoundRows (turned_back t) → Ranged (seen_book t.count t.sort t.tm t.amounts)
-ranged t s = seen-ranged t.count t.serial (marks_of t) t.amounts t.modes t.needs t.next t.numbers (record { table = s.table; most = s.most; ranges = s.ranges })
+ranged t s = seen-ranged t.count t.serial t.marks t.amounts t.modes t.needs t.next t.numbers (record { table = s.table; most = s.most; ranges = s.ranges })
 
 is_seen : (t : Table) → view (seen_book t.count t.sort t.tm t.amounts) ≡ view (turned_back t)
-is_seen t = seen-view t.count t.serial (marks_of t) t.amounts t.modes t.needs t.next t.numbers
+is_seen t = seen-view t.count t.serial t.marks t.amounts t.modes t.needs t.next t.numbers
 
 pub returns-then-not-table_kept : goal.returns-then-not-table_kept
 unfolding sound_by_the_old
@@ -43,7 +43,7 @@ returns-then-not-table_kept c =
     c.args.t
     in
     let tested : kept_old handed ≡ c.table_kept.result =
-    let t = handed in sym (c.table_kept.ensures ∙ kept-serial Old t.count t.serial (marks_of t) t.amounts t.modes t.needs t.next t.numbers)
+    let t = handed in sym (c.table_kept.ensures ∙ kept-serial Old t.count t.serial t.marks t.amounts t.modes t.needs t.next t.numbers)
     in not_taken handed c.sizes.ensures (ap (λ x. x && covered_by Old (turned_back handed)) (tested ∙ not-true _ c.if-not-table_kept.true-raw))
 
 pub account_at-cm-requires : goal.account_at-cm-requires
@@ -52,7 +52,7 @@ account_at-cm-requires c =
     c.args.t
     in
     let tested : kept_old handed ≡ c.table_kept.result =
-    let t = handed in sym (c.table_kept.ensures ∙ kept-serial Old t.count t.serial (marks_of t) t.amounts t.modes t.needs t.next t.numbers)
+    let t = handed in sym (c.table_kept.ensures ∙ kept-serial Old t.count t.serial t.marks t.amounts t.modes t.needs t.next t.numbers)
     in
     let holds : kept_old handed ≡ true =
     tested ∙ not-false _ c.if-not-table_kept.false-raw
@@ -70,7 +70,7 @@ returns-then-cm-t c =
     c.args.t
     in
     let tested : kept_old handed ≡ c.table_kept.result =
-    let t = handed in sym (c.table_kept.ensures ∙ kept-serial Old t.count t.serial (marks_of t) t.amounts t.modes t.needs t.next t.numbers)
+    let t = handed in sym (c.table_kept.ensures ∙ kept-serial Old t.count t.serial t.marks t.amounts t.modes t.needs t.next t.numbers)
     in
     let holds : kept_old handed ≡ true =
     tested ∙ not-false _ c.if-not-table_kept.false-raw
@@ -80,7 +80,7 @@ returns-then-cm-t c =
     let t = handed in
     let v = view_by Old (turned_back t) in
     sym (ap (λ n. leb n c.account_at-cm.result.collateral) (kept→ v t.needs (and_right (formed_b (turned_back t)) (kept_by Old (turned_back t)) holds) 0 (omega arith) ∙ kept-CM v)
-    ∙ ap (λ a. leb (need_cm v) a.collateral) (c.account_at-cm.ensures ∙ seen-account t.count t.serial (marks_of t) t.amounts t.modes t.needs t.next t.numbers Old 0))
+    ∙ ap (λ a. leb (need_cm v) a.collateral) (c.account_at-cm.ensures ∙ seen-account t.count t.serial t.marks t.amounts t.modes t.needs t.next t.numbers Old 0))
     in
     let a = c in
     let e = a in
@@ -92,7 +92,7 @@ needs_afresh-requires c =
     c.args.t
     in
     let tested : kept_old handed ≡ c.table_kept.result =
-    let t = handed in sym (c.table_kept.ensures ∙ kept-serial Old t.count t.serial (marks_of t) t.amounts t.modes t.needs t.next t.numbers)
+    let t = handed in sym (c.table_kept.ensures ∙ kept-serial Old t.count t.serial t.marks t.amounts t.modes t.needs t.next t.numbers)
     in
     let holds : kept_old handed ≡ true =
     tested ∙ not-false _ c.if-not-table_kept.false-raw
@@ -112,7 +112,7 @@ returns c =
     c.args.t
     in
     let tested : kept_old handed ≡ c.table_kept.result =
-    let t = handed in sym (c.table_kept.ensures ∙ kept-serial Old t.count t.serial (marks_of t) t.amounts t.modes t.needs t.next t.numbers)
+    let t = handed in sym (c.table_kept.ensures ∙ kept-serial Old t.count t.serial t.marks t.amounts t.modes t.needs t.next t.numbers)
     in
     let holds : kept_old handed ≡ true =
     tested ∙ not-false _ c.if-not-table_kept.false-raw
@@ -122,7 +122,7 @@ returns c =
     let t = handed in
     let v = view_by Old (turned_back t) in
     sym (ap (λ n. leb n c.account_at-cm.result.collateral) (kept→ v t.needs (and_right (formed_b (turned_back t)) (kept_by Old (turned_back t)) holds) 0 (omega arith) ∙ kept-CM v)
-    ∙ ap (λ a. leb (need_cm v) a.collateral) (c.account_at-cm.ensures ∙ seen-account t.count t.serial (marks_of t) t.amounts t.modes t.needs t.next t.numbers Old 0))
+    ∙ ap (λ a. leb (need_cm v) a.collateral) (c.account_at-cm.ensures ∙ seen-account t.count t.serial t.marks t.amounts t.modes t.needs t.next t.numbers Old 0))
     in
     let left = c in
     let a = left in

@@ -2,7 +2,7 @@
 use borrow.Author.Tests.{not-true, not-false}
 use mathlib.Core.Bool.{true}
 use mathlib.Core.Path.{◌≡◌, refl, sym, ◌∙◌}
-use Rattle.table.specs.Words.{marks_of, turned_back}
+use Rattle.table.specs.Words.{turned_back}
 use Rattle.book.specs.Sound.{sound_b}
 use Rattle.book.proofs.SoundTest.{sound→}
 use Rattle.book.proofs.SoundInPlace.{sound-serial}
@@ -14,7 +14,7 @@ pub returns-then-not-table_sound : goal.returns-then-not-table_sound
 returns-then-not-table_sound c =
     let tested : c.table_sound.result ≡ sound_b (turned_back c.args.t) =
     let t = c.args.t in
-    c.table_sound.ensures ∙ sound-serial t.count t.serial (marks_of t) t.amounts t.modes t.needs t.next t.numbers
+    c.table_sound.ensures ∙ sound-serial t.count t.serial t.marks t.amounts t.modes t.needs t.next t.numbers
     in
     let b = turned_back c.args.t in
     let whole = answer-by-refusal b _ _ 1 (refused-sound b _ _ (sym tested ∙ not-true _ c.if-not-table_sound.true-raw)) c.refused.ensures refl in
@@ -24,7 +24,7 @@ pub close_out_at-requires : goal.close_out_at-requires
 close_out_at-requires c =
     let tested : c.table_sound.result ≡ sound_b (turned_back c.args.t) =
     let t = c.args.t in
-    c.table_sound.ensures ∙ sound-serial t.count t.serial (marks_of t) t.amounts t.modes t.needs t.next t.numbers
+    c.table_sound.ensures ∙ sound-serial t.count t.serial t.marks t.amounts t.modes t.needs t.next t.numbers
     in
     let holds : sound_b (turned_back c.args.t) ≡ true =
     sym tested ∙ not-false _ c.if-not-table_sound.false-raw
@@ -34,7 +34,7 @@ pub returns : goal.returns
 returns c =
     let tested : c.table_sound.result ≡ sound_b (turned_back c.args.t) =
     let t = c.args.t in
-    c.table_sound.ensures ∙ sound-serial t.count t.serial (marks_of t) t.amounts t.modes t.needs t.next t.numbers
+    c.table_sound.ensures ∙ sound-serial t.count t.serial t.marks t.amounts t.modes t.needs t.next t.numbers
     in
     let holds : sound_b (turned_back c.args.t) ≡ true =
     sym tested ∙ not-false _ c.if-not-table_sound.false-raw

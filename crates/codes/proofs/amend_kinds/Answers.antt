@@ -2,7 +2,8 @@
 use mathlib.Core.List.{List}
 use mathlib.Core.Path.{◌∙◌}
 use Prim.Native.Nat.{ℕ}
-use Rattle.table.specs.Words.{Marks, marks_from}
+use Rattle.table.specs.declared.Marks.{Marks}
+use Rattle.table.specs.Words.{marks_from}
 use Rattle.codes.specs.Own.{deemed_under_in}
 use Rattle.codes.proofs.ByCode.{last-kinds, receive-answered, hands-back, allocate-answered, release-answered}
 use Rattle.codes.proofs.amend_kinds.Goals as goal

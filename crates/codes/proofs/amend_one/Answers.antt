@@ -2,7 +2,8 @@
 use mathlib.Core.List.{List}
 use mathlib.Core.Path.{ap, ◌∙◌}
 use Prim.Native.Nat.{ℕ}
-use Rattle.table.specs.Words.{Marks, marks_from}
+use Rattle.table.specs.declared.Marks.{Marks}
+use Rattle.table.specs.Words.{marks_from}
 use Rattle.codes.specs.Own.{deemed_under_in}
 use Rattle.codes.specs.Asking.{names_margin}
 use Rattle.codes.proofs.ByCode.{last_one, pledged-is, margin-is, pledge-answered, unpledge-answered, sets-margin, sets-pledged, revises-margin}

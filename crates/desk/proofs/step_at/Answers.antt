@@ -1,7 +1,7 @@
 -- `desk::step_at` meets its contract: a table's arrays are entered, and what the step leaves is the book after it, turned over.
 use mathlib.Core.Path.{ap, ◌∙◌}
 use Rattle.sums.specs.Choice.{pick}
-use Rattle.table.specs.Words.{marks_from, marks_of, turned}
+use Rattle.table.specs.Words.{marks_from, turned}
 use Rattle.steps.specs.Steps.{book_at}
 use Rattle.steps.proofs.Entering.{enterable, sound-enters}
 use Rattle.desk.proofs.Doing.{stepped-over}
@@ -12,7 +12,7 @@ enter-entered-requires c =
     let z = c in
     let s = z in
     let t = s.args.t in
-    enterable t.count t.serial (marks_of t) t.amounts t.modes t.needs t.next t.numbers s.requires z.sizes.ensures
+    enterable t.count t.serial t.marks t.amounts t.modes t.needs t.next t.numbers s.requires z.sizes.ensures
 
 pub step-gone-requires : goal.step-gone-requires
 step-gone-requires c =
@@ -20,7 +20,7 @@ step-gone-requires c =
     let z = e in
     let s = z in
     let t = s.args.t in
-    sound-enters t.count t.serial (marks_of t) t.amounts t.modes t.needs t.next t.numbers s.requires z.sizes.ensures z.size.ensures z.size-2.ensures _ e.enter-entered.ensures
+    sound-enters t.count t.serial t.marks t.amounts t.modes t.needs t.next t.numbers s.requires z.sizes.ensures z.size.ensures z.size-2.ensures _ e.enter-entered.ensures
 
 pub returns : goal.returns
 unfolding pick

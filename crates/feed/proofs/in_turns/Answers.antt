@@ -2,7 +2,6 @@ use Rattle.std.proofs.Common.{ℕ, ◌≤◌, refl, sym, ◌∙◌, arith}
 use lib.ListN.{length-replicate}
 use Rattle.sums.specs.Choice.{pick}
 use Rattle.sums.proofs.Choices.{or-fails}
-use Rattle.table.specs.Words.{marks_of}
 use Rattle.book.proofs.SoundTest.{sound←}
 use Rattle.steps.proofs.Entering.{enterable, sound-enters}
 use Rattle.text.proofs.Puts.{puts-length, puts-at-start}
@@ -15,12 +14,12 @@ use Rattle.feed.proofs.in_turns.Goals as goal
 
 pub enter-entered-requires : goal.enter-entered-requires
 enter-entered-requires c =
-    let t = c.args.t in enterable t.count t.serial (marks_of t) t.amounts t.modes t.needs t.next t.numbers c.requires c.sizes.ensures
+    let t = c.args.t in enterable t.count t.serial t.marks t.amounts t.modes t.needs t.next t.numbers c.requires c.sizes.ensures
 
 pub loop-space-init : goal.loop-space-init
 loop-space-init c =
     let t = c.args.t in
-    let h = sound-enters t.count t.serial (marks_of t) t.amounts t.modes t.needs t.next t.numbers c.requires c.sizes.ensures c.size.ensures c.size-2.ensures _ c.enter-entered.ensures in
+    let h = sound-enters t.count t.serial t.marks t.amounts t.modes t.needs t.next t.numbers c.requires c.sizes.ensures c.size.ensures c.size-2.ensures _ c.enter-entered.ensures in
     (nothing_read c.args.printing c.args.explained _ _ (sound← _ h.sound) (sym c.blank-space.ensures), h, length-replicate {A = ℕ} 16384 0)
 
 pub overflow_sub-read : goal.overflow_sub-read

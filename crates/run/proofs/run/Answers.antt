@@ -2,7 +2,6 @@
 use mathlib.Core.Path.{ap, ◌∙◌}
 use Rattle.sums.specs.Choice.{pick}
 use Rattle.table.specs.declared.Table.{Table}
-use Rattle.table.specs.Words.{marks_of}
 use Rattle.steps.proofs.Entering.{enterable, sound-enters}
 use Rattle.run.specs.Over.{over_ran}
 use Rattle.run.proofs.run.Goals as goal
@@ -12,7 +11,7 @@ enter-entered-requires c =
     let z = c in
     let s = z in
     let t = s.args.t in
-    enterable t.count t.serial (marks_of t) t.amounts t.modes t.needs t.next t.numbers s.requires.0 z.sizes.ensures
+    enterable t.count t.serial t.marks t.amounts t.modes t.needs t.next t.numbers s.requires.0 z.sizes.ensures
 
 pub go-went-requires : goal.go-went-requires
 go-went-requires c =
@@ -20,7 +19,7 @@ go-went-requires c =
     let z = e in
     let s = z in
     let t = s.args.t in
-    (sound-enters t.count t.serial (marks_of t) t.amounts t.modes t.needs t.next t.numbers s.requires.0 z.sizes.ensures z.size.ensures z.size-2.ensures _ e.enter-entered.ensures, s.requires.1)
+    (sound-enters t.count t.serial t.marks t.amounts t.modes t.needs t.next t.numbers s.requires.0 z.sizes.ensures z.size.ensures z.size-2.ensures _ e.enter-entered.ensures, s.requires.1)
 
 pub returns : goal.returns
 unfolding pick

@@ -7,7 +7,7 @@ use borrow.Author.Tests.{lt-ltb, le-ltb, not-true, not-false}
 use Rattle.rows.specs.Rows.{row_at, place_of, is_live}
 use Rattle.rows.specs.Inner.{Ranged}
 use Rattle.table.specs.declared.Table.{Table}
-use Rattle.table.specs.Words.{marks_of, turned_back, row_in}
+use Rattle.table.specs.Words.{turned_back, row_in}
 use Rattle.table.proofs.Gathered.{row-in}
 use Rattle.book.specs.Sound.{sound_b}
 use Rattle.book.proofs.RowTests.{sound-test-ranged}
@@ -21,7 +21,7 @@ pub returns-then-not-table_sound : goal.returns-then-not-table_sound
 returns-then-not-table_sound c =
     let tested : c.table_sound.result ≡ sound_b (turned_back c.args.t) =
     let t = c.args.t in
-    c.table_sound.ensures ∙ sound-serial t.count t.serial (marks_of t) t.amounts t.modes t.needs t.next t.numbers
+    c.table_sound.ensures ∙ sound-serial t.count t.serial t.marks t.amounts t.modes t.needs t.next t.numbers
     in
     let k = c in
     let a = k.args in
@@ -31,7 +31,7 @@ pub place_among-place-requires : goal.place_among-place-requires
 place_among-place-requires c =
     let tested : c.table_sound.result ≡ sound_b (turned_back c.args.t) =
     let t = c.args.t in
-    c.table_sound.ensures ∙ sound-serial t.count t.serial (marks_of t) t.amounts t.modes t.needs t.next t.numbers
+    c.table_sound.ensures ∙ sound-serial t.count t.serial t.marks t.amounts t.modes t.needs t.next t.numbers
     in
     let holds : sound_b (turned_back c.args.t) ≡ true =
     sym tested ∙ not-false _ c.if-not-table_sound.false-raw
@@ -43,7 +43,7 @@ pub returns-then-place-t : goal.returns-then-place-t
 returns-then-place-t c =
     let tested : c.table_sound.result ≡ sound_b (turned_back c.args.t) =
     let t = c.args.t in
-    c.table_sound.ensures ∙ sound-serial t.count t.serial (marks_of t) t.amounts t.modes t.needs t.next t.numbers
+    c.table_sound.ensures ∙ sound-serial t.count t.serial t.marks t.amounts t.modes t.needs t.next t.numbers
     in
     let holds : sound_b (turned_back c.args.t) ≡ true =
     sym tested ∙ not-false _ c.if-not-table_sound.false-raw
@@ -69,7 +69,7 @@ pub bounds-t-i : goal.bounds-t-i
 bounds-t-i c =
     let tested : c.table_sound.result ≡ sound_b (turned_back c.args.t) =
     let t = c.args.t in
-    c.table_sound.ensures ∙ sound-serial t.count t.serial (marks_of t) t.amounts t.modes t.needs t.next t.numbers
+    c.table_sound.ensures ∙ sound-serial t.count t.serial t.marks t.amounts t.modes t.needs t.next t.numbers
     in
     let holds : sound_b (turned_back c.args.t) ≡ true =
     sym tested ∙ not-false _ c.if-not-table_sound.false-raw
@@ -82,7 +82,7 @@ pub returns-then-not-t-i : goal.returns-then-not-t-i
 returns-then-not-t-i c =
     let tested : c.table_sound.result ≡ sound_b (turned_back c.args.t) =
     let t = c.args.t in
-    c.table_sound.ensures ∙ sound-serial t.count t.serial (marks_of t) t.amounts t.modes t.needs t.next t.numbers
+    c.table_sound.ensures ∙ sound-serial t.count t.serial t.marks t.amounts t.modes t.needs t.next t.numbers
     in
     let holds : sound_b (turned_back c.args.t) ≡ true =
     sym tested ∙ not-false _ c.if-not-table_sound.false-raw
@@ -103,9 +103,9 @@ returns-then-not-t-i c =
     sound-test-ranged (turned_back c.args.t) holds
     in
     let row : let t = handed in
-    row_at (turned_back t) place ≡ row_in (marks_of t) t.amounts place =
+    row_at (turned_back t) place ≡ row_in t.marks t.amounts place =
     let t = handed in
-    row-in (marks_of t) t.amounts place (omega (arith, ranged.most, c.if-place-t.false))
+    row-in t.marks t.amounts place (omega (arith, ranged.most, c.if-place-t.false))
     in
     let given = c in
     let p = given in
@@ -117,7 +117,7 @@ pub bounds-t-i-2 : goal.bounds-t-i-2
 bounds-t-i-2 c =
     let tested : c.table_sound.result ≡ sound_b (turned_back c.args.t) =
     let t = c.args.t in
-    c.table_sound.ensures ∙ sound-serial t.count t.serial (marks_of t) t.amounts t.modes t.needs t.next t.numbers
+    c.table_sound.ensures ∙ sound-serial t.count t.serial t.marks t.amounts t.modes t.needs t.next t.numbers
     in
     let holds : sound_b (turned_back c.args.t) ≡ true =
     sym tested ∙ not-false _ c.if-not-table_sound.false-raw
@@ -130,7 +130,7 @@ pub returns-then-t-i-ne1 : goal.returns-then-t-i-ne1
 returns-then-t-i-ne1 c =
     let tested : c.table_sound.result ≡ sound_b (turned_back c.args.t) =
     let t = c.args.t in
-    c.table_sound.ensures ∙ sound-serial t.count t.serial (marks_of t) t.amounts t.modes t.needs t.next t.numbers
+    c.table_sound.ensures ∙ sound-serial t.count t.serial t.marks t.amounts t.modes t.needs t.next t.numbers
     in
     let holds : sound_b (turned_back c.args.t) ≡ true =
     sym tested ∙ not-false _ c.if-not-table_sound.false-raw
@@ -151,9 +151,9 @@ returns-then-t-i-ne1 c =
     sound-test-ranged (turned_back c.args.t) holds
     in
     let row : let t = handed in
-    row_at (turned_back t) place ≡ row_in (marks_of t) t.amounts place =
+    row_at (turned_back t) place ≡ row_in t.marks t.amounts place =
     let t = handed in
-    row-in (marks_of t) t.amounts place (omega (arith, ranged.most, c.if-place-t.false))
+    row-in t.marks t.amounts place (omega (arith, ranged.most, c.if-place-t.false))
     in
     let live : let b = turned_back handed in
     is_live b (place_of b number) ≡ true =
@@ -162,7 +162,7 @@ returns-then-t-i-ne1 c =
     live_at ∙ simp (lt-ltb place handed.count given.if-place-t.false, ap (λ r. r.live) row ∙ not-false _ c.if-not-t-i.false-raw)
     in
     let sort-at : let t = handed in
-    (row_at (turned_back t) (place_of (turned_back t) number)).sort ≡ (row_in (marks_of t) t.amounts place).sort =
+    (row_at (turned_back t) (place_of (turned_back t) number)).sort ≡ (row_in t.marks t.amounts place).sort =
     let p = c in
     ap (λ i. (row_at (turned_back handed) i).sort) (sym p.place_among-place.ensures) ∙ ap (λ r. r.sort) row
     in
@@ -176,7 +176,7 @@ pub records_finding-requires : goal.records_finding-requires
 records_finding-requires c =
     let tested : c.table_sound.result ≡ sound_b (turned_back c.args.t) =
     let t = c.args.t in
-    c.table_sound.ensures ∙ sound-serial t.count t.serial (marks_of t) t.amounts t.modes t.needs t.next t.numbers
+    c.table_sound.ensures ∙ sound-serial t.count t.serial t.marks t.amounts t.modes t.needs t.next t.numbers
     in
     let holds : sound_b (turned_back c.args.t) ≡ true =
     sym tested ∙ not-false _ c.if-not-table_sound.false-raw
@@ -191,7 +191,7 @@ pub returns : goal.returns
 returns c =
     let tested : c.table_sound.result ≡ sound_b (turned_back c.args.t) =
     let t = c.args.t in
-    c.table_sound.ensures ∙ sound-serial t.count t.serial (marks_of t) t.amounts t.modes t.needs t.next t.numbers
+    c.table_sound.ensures ∙ sound-serial t.count t.serial t.marks t.amounts t.modes t.needs t.next t.numbers
     in
     let holds : sound_b (turned_back c.args.t) ≡ true =
     sym tested ∙ not-false _ c.if-not-table_sound.false-raw
@@ -212,9 +212,9 @@ returns c =
     sound-test-ranged (turned_back c.args.t) holds
     in
     let row : let t = handed in
-    row_at (turned_back t) place ≡ row_in (marks_of t) t.amounts place =
+    row_at (turned_back t) place ≡ row_in t.marks t.amounts place =
     let t = handed in
-    row-in (marks_of t) t.amounts place (omega (arith, ranged.most, c.if-place-t.false))
+    row-in t.marks t.amounts place (omega (arith, ranged.most, c.if-place-t.false))
     in
     let live : let b = turned_back handed in
     is_live b (place_of b number) ≡ true =
@@ -223,7 +223,7 @@ returns c =
     live_at ∙ simp (lt-ltb place handed.count given.if-place-t.false, ap (λ r. r.live) row ∙ not-false _ c.if-not-t-i.false-raw)
     in
     let sort-at : let t = handed in
-    (row_at (turned_back t) (place_of (turned_back t) number)).sort ≡ (row_in (marks_of t) t.amounts place).sort =
+    (row_at (turned_back t) (place_of (turned_back t) number)).sort ≡ (row_in t.marks t.amounts place).sort =
     let p = c in
     ap (λ i. (row_at (turned_back handed) i).sort) (sym p.place_among-place.ensures) ∙ ap (λ r. r.sort) row
     in
@@ -235,6 +235,6 @@ returns c =
     let b = turned_back t in
     let s = p.args.statement.now in
     c.records_finding.ensures
-    ∙ statement-seen t.count t.serial (marks_of t) t.amounts t.modes t.needs t.next t.numbers place s
+    ∙ statement-seen t.count t.serial t.marks t.amounts t.modes t.needs t.next t.numbers place s
     ∙ ap (λ i. finding_from b 0 (live_clients b i) s) p.place_among-place.ensures
     ∙ none-asked b number s holds live (sort-at ∙ four.if-t-i-ne1.false)

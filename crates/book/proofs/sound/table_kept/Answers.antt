@@ -14,7 +14,8 @@ use Rattle.rows.specs.Rows.{view_by}
 use Rattle.rows.specs.Facts.{Shaped, NoneBeyond}
 use Rattle.rows.specs.KeptNeeds.{all_kept}
 use Rattle.rows.specs.Inner.{Ranged}
-use Rattle.table.specs.Words.{Marks, marks_from, book_from}
+use Rattle.table.specs.declared.Marks.{Marks}
+use Rattle.table.specs.Words.{marks_from, book_from}
 use Rattle.table.specs.Facts.{seen_book}
 use Rattle.table.proofs.Gathered.{rows-length}
 use Rattle.table.proofs.Seen.{seen-view-by, seen-ranged}

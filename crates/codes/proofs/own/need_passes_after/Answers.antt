@@ -3,7 +3,8 @@ use mathlib.Core.Path.{◌≡◌, sym, ap, ◌∙◌}
 use native.Mathlib.Omega.{arith}
 use Rattle.rows.specs.Rows.{account_of}
 use Rattle.rows.specs.Facts.{InRange}
-use Rattle.table.specs.Words.{Marks, marks_from}
+use Rattle.table.specs.declared.Marks.{Marks}
+use Rattle.table.specs.Words.{marks_from}
 use Rattle.codes.specs.Own.{account_in, deemed_under_in}
 use Rattle.codes.proofs.Made.{change-in-range, held-in-range, margin-in, need-passes-is, deemed-under-most}
 use Rattle.codes.proofs.own.need_passes_after.Goals as goal

@@ -9,7 +9,8 @@ use Rattle.sums.specs.Table.{Line}
 use Rattle.sums.proofs.Choices.{and-join}
 use Rattle.rows.specs.declared.Row.{Row}
 use Rattle.rows.specs.Rows.{with_margin}
-use Rattle.table.specs.Words.{Marks, marks_from}
+use Rattle.table.specs.declared.Marks.{Marks}
+use Rattle.table.specs.Words.{marks_from}
 use Rattle.codes.specs.Own.{deemed_under_in, need_passes_in, margin_lines}
 use Rattle.codes.proofs.Made.{first-line-holds, first-line-fails, no-line-gives-0, refused-answers, put-answers, margin-anew}
 use Rattle.codes.proofs.own.set_margin.Goals as goal
