@@ -51,7 +51,7 @@ module _ (t : Table) (h : Sized t.marks t.amounts) where
       rw (n.0, n.1) (ap (λ (x : Table). record { refusal = 1; table = x }) (sym (back-and-over t h)))
 
   abbrev renewed : List ℕ → Table
-  renewed needs = record { count = t.count; serial = t.serial; sort = t.sort; live = t.live; tm = t.tm; modes = t.modes; needs = needs; amounts = t.amounts; next = t.next; numbers = t.numbers }
+  renewed needs = record { count = t.count; serial = t.serial; marks = t.marks; modes = t.modes; needs = needs; amounts = t.amounts; next = t.next; numbers = t.numbers }
 
   pub taken : (needs : List ℕ) → sound_by_the_old (turned_back t) ≡ true → needs ≡ needs_afresh (view (turned_back t))
       → ◌≡◌ {A = Taken} (record { refusal = 0; table = renewed needs }) given

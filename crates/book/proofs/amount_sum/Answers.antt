@@ -9,27 +9,18 @@ use Rattle.table.proofs.EveningSums.{capped-in}
 use Rattle.book.specs.Sound.{sound_b}
 use Rattle.book.specs.Inner.{amount_number}
 use Rattle.book.proofs.RowTests.{sound-test-ranged}
-use Rattle.book.proofs.SoundInPlace.{sound-serial}
 use Rattle.book.proofs.EveningAnswers.{unsound-evening, sound-evening, number-below, number-sum}
 use Rattle.book.proofs.amount_sum.Goals as goal
 
 pub returns-then-not-table_sound : goal.returns-then-not-table_sound
 returns-then-not-table_sound c =
-    let tested : c.table_sound.result ≡ sound_b (turned_back c.args.t) =
-    let t = c.args.t in
-    c.table_sound.ensures ∙ sound-serial t.count t.serial t.marks t.amounts t.modes t.needs t.next t.numbers
-    in
     let a = c.args in
-    sym (unsound-evening (turned_back a.t) a.amount (sym tested ∙ not-true _ c.if-not-table_sound.true-raw))
+    sym (unsound-evening (turned_back a.t) a.amount (sym c.table_sound.ensures ∙ not-true _ c.if-not-table_sound.true-raw))
 
 pub amount_sum-total-requires : goal.amount_sum-total-requires
 amount_sum-total-requires c =
-    let tested : c.table_sound.result ≡ sound_b (turned_back c.args.t) =
-    let t = c.args.t in
-    c.table_sound.ensures ∙ sound-serial t.count t.serial t.marks t.amounts t.modes t.needs t.next t.numbers
-    in
     let holds : sound_b (turned_back c.args.t) ≡ true =
-    sym tested ∙ not-false _ c.if-not-table_sound.false-raw
+    sym c.table_sound.ensures ∙ not-false _ c.if-not-table_sound.false-raw
     in
     let ranged : Ranged (turned_back c.args.t) =
     sound-test-ranged (turned_back c.args.t) holds
@@ -43,12 +34,8 @@ amount_sum-total-requires c =
 
 pub returns : goal.returns
 returns c =
-    let tested : c.table_sound.result ≡ sound_b (turned_back c.args.t) =
-    let t = c.args.t in
-    c.table_sound.ensures ∙ sound-serial t.count t.serial t.marks t.amounts t.modes t.needs t.next t.numbers
-    in
     let holds : sound_b (turned_back c.args.t) ≡ true =
-    sym tested ∙ not-false _ c.if-not-table_sound.false-raw
+    sym c.table_sound.ensures ∙ not-false _ c.if-not-table_sound.false-raw
     in
     let ranged : Ranged (turned_back c.args.t) =
     sound-test-ranged (turned_back c.args.t) holds

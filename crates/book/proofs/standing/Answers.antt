@@ -15,48 +15,35 @@ use Rattle.book.specs.Sound.{sound_b}
 use Rattle.book.specs.Asked.{standing_refusal, figures_of}
 use Rattle.book.proofs.RowTests.{sound-test-ranged}
 use Rattle.book.proofs.SoundTest.{sound→}
-use Rattle.book.proofs.SoundInPlace.{sound-serial}
 use Rattle.book.proofs.StandingRefusals.{unsound-refused, dead-refused, live-answered, standing_by}
 use Rattle.book.proofs.standing.Goals as goal
 
 pub returns-then-not-table_sound : goal.returns-then-not-table_sound
 returns-then-not-table_sound c =
-    let tested : c.table_sound.result ≡ sound_b (turned_back c.args.t) =
-    let t = c.args.t in
-    c.table_sound.ensures ∙ sound-serial t.count t.serial t.marks t.amounts t.modes t.needs t.next t.numbers
-    in
     let a = c.args in
     let b = turned_back a.t in
     standing_by b a.account 1
-    (unsound-refused b a.account (sym tested ∙ not-true _ c.if-not-table_sound.true-raw))
+    (unsound-refused b a.account (sym c.table_sound.ensures ∙ not-true _ c.if-not-table_sound.true-raw))
     c.refused.ensures
 
 pub place_among-place-requires : goal.place_among-place-requires
 place_among-place-requires c =
-    let tested : c.table_sound.result ≡ sound_b (turned_back c.args.t) =
-    let t = c.args.t in
-    c.table_sound.ensures ∙ sound-serial t.count t.serial t.marks t.amounts t.modes t.needs t.next t.numbers
-    in
     let holds : sound_b (turned_back c.args.t) ≡ true =
-    sym tested ∙ not-false _ c.if-not-table_sound.false-raw
+    sym c.table_sound.ensures ∙ not-false _ c.if-not-table_sound.false-raw
     in
     let s = sound→ (turned_back c.args.t) holds in
     record { most = s.most; up = s.numbered.rises }
 
-pub returns-then-place-count : goal.returns-then-place-count
-returns-then-place-count c =
+pub returns-then-place-t : goal.returns-then-place-t
+returns-then-place-t c =
     let handed : Table =
     c.args.t
     in
     let place : ℕ =
     c.place_among-place.result
     in
-    let tested : c.table_sound.result ≡ sound_b (turned_back c.args.t) =
-    let t = c.args.t in
-    c.table_sound.ensures ∙ sound-serial t.count t.serial t.marks t.amounts t.modes t.needs t.next t.numbers
-    in
     let holds : sound_b (turned_back c.args.t) ≡ true =
-    sym tested ∙ not-false _ c.if-not-table_sound.false-raw
+    sym c.table_sound.ensures ∙ not-false _ c.if-not-table_sound.false-raw
     in
     let dead : is_live (turned_back handed) place ≡ false → standing_refusal (turned_back handed) c.args.account ≡ 7 =
     λ e. let b = turned_back handed in
@@ -64,16 +51,12 @@ returns-then-place-count c =
     in
     let at = c in
     let b = turned_back handed in
-    standing_by b at.args.account 7 (dead (simp (le-ltb place b.count c.if-place-count.true))) c.refused-then-place-count.ensures
+    standing_by b at.args.account 7 (dead (simp (le-ltb place b.count c.if-place-t.true))) c.refused-then-place-t.ensures
 
 pub bounds-t-i : goal.bounds-t-i
 bounds-t-i c =
-    let tested : c.table_sound.result ≡ sound_b (turned_back c.args.t) =
-    let t = c.args.t in
-    c.table_sound.ensures ∙ sound-serial t.count t.serial t.marks t.amounts t.modes t.needs t.next t.numbers
-    in
     let holds : sound_b (turned_back c.args.t) ≡ true =
-    sym tested ∙ not-false _ c.if-not-table_sound.false-raw
+    sym c.table_sound.ensures ∙ not-false _ c.if-not-table_sound.false-raw
     in
     let ranged : Ranged (turned_back c.args.t) =
     sound-test-ranged (turned_back c.args.t) holds
@@ -84,12 +67,8 @@ returns-then-not-t-i c =
     let handed : Table =
     c.args.t
     in
-    let tested : c.table_sound.result ≡ sound_b (turned_back c.args.t) =
-    let t = c.args.t in
-    c.table_sound.ensures ∙ sound-serial t.count t.serial t.marks t.amounts t.modes t.needs t.next t.numbers
-    in
     let holds : sound_b (turned_back c.args.t) ≡ true =
-    sym tested ∙ not-false _ c.if-not-table_sound.false-raw
+    sym c.table_sound.ensures ∙ not-false _ c.if-not-table_sound.false-raw
     in
     let place : ℕ =
     c.place_among-place.result
@@ -104,7 +83,7 @@ returns-then-not-t-i c =
     let row : let t = handed in
     row_at (turned_back t) place ≡ row_in t.marks t.amounts place =
     let t = handed in
-    row-in t.marks t.amounts place (omega (arith, ranged.most, c.if-place-count.false))
+    row-in t.marks t.amounts place (omega (arith, ranged.most, c.if-place-t.false))
     in
     let given = c in
     let at = given in
@@ -114,12 +93,8 @@ returns-then-not-t-i c =
 
 pub bounds-t-i-2 : goal.bounds-t-i-2
 bounds-t-i-2 c =
-    let tested : c.table_sound.result ≡ sound_b (turned_back c.args.t) =
-    let t = c.args.t in
-    c.table_sound.ensures ∙ sound-serial t.count t.serial t.marks t.amounts t.modes t.needs t.next t.numbers
-    in
     let holds : sound_b (turned_back c.args.t) ≡ true =
-    sym tested ∙ not-false _ c.if-not-table_sound.false-raw
+    sym c.table_sound.ensures ∙ not-false _ c.if-not-table_sound.false-raw
     in
     let ranged : Ranged (turned_back c.args.t) =
     sound-test-ranged (turned_back c.args.t) holds
@@ -128,12 +103,8 @@ bounds-t-i-2 c =
 -- the kept need is the one worked out afresh
 pub offset_bounds-t-i : goal.offset_bounds-t-i
 offset_bounds-t-i c =
-    let tested : c.table_sound.result ≡ sound_b (turned_back c.args.t) =
-    let t = c.args.t in
-    c.table_sound.ensures ∙ sound-serial t.count t.serial t.marks t.amounts t.modes t.needs t.next t.numbers
-    in
     let holds : sound_b (turned_back c.args.t) ≡ true =
-    sym tested ∙ not-false _ c.if-not-table_sound.false-raw
+    sym c.table_sound.ensures ∙ not-false _ c.if-not-table_sound.false-raw
     in
     let ranged : Ranged (turned_back c.args.t) =
     sound-test-ranged (turned_back c.args.t) holds
@@ -141,12 +112,8 @@ offset_bounds-t-i c =
 
 pub bounds-t-i-3 : goal.bounds-t-i-3
 bounds-t-i-3 c =
-    let tested : c.table_sound.result ≡ sound_b (turned_back c.args.t) =
-    let t = c.args.t in
-    c.table_sound.ensures ∙ sound-serial t.count t.serial t.marks t.amounts t.modes t.needs t.next t.numbers
-    in
     let holds : sound_b (turned_back c.args.t) ≡ true =
-    sym tested ∙ not-false _ c.if-not-table_sound.false-raw
+    sym c.table_sound.ensures ∙ not-false _ c.if-not-table_sound.false-raw
     in
     let ranged : Ranged (turned_back c.args.t) =
     sound-test-ranged (turned_back c.args.t) holds
@@ -154,12 +121,8 @@ bounds-t-i-3 c =
 
 pub figures-requires : goal.figures-requires
 figures-requires c =
-    let tested : c.table_sound.result ≡ sound_b (turned_back c.args.t) =
-    let t = c.args.t in
-    c.table_sound.ensures ∙ sound-serial t.count t.serial t.marks t.amounts t.modes t.needs t.next t.numbers
-    in
     let holds : sound_b (turned_back c.args.t) ≡ true =
-    sym tested ∙ not-false _ c.if-not-table_sound.false-raw
+    sym c.table_sound.ensures ∙ not-false _ c.if-not-table_sound.false-raw
     in
     let ranged : Ranged (turned_back c.args.t) =
     sound-test-ranged (turned_back c.args.t) holds
@@ -177,18 +140,14 @@ figures-requires c =
     let s = sound→ (turned_back t) holds in (
       seen-ranged t.count t.serial t.marks t.amounts t.modes t.needs t.next t.numbers ranged,
       rw v s.shaped,
-      given.if-place-count.false,
-      s.kept place (omega (arith, s.most, given.if-place-count.false)) ∙ ap (λ w. kept_need w place) (sym v),
+      given.if-place-t.false,
+      s.kept place (omega (arith, s.most, given.if-place-t.false)) ∙ ap (λ w. kept_need w place) (sym v),
     )
 
 pub returns : goal.returns
 returns c =
-    let tested : c.table_sound.result ≡ sound_b (turned_back c.args.t) =
-    let t = c.args.t in
-    c.table_sound.ensures ∙ sound-serial t.count t.serial t.marks t.amounts t.modes t.needs t.next t.numbers
-    in
     let holds : sound_b (turned_back c.args.t) ≡ true =
-    sym tested ∙ not-false _ c.if-not-table_sound.false-raw
+    sym c.table_sound.ensures ∙ not-false _ c.if-not-table_sound.false-raw
     in
     let handed : Table =
     c.args.t
@@ -202,7 +161,7 @@ returns c =
     let row : let t = handed in
     row_at (turned_back t) place ≡ row_in t.marks t.amounts place =
     let t = handed in
-    row-in t.marks t.amounts place (omega (arith, ranged.most, c.if-place-count.false))
+    row-in t.marks t.amounts place (omega (arith, ranged.most, c.if-place-t.false))
     in
     let live = c in
     let given = live in
@@ -212,7 +171,7 @@ returns c =
     let n = at.args.account in
     let e = at.place_among-place.ensures in
     standing_by b n 0
-    (live-answered b n holds (ap (is_live b) (sym e) ∙ simp (lt-ltb place t.count given.if-place-count.false, ap (λ r. r.live) row ∙ not-false _ live.if-not-t-i.false-raw)))
+    (live-answered b n holds (ap (is_live b) (sym e) ∙ simp (lt-ltb place t.count given.if-place-t.false, ap (λ r. r.live) row ∙ not-false _ live.if-not-t-i.false-raw)))
     (c.figures.ensures
     ∙ ap (λ v. figures_of v (mode_at b place) place) (seen-view t.count t.serial t.marks t.amounts t.modes t.needs t.next t.numbers)
     ∙ ap (λ p. figures_of (view b) (mode_at b p) p) e)

@@ -4,6 +4,7 @@ use mathlib.Core.Path.{◌≡◌, refl, sym, ap, subst, ◌∙◌}
 use native.Mathlib.Omega.{arith}
 use lib.Dec.{leb}
 use lib.ListN.{get_or}
+use borrow.Author.Rules.{rules}
 use borrow.Author.Tests.{lt-leb, le-leb, not-true, not-false}
 use Rattle.sums.proofs.Choices.{and-join, and_left, and_right}
 use Rattle.rows.specs.declared.Rule.TheVariants.{Old}
@@ -15,14 +16,13 @@ use Rattle.rows.specs.KeptNeeds.{needs_afresh}
 use Rattle.rows.proofs.KeptNeeds.{kept-CM}
 use Rattle.table.specs.declared.Table.{Table}
 use Rattle.table.specs.Words.{turned_back}
-use Rattle.table.specs.Facts.{seen_book}
+use Rattle.table.specs.Facts.{Sized, seen_book}
 use Rattle.table.proofs.Seen.{seen-view, seen-account, seen-ranged}
 use Rattle.book.specs.Sound.{formed_b, kept_by, covered_by}
 use Rattle.book.specs.Facts.{SoundRows}
 use Rattle.book.specs.TakeOver.{sound_by_the_old}
 use Rattle.book.proofs.Settled.{none-beyond}
 use Rattle.book.proofs.SoundTest.{formed→, kept→}
-use Rattle.book.proofs.SoundInPlace.{kept-serial}
 use Rattle.book.proofs.TakeOver.{not_taken, taken}
 use Rattle.book.proofs.take_over.Goals as goal
 
@@ -30,10 +30,10 @@ use Rattle.book.proofs.take_over.Goals as goal
 abbrev kept_old : Table → Bool
 kept_old t = formed_b (turned_back t) && kept_by Old (turned_back t)
 
-ranged : (t : Table) → SoundRows (turned_back t) → Ranged (seen_book t.count t.sort t.tm t.amounts)
+ranged : (t : Table) → SoundRows (turned_back t) → Ranged (seen_book t.count t.marks t.amounts)
 ranged t s = seen-ranged t.count t.serial t.marks t.amounts t.modes t.needs t.next t.numbers (record { table = s.table; most = s.most; ranges = s.ranges })
 
-is_seen : (t : Table) → view (seen_book t.count t.sort t.tm t.amounts) ≡ view (turned_back t)
+is_seen : (t : Table) → view (seen_book t.count t.marks t.amounts) ≡ view (turned_back t)
 is_seen t = seen-view t.count t.serial t.marks t.amounts t.modes t.needs t.next t.numbers
 
 pub returns-then-not-table_kept : goal.returns-then-not-table_kept
@@ -42,20 +42,16 @@ returns-then-not-table_kept c =
     let handed : Table =
     c.args.t
     in
-    let tested : kept_old handed ≡ c.table_kept.result =
-    let t = handed in sym (c.table_kept.ensures ∙ kept-serial Old t.count t.serial t.marks t.amounts t.modes t.needs t.next t.numbers)
-    in not_taken handed c.sizes.ensures (ap (λ x. x && covered_by Old (turned_back handed)) (tested ∙ not-true _ c.if-not-table_kept.true-raw))
+    let sized : Sized handed.marks handed.amounts = record { sorts = search rules; lives = search rules; tms = search rules; words = search rules } in
+    not_taken handed sized (ap (λ x. x && covered_by Old (turned_back handed)) (sym c.table_kept.ensures ∙ not-true _ c.if-not-table_kept.true-raw))
 
 pub account_at-cm-requires : goal.account_at-cm-requires
 account_at-cm-requires c =
     let handed : Table =
     c.args.t
     in
-    let tested : kept_old handed ≡ c.table_kept.result =
-    let t = handed in sym (c.table_kept.ensures ∙ kept-serial Old t.count t.serial t.marks t.amounts t.modes t.needs t.next t.numbers)
-    in
     let holds : kept_old handed ≡ true =
-    tested ∙ not-false _ c.if-not-table_kept.false-raw
+    sym c.table_kept.ensures ∙ not-false _ c.if-not-table_kept.false-raw
     in
     let rows : SoundRows (turned_back handed) =
     formed→ _ (and_left _ _ holds)
@@ -69,11 +65,8 @@ returns-then-cm-t c =
     let handed : Table =
     c.args.t
     in
-    let tested : kept_old handed ≡ c.table_kept.result =
-    let t = handed in sym (c.table_kept.ensures ∙ kept-serial Old t.count t.serial t.marks t.amounts t.modes t.needs t.next t.numbers)
-    in
     let holds : kept_old handed ≡ true =
-    tested ∙ not-false _ c.if-not-table_kept.false-raw
+    sym c.table_kept.ensures ∙ not-false _ c.if-not-table_kept.false-raw
     in
     let covers : (let t = handed in covered_by Old (turned_back t) ≡ leb (get_or t.needs 0 0) c.account_at-cm.result.collateral) =
     let e = c in
@@ -84,18 +77,16 @@ returns-then-cm-t c =
     in
     let a = c in
     let e = a in
-    not_taken handed e.sizes.ensures (ap (λ x. kept_old handed && x) (covers ∙ lt-leb _ _ c.if-cm-t.true) ∙ and-false (kept_old handed))
+    let sized : Sized handed.marks handed.amounts = record { sorts = search rules; lives = search rules; tms = search rules; words = search rules } in
+    not_taken handed sized (ap (λ x. kept_old handed && x) (covers ∙ lt-leb _ _ c.if-cm-t.true) ∙ and-false (kept_old handed))
 
 pub needs_afresh-requires : goal.needs_afresh-requires
 needs_afresh-requires c =
     let handed : Table =
     c.args.t
     in
-    let tested : kept_old handed ≡ c.table_kept.result =
-    let t = handed in sym (c.table_kept.ensures ∙ kept-serial Old t.count t.serial t.marks t.amounts t.modes t.needs t.next t.numbers)
-    in
     let holds : kept_old handed ≡ true =
-    tested ∙ not-false _ c.if-not-table_kept.false-raw
+    sym c.table_kept.ensures ∙ not-false _ c.if-not-table_kept.false-raw
     in
     let rows : SoundRows (turned_back handed) =
     formed→ _ (and_left _ _ holds)
@@ -111,11 +102,8 @@ returns c =
     let handed : Table =
     c.args.t
     in
-    let tested : kept_old handed ≡ c.table_kept.result =
-    let t = handed in sym (c.table_kept.ensures ∙ kept-serial Old t.count t.serial t.marks t.amounts t.modes t.needs t.next t.numbers)
-    in
     let holds : kept_old handed ≡ true =
-    tested ∙ not-false _ c.if-not-table_kept.false-raw
+    sym c.table_kept.ensures ∙ not-false _ c.if-not-table_kept.false-raw
     in
     let covers : (let t = handed in covered_by Old (turned_back t) ≡ leb (get_or t.needs 0 0) c.account_at-cm.result.collateral) =
     let e = c in
@@ -128,4 +116,5 @@ returns c =
     let a = left in
     let e = a in
     let t = handed in
-    taken t e.sizes.ensures _ (and-join holds (covers ∙ le-leb _ _ left.if-cm-t.false)) (c.needs_afresh.ensures ∙ ap needs_afresh (is_seen t))
+    let sized : Sized handed.marks handed.amounts = record { sorts = search rules; lives = search rules; tms = search rules; words = search rules } in
+    taken t sized _ (and-join holds (covers ∙ le-leb _ _ left.if-cm-t.false)) (c.needs_afresh.ensures ∙ ap needs_afresh (is_seen t))
