@@ -3,7 +3,7 @@ use mathlib.Core.Path.{◌∙◌}
 use native.Mathlib.Omega.{arith}
 use lib.ListN.{length-set}
 use Rattle.numbers.specs.Bytes.{bytes_of}
-use Rattle.bookfile.proofs.Parts.{put_two}
+use Rattle.bookfile.proofs.Parts.{yes-byte, put_two}
 use Rattle.bookfile.proofs.writing.put_marks.Goals as goal
 
 pub shape_of-room : goal.shape_of-room
@@ -13,7 +13,7 @@ pub returns : goal.returns
 returns c =
     let c1 = c in
     let a = c1.args in
-    put_two a.room.now _ (bytes_of 2 a.tm) a.place a.sort c1.yes_no.ensures c.put2.ensures
+    put_two a.room.now _ (bytes_of 2 a.tm) a.place a.sort (c1.from.ensures ∙ yes-byte _) c.put2.ensures
 
 pub bounds-room-place-2 : goal.bounds-room-place-2
 bounds-room-place-2 c = simp length-set (omega arith)
