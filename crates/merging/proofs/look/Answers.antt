@@ -1,5 +1,5 @@
 -- `merging::look` meets its contract. The invariant: the records so far and those from the place on are the file's.
-use Rattle.std.proofs.Common.{ℕ, Some, sym, refl, ap, ◌∙◌, arith, rules}
+use Rattle.std.proofs.Common.{ℕ, Some, sym, refl, ap, ◌∙◌, arith}
 use Rattle.dayfile.specs.Reading.{number_of}
 use Rattle.merging.proofs.Listing.{look-ends, look-stops, look-on, good-at}
 use Rattle.merging.proofs.look.Goals as goal
@@ -7,20 +7,11 @@ use Rattle.merging.proofs.look.Goals as goal
 pub loop-place-init : goal.loop-place-init
 loop-place-init c = (refl, omega arith, omega arith)
 
-pub read_at-requires : goal.read_at-requires
-read_at-requires c = search rules
-
-pub number_of-refusal-requires : goal.number_of-refusal-requires
-number_of-refusal-requires c = search rules
-
 pub returns-then-refusal-ne0 : goal.returns-then-refusal-ne0
 returns-then-refusal-ne0 c =
     let n = c.number_of-refusal.ensures ∙ ap number_of c.read_at.ensures.value in
     let l = c.loop-place in
     ap (λ (k : ℕ). Some (record { index = l.index; refusal = k })) n ∙ look-stops _ _ _ l.invariant.0 (omega arith) (λ z. c.if-refusal-ne0.true (n ∙ z))
-
-pub overflow_add-place : goal.overflow_add-place
-overflow_add-place c = omega arith
 
 pub bounds-file-place : goal.bounds-file-place
 bounds-file-place c =
@@ -28,17 +19,11 @@ bounds-file-place c =
     let g = good-at _ _ (omega arith) (sym n ∙ c.if-refusal-ne0.false) in
     omega (arith, g.within)
 
-pub size-place-requires : goal.size-place-requires
-size-place-requires c = search rules
-
 pub overflow_add-place-in-loop-place : goal.overflow_add-place-in-loop-place
 overflow_add-place-in-loop-place c =
     let n = c.number_of-refusal.ensures ∙ ap number_of c.read_at.ensures.value in
     let g = good-at _ _ (omega arith) (sym n ∙ c.if-refusal-ne0.false) in
     omega (arith, g.within, c.size-place.ensures)
-
-pub overflow_add-index : goal.overflow_add-index
-overflow_add-index c = omega arith
 
 pub loop-place-smaller : goal.loop-place-smaller
 loop-place-smaller c =

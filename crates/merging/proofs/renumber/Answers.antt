@@ -17,24 +17,15 @@ loop-place-init c =
       refl,
     )
 
-pub overflow_add-place : goal.overflow_add-place
-overflow_add-place c = omega arith
-
 pub bounds-room-place : goal.bounds-room-place
 bounds-room-place c =
     let t = turned c.loop-place.invariant.0 (omega arith) in
     omega (arith, t.within)
 
-pub size-requires : goal.size-requires
-size-requires c = search rules
-
 pub overflow_add-next : goal.overflow_add-next
 overflow_add-next c =
     let t = turned c.loop-place.invariant.0 (omega arith) in
     omega (arith, t.within, c.size.ensures)
-
-pub overflow_add-place-in-loop-place : goal.overflow_add-place-in-loop-place
-overflow_add-place-in-loop-place c = omega arith
 
 pub put2-requires : goal.put2-requires
 put2-requires c =

@@ -1,6 +1,5 @@
 -- `bookfile::writing::put_kept` meets its contract.
 use mathlib.Core.Path.{◌∙◌}
-use native.Mathlib.Omega.{arith}
 use lib.ListN.{length-set}
 use Rattle.numbers.specs.Bytes.{bytes_of}
 use Rattle.bookfile.proofs.Parts.{yes-byte, put_one}
@@ -14,6 +13,3 @@ returns c =
     let c1 = c in
     let a = c1.args in
     put_one a.room.now _ (bytes_of 8 a.need) a.place (c1.from.ensures ∙ yes-byte _) c.put8.ensures
-
-pub put8-requires : goal.put8-requires
-put8-requires c = simp length-set (omega arith)

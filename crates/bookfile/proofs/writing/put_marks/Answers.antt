@@ -1,6 +1,5 @@
 -- `bookfile::writing::put_marks` meets its contract.
 use mathlib.Core.Path.{◌∙◌}
-use native.Mathlib.Omega.{arith}
 use lib.ListN.{length-set}
 use Rattle.numbers.specs.Bytes.{bytes_of}
 use Rattle.bookfile.proofs.Parts.{yes-byte, put_two}
@@ -14,9 +13,3 @@ returns c =
     let c1 = c in
     let a = c1.args in
     put_two a.room.now _ (bytes_of 2 a.tm) a.place a.sort (c1.from.ensures ∙ yes-byte _) c.put2.ensures
-
-pub bounds-room-place-2 : goal.bounds-room-place-2
-bounds-room-place-2 c = simp length-set (omega arith)
-
-pub put2-requires : goal.put2-requires
-put2-requires c = simp length-set (omega arith)
