@@ -18,8 +18,7 @@ use lookup::place_among;
 pub use rows::CEILING;
 use rows::Rule;
 use sound::{table_kept, table_sound};
-use table::Marks;
-pub use table::Table;
+pub use table::{Marks, Table};
 use table::needs::{account_at, needs_afresh};
 
 // A standing's five figures, the account's mode and, of account 0, the shortfall (K8), behind the refusal number or 0.

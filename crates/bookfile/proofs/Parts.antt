@@ -1,5 +1,5 @@
 -- The parts of a written form, put into a room one after another.
-use mathlib.Core.Bool.{Bool, false}
+use mathlib.Core.Bool.{Bool, true, false}
 use mathlib.Core.List.{List, ◌∷◌, ◌++◌, append-nil}
 use mathlib.Core.Path.{◌≡◌, refl, sym, ap, ap₂, ◌∙◌}
 use Prim.Native.Nat.{ℕ, ◌+◌, ◌-◌}
@@ -14,9 +14,15 @@ use Rattle.table.specs.declared.Table.{Table}
 use Rattle.bookfile.specs.declared.Version.{Version}
 use Rattle.bookfile.specs.declared.Version.TheVariants.{One, Two}
 use Rattle.bookfile.specs.Versions.{size_of, head_of, width_of}
-use Rattle.bookfile.specs.Written.{size, head_part, joined, marks_part, amount_part, amounts_part, kept_part, row_part, place_bytes, written_by, written_of}
+use Rattle.bookfile.specs.Written.{size, head_part, yes_no, joined, marks_part, amount_part, amounts_part, kept_part, row_part, place_bytes, written_by, written_of}
 use Rattle.bookfile.proofs.Joining.{length-joined}
 use Rattle.bookfile.proofs.Measures.{all-places}
+use Rattle.std.specs.Int.{from_bool}
+
+-- a yes or a no as the byte that stands for it
+pub yes-byte : (b : Bool) → from_bool b ≡ yes_no b
+yes-byte true = refl
+yes-byte false = refl
 
 -- one run, and another one where it ended
 pub put_then : (l m n x y : List ℕ) (at k : ℕ) → m ≡ sets l at x → n ≡ sets m (at + k) y → length x ≡ k → n ≡ sets l at (x ++ y)

@@ -73,14 +73,15 @@ pub fn margin(
     if MOST < number {
         return Made::Refused(15);
     }
-    let fault = first_fault(positions, number);
+    let positions = &positions[..number];
+    let fault = first_fault(positions);
     if fault != 0 {
         return Made::Refused(fault);
     }
     if CEILING < initial {
         return Made::Refused(20);
     }
-    let sum = initial + charged(positions, number);
+    let sum = initial + charged(positions);
     if CEILING < sum {
         return Made::Refused(21);
     }

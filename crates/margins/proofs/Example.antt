@@ -3,6 +3,8 @@ use mathlib.Core.List.{List, [], ◌∷◌}
 use mathlib.Core.Path.{◌≡◌, refl}
 use Prim.Native.Nat.{ℕ}
 use lib.IntN.{pos, neg_ℤ}
+use Rattle.std.specs.Prelude.{Some}
+use Rattle.std.specs.Option.{option_map}
 use Rattle.sums.specs.Choice.{pick}
 use Rattle.sums.specs.Table.{first}
 use Rattle.text.specs.Numbers.{digits, decimal, spaced}
@@ -28,8 +30,8 @@ abbrev line : List ℕ
 line = 85 ∷ 83 ∷ 68 ∷ 73 ∷ 78 ∷ 82 ∷ 32 ∷ 102 ∷ 117 ∷ 116 ∷ 117 ∷ 114 ∷ 101 ∷ 115 ∷ 32 ∷ 49 ∷ 48 ∷ 48 ∷ 48 ∷ 48 ∷ 48 ∷ 48 ∷ 49 ∷ 10 ∷ []
 
 -- `0 50001`
-pub paper : printed_for (asked_by_words 4 (55 ∷ []) (51 ∷ []) (48 ∷ []) []) (held_in line)
-    ≡ 48 ∷ 32 ∷ 53 ∷ 48 ∷ 48 ∷ 48 ∷ 49 ∷ 10 ∷ []
+pub paper : option_map (λ asked. printed_for asked (held_in line)) (asked_by_words 4 (55 ∷ []) (51 ∷ []) (48 ∷ []) [])
+    ≡ Some (48 ∷ 32 ∷ 53 ∷ 48 ∷ 48 ∷ 48 ∷ 49 ∷ 10 ∷ [])
 unfolding printed_for line_made held_in held_by asked_by_words asked_for parted_by line_says of_words position_of holding side_of place_in same_bytes names_product all_capitals_or_digits decimal_of said positions_in first_of told_in figures_in first_bad figures_behind figure_of told joined_of joined_sum refusal_of sum_of charges charge_of first_fault fault_of first rate_of rates spaced decimal digits pick
 paper = refl
 

@@ -62,10 +62,8 @@ fn main(rt: HostRuntime) {
     if help.asked {
         return;
     }
-    let asked = asked::from_words(&rt);
-    if !asked.is_good {
-        told::bad_words(&rt);
-        return;
+    match asked::from_words(&rt) {
+        Some(asked) => run(&rt, asked),
+        None => told::bad_words(&rt),
     }
-    run(&rt, asked);
 }

@@ -105,6 +105,7 @@ pub(crate) fn read(text: &[u8]) -> Held
     let mut held = none();
     let mut at: usize = 0;
     let mut lines: u64 = 0;
+    // A `while`: a turn goes on by its line's length.
     while at < text.len() {
         let rest = &text[at..];
         let n = up_to(rest, b'\n');

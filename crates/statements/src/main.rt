@@ -9,7 +9,7 @@ ghost use Rattle.statements.specs.Printed.{finding_text};
 use feed::Table;
 use streams::standard::{read_input, write_output};
 use streams::{Moved, words};
-use text::decimals::{Decimal, number_of};
+use text::decimals::number_of;
 
 mod printed;
 
@@ -63,8 +63,8 @@ fn from_words(rt: &HostRuntime) {
     let mut word = words::blank();
     let n = words::put_or_none(rt, 1, &mut word);
     match number_of(&word[..n]) {
-        Decimal::Is(tm) => from_book(rt, tm),
-        Decimal::No => bad_words(rt),
+        Some(tm) => from_book(rt, tm),
+        None => bad_words(rt),
     }
 }
 

@@ -36,14 +36,12 @@ fn told(place: usize, lines: usize, count: usize, running: u16, fault: u8) -> Ta
 pub fn line_end(text: &[u8], at: usize) -> usize
     ensures { result ≡ at + line_length (drop at text.now) }
 {
-    let mut i = at;
-    while i < text.len() {
+    for i in at..text.len() {
         if text[i] == b'\n' {
             return i + 1;
         }
-        i += 1;
     }
-    i
+    at.max(text.len())
 }
 
 // Puts the bytes that a line means.
@@ -72,6 +70,7 @@ pub fn bytes_of_text(text: &[u8], last: bool, running: u16, room: &mut [u8]) -> 
     let mut lines: usize = 0;
     let mut count: usize = 0;
     let mut next = running;
+    // A `while`: a turn goes on by its line's length, and a line left for the next piece ends it.
     while place < text.len() {
         let end = line_end(text, place);
         let whole = last | (text[end - 1] == b'\n');
@@ -145,6 +144,7 @@ pub fn text_of_bytes(bytes: &[u8], last: bool, running: u16, room: &mut [u8]) ->
     let mut lines: usize = 0;
     let mut count: usize = 0;
     let mut next = running;
+    // A `while`: a turn goes on by its record's length.
     while place < bytes.len() {
         let found = record_end(bytes, place);
         let end = found.place;

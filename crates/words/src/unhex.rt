@@ -36,6 +36,7 @@ pub(crate) fn hex_at(line: &[u8], at: usize, room: &mut [u8]) -> Count
 {
     let mut n: usize = 0;
     let mut i = at;
+    // A `while`: a blank moves the place alone, a byte both.
     while n < 70 {
         if line.len() <= i {
             return Count { count: n, next: i };
