@@ -56,7 +56,7 @@ fn put_places(t: Table, room: &mut [u8])
     for i in 0..256 {
         let sort = sort_at(Version::Two, i);
         put2(room, sort - 2, t.numbers[i]);
-        put_marks(room, sort, t.sort[i], t.live[i], t.tm[i]);
+        put_marks(room, sort, t.marks.sort[i], t.marks.live[i], t.marks.tm[i]);
         put_amounts(room, sort + 4, &t.amounts, i);
         put_kept(room, sort + 84, t.modes[i], t.needs[i]);
     }
