@@ -9,7 +9,7 @@ pub fn number2(piece: &[u8], place: usize) -> u16
     requires { place + 2 ≤ length piece.now }
     ensures { result ≡ number 2 (drop place piece.now) }
 {
-    piece[place] as u16 * 256 + piece[place + 1] as u16
+    u16::from_be_bytes([piece[place], piece[place + 1]])
 }
 
 pub fn number4(piece: &[u8], place: usize) -> u32
@@ -40,22 +40,19 @@ pub fn put2(room: &mut [u8], place: usize, x: u16)
     requires { place + 2 ≤ length room.old }
     ensures { room.new ≡ sets room.old place (bytes_of 2 x) }
 {
-    room[place] = (x / 256 % 256) as u8;
-    room[place + 1] = (x % 256) as u8;
+    room[place..place + 2].copy_from_slice(&x.to_be_bytes());
 }
 
 pub fn put4(room: &mut [u8], place: usize, x: u32)
     requires { place + 4 ≤ length room.old }
     ensures { room.new ≡ sets room.old place (bytes_of 4 x) }
 {
-    put2(room, place, (x / 65536) as u16);
-    put2(room, place + 2, (x % 65536) as u16);
+    room[place..place + 4].copy_from_slice(&x.to_be_bytes());
 }
 
 pub fn put8(room: &mut [u8], place: usize, x: u64)
     requires { place + 8 ≤ length room.old }
     ensures { room.new ≡ sets room.old place (bytes_of 8 x) }
 {
-    put4(room, place, (x / 4294967296) as u32);
-    put4(room, place + 4, (x % 4294967296) as u32);
+    room[place..place + 8].copy_from_slice(&x.to_be_bytes());
 }
