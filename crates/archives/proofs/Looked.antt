@@ -16,6 +16,18 @@ use Rattle.sums.proofs.Choices.{or_left}
 use Rattle.text.specs.Numbers.{newline}
 use Rattle.archives.specs.Files.{starts_with, has_from}
 
+module _ (bytes line : List ℕ) (at i : ℕ) where
+  -- all of the line was there
+  pub starts-whole : length line ≤ i → starts_with (drop at bytes) (drop i line) ≡ true
+  unfolding starts_with
+  starts-whole l = rw (drop_of_length-le line l)
+
+  module _ (m : i < length line) where
+    -- the bytes end before it
+    pub starts-short : length bytes ≤ at → starts_with (drop at bytes) (drop i line) ≡ false
+    unfolding starts_with
+    starts-short l = rw (drop_of_length-le bytes l, drop-cons line i 0 m)
+
 eqb-turned : (a b : ℕ) → eqb a b ≡ eqb b a
 eqb-turned a b = by (ℕ_discrete a b)
   where

@@ -1,5 +1,5 @@
 -- A file read record by record, up to the first that isn't good.
-use Rattle.std.proofs.Common.{◌≡◌, ℕ, zero, suc, ◌+◌, ◌<◌, ◌≤◌, Option, None, Some, List, ◌∷◌, length, get_or, drop, sym, refl, ap, ◌∙◌, arith, length-drop}
+use Rattle.std.proofs.Common.{◌≡◌, ℕ, zero, suc, None, Some, ◌+◌, ◌<◌, ◌≤◌, List, length, get_or, drop, sym, refl, ap, ◌∙◌, arith, length-drop}
 use Rattle.sums.specs.Choice.{unless_refused}
 use Rattle.sums.proofs.Choices.{refused-by}
 use Rattle.numbers.proofs.Numbers.{two_at}
@@ -12,9 +12,8 @@ use Rattle.dayfile.specs.Records.{fault_of}
 use Rattle.dayfile.specs.Reading.{size_of, found_at, judged, read_of, read_at, number_of}
 use Rattle.dayfile.proofs.RoundTrip.{end_read, read_found}
 use Rattle.dayfile.proofs.Places.{whole-stands, named-from, next-is, next-least, next-within, end-at}
-use Rattle.merging.specs.declared.Fault.{Fault}
 use Rattle.merging.specs.Merging.{Listed, ended, onward, listed_from, listed_in}
-use Rattle.merging.specs.Inner.{looked}
+use Rattle.merging.specs.Inner.{Looked, looked, stopped}
 
 -- ---- what is read at a place
 
@@ -116,29 +115,23 @@ module _ (s : List ℕ) (most at : ℕ) (enough : length s ≤ most) (inside : a
 
 -- ---- the look at a file, record by record
 
--- what stops the reading from a place on, behind k records, is what stops the whole file's
+-- what k records and the listing from a place on come to is what the whole file's comes to
 abbrev pub Looking : List ℕ → ℕ → ℕ → Type 0
 Looking s k at = looked k (listed_from s (length s) at) ≡ looked 0 (listed_in s)
 
+looked-as : (m n x : ℕ) → m ≡ n → ◌≡◌ {A = Looked} (record { records = m; refusal = x }) (record { records = n; refusal = x })
+looked-as m n x e = ap (λ n. record { records = n; refusal = x }) e
+
 module _ (s : List ℕ) (k at : ℕ) (h : Looking s k at) where
-  pub look-ends : length s ≤ at → None ≡ looked 0 (listed_in s)
-  look-ends l = sym (ap (looked k) (listed-end s (length s) at l)) ∙ h
+  pub look-ends : length s ≤ at → None ≡ stopped (looked 0 (listed_in s))
+  look-ends l = sym (ap (λ (m : Listed). stopped (looked k m)) (listed-end s (length s) at l)) ∙ ap stopped h
 
   module _ (inside : at < length s) where
-    pub look-stops : (number_of (read_at s at) ≡ 0 → ⊥) → Some (record { index = k; refusal = number_of (read_at s at) }) ≡ looked 0 (listed_in s)
-    look-stops bad = stops (number_of (read_at s at)) bad ∙ sym (ap (looked k) (on-fault s (length s) at (omega arith) inside bad)) ∙ h
-      where
-        stops : (n : ℕ) → (n ≡ 0 → ⊥) → ◌≡◌ {A = Option Fault} (Some (record { index = k; refusal = n })) (looked k (ended n))
-        stops n b =
-            let e : k ≡ k + 0 = omega arith in
-            ap (λ (i : ℕ). Some (record { index = i; refusal = n })) e ∙ refused-by n None (λ m. Some (record { index = k + 0; refusal = m })) b
+    pub look-stops : (number_of (read_at s at) ≡ 0 → ⊥) → Some (record { index = k; refusal = number_of (read_at s at) }) ≡ stopped (looked 0 (listed_in s))
+    look-stops bad =
+        refused-by (number_of (read_at s at)) None (λ n. Some (record { index = k; refusal = n })) bad
+        ∙ ap stopped (looked-as k (k + 0) _ (omega arith) ∙ sym (ap (looked k) (on-fault s (length s) at (omega arith) inside bad)) ∙ h)
 
     pub look-on : number_of (read_at s at) ≡ 0 → Looking s (k + 1) (at + size_of (get_or s (at + 1) 0))
     look-on z =
-        let g = good-at s at inside z in
-        more g.of (listed_from s (length s) (at + size_of (get_or s (at + 1) 0))) ∙ sym (ap (looked k) (on-good s (length s) at (omega arith) inside g.read)) ∙ h
-      where
-        more : (r : Record) (l : Listed) → looked (k + 1) l ≡ looked k (record { records = r ∷ l.records; refusal = l.refusal })
-        more r l =
-            let e : k + 1 + length l.records ≡ k + suc (length l.records) = omega arith in
-            ap (λ (i : ℕ). unless_refused l.refusal None (λ n. Some (record { index = i; refusal = n }))) e
+        looked-as _ _ _ (omega arith) ∙ sym (ap (looked k) (on-good s (length s) at (omega arith) inside (good-at s at inside z).read)) ∙ h

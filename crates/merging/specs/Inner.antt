@@ -5,9 +5,17 @@ use Rattle.dayfile.specs.Files.{file_of}
 use Rattle.merging.specs.declared.Fault.{Fault}
 use Rattle.merging.specs.Merging.{Listed, listed_in, renumbered}
 
--- how many records are good behind k others, and what stops the reading, where anything does
-abbrev pub looked : ℕ → Listed → Option Fault
-looked k l = unless_refused l.refusal None (λ n. Some (record { index = k + length l.records; refusal = n }))
+pub record Looked : Type 0 where
+  pub records : ℕ
+  pub refusal : ℕ
+
+-- how many records are good behind k others, and what stops the reading
+abbrev pub looked : ℕ → Listed → Looked
+looked k l = record { records = k + length l.records; refusal = l.refusal }
+
+-- the record at which it stops, where it does
+abbrev pub stopped : Looked → Option Fault
+stopped x = unless_refused x.refusal None (λ n. Some (record { index = x.records; refusal = n }))
 
 -- a room whose first n bytes are a file, with the file's records renumbered
 abbrev pub renumbered_in : List ℕ → ℕ → ℕ → List ℕ

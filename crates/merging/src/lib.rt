@@ -4,7 +4,7 @@
 ghost use Rattle.std.specs.Prelude.{◌≡◌, ◌≤◌, length, take};
 ghost use Rattle.dayfile.specs.Reading.{number_of};
 ghost use Rattle.merging.specs.Merging.{listed_in, not_merged, merged_of, room_merged};
-ghost use Rattle.merging.specs.Inner.{looked, renumbered_in};
+ghost use Rattle.merging.specs.Inner.{looked, stopped, renumbered_in};
 
 use dayfile::{Read, size};
 use numbers::put2;
@@ -45,7 +45,7 @@ fn number_of(read: Read) -> u8
 
 // Each record says how long it is, so no count of places leads the walk, here and in renumber.
 fn look(file: &[u8]) -> Option<Fault>
-    ensures { result ≡ looked 0 (listed_in file.now) }
+    ensures { result ≡ stopped (looked 0 (listed_in file.now)) }
 {
     let mut index: usize = 0;
     let mut place: usize = 0;
