@@ -104,10 +104,9 @@ fn asks_for_lines(rt: &HostRuntime) -> bool {
 }
 
 fn run(rt: &HostRuntime, lines: bool, from: usize) {
-    let losses = file::from_argument(rt, lines);
-    if !losses.readable {
+    let Some(losses) = file::from_argument(rt, lines) else {
         return;
-    }
+    };
     let start = feed::books::from_word(rt, b"closeouts", from);
     if start.failed {
         return;
