@@ -15,9 +15,7 @@ use table::{Marks, Table};
 fn with_tm(r: Row, tm: u16) -> Row
     ensures { result ≡ with_tm r tm }
 {
-    let mut x = r;
-    x.tm = tm;
-    x
+    Row { tm, ..r }
 }
 
 // Row i is taken out, and put at place k where it is live; `to` has the place of its TM.

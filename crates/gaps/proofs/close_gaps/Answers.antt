@@ -26,13 +26,16 @@ slide_row-kept-requires c =
     let h = inside c.requires.closable c.loop-i-test.true g in (g.size, h.0, h.1, tm-inside _ c.requires.closable c.loop-i-test.true g)
 
 pub slide-requires : goal.slide-requires
-slide-requires c = (omega arith, inside c.requires.closable c.loop-i-test.true c.loop-i.invariant)
+slide-requires c =
+    let h = inside c.requires.closable c.loop-i-test.true c.loop-i.invariant in (omega arith, (omega (arith, h.0, h.1), omega (arith, h.0, h.1)))
 
 pub slide-requires-in-loop-i : goal.slide-requires-in-loop-i
-slide-requires-in-loop-i c = (omega arith, inside c.requires.closable c.loop-i-test.true c.loop-i.invariant)
+slide-requires-in-loop-i c =
+    let h = inside c.requires.closable c.loop-i-test.true c.loop-i.invariant in (omega arith, (omega (arith, h.0, h.1), omega (arith, h.0, h.1)))
 
 pub slide-requires-in-loop-i-2 : goal.slide-requires-in-loop-i-2
-slide-requires-in-loop-i-2 c = (omega arith, inside c.requires.closable c.loop-i-test.true c.loop-i.invariant)
+slide-requires-in-loop-i-2 c =
+    let h = inside c.requires.closable c.loop-i-test.true c.loop-i.invariant in (omega arith, (omega (arith, h.0, h.1), omega (arith, h.0, h.1)))
 
 pub overflow_add-k : goal.overflow_add-k
 overflow_add-k c =
