@@ -40,8 +40,7 @@ fn put_losses(
     ensures upper_bound { result ≤ 126 * n }
 {
     let mut at: usize = 0;
-    let mut i: usize = 0;
-    while i < n {
+    for i in 0..n {
         let number = number_at(numbers, i);
         let k = 4 * i;
         at = put_six(
@@ -54,7 +53,6 @@ fn put_losses(
             amounts[k + 2],
             amounts[k + 3],
         );
-        i += 1;
     }
     at
 }

@@ -74,13 +74,11 @@ fn read_more<F: Read>(from: &mut F, room: &mut [u8]) -> Ended
     ensures count_in_bounds { result.moved.count ≤ length room.new }
     ensures count_value { result.moved.failed ≡ true → result.moved.count ≡ 0 }
 {
-    let mut left = AGAIN;
     let mut got = from.read(room);
-    while 0 < left {
+    for _ in 0..AGAIN {
         if !interrupted(got) {
             break;
         }
-        left -= 1;
         got = from.read(room);
     }
     Ended {
@@ -134,13 +132,11 @@ pub fn read_all<F: Read>(from: &mut F, room: &mut [u8]) -> Moved
 fn write_more<F: Write>(to: &mut F, text: &[u8]) -> Ended
     ensures { result.moved.count ≤ length text.now }
 {
-    let mut left = AGAIN;
     let mut put = to.write(text);
-    while 0 < left {
+    for _ in 0..AGAIN {
         if !interrupted(put) {
             break;
         }
-        left -= 1;
         put = to.write(text);
     }
     Ended {

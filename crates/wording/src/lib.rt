@@ -99,8 +99,7 @@ fn in_pieces(
     let mut lines: u64 = 0;
     let mut printed: u64 = 0;
     let mut ended = false;
-    let mut turns: u64 = 0;
-    while turns < TURNS {
+    for turns in 0..TURNS {
         let got = refill(rt, program, &mut source, &mut space, rest, ended);
         if got.failed {
             return no_words();
@@ -131,7 +130,6 @@ fn in_pieces(
             return bad_line(rt, program, printing, lines + 1, 34);
         }
         rest = to_front(&mut space, taken.place, held);
-        turns += 1;
     }
     no_words()
 }
