@@ -62,7 +62,7 @@ fn main(rt: HostRuntime) {
         &rt,
         b"calls: answers the library calls on standard input, a byte for the call and then its arguments; a line for each\nusage: calls < CALLS\n",
     );
-    if help.asked {
+    if help.is_some() {
         return;
     }
     run(&rt);

@@ -4,7 +4,7 @@ ghost use Rattle.text.specs.Numbers.{spaced};
 ghost use Rattle.text.specs.Inner.{Puts};
 ghost use Rattle.report.specs.Reports.{loss_lines, close_out_text};
 
-use crate::{accounts, lesser, number_at};
+use crate::{accounts, number_at};
 use text::{put_number, put_spaced, put_text};
 
 // Puts a word with the space behind it, then a number.
@@ -73,7 +73,7 @@ pub(crate) fn put_close_out(
     if refusal != 0 {
         return put_labelled(room, 0, b"refused ", refusal as u64);
     }
-    let n = accounts(lesser(losses.len(), amounts.len() / 4));
+    let n = accounts(losses.len().min(amounts.len() / 4));
     let at = put_losses(room, n, numbers, losses, amounts);
     put_labelled(room, at, b"total ", total)
 }

@@ -27,11 +27,9 @@ pub(crate) fn put_needs(room: &mut [u8], t: Table, n: usize) -> usize
     requires { (n ≡ Reports·accounts t.count) × (42 * n ≤ length room.old) }
     ensures { Puts room.old 0 (needs_text (turned_back t)) room.new result }
 {
-    let tested = all_needs(t, n);
-    if !tested.sound {
+    let Some(needs) = all_needs(t, n) else {
         return 0;
-    }
-    let needs = tested.needs;
+    };
     let numbers = t.numbers;
     put_list(room, &numbers, &needs[..n])
 }
