@@ -18,9 +18,8 @@ use lookup::place_among;
 pub use rows::CEILING;
 use rows::Rule;
 use sound::{table_kept, table_sound};
-use table::Marks;
-pub use table::Table;
 use table::needs::{account_at, needs_afresh};
+pub use table::{Marks, Table};
 
 // A standing's five figures, the account's mode and, of account 0, the shortfall (K8), behind the refusal number or 0.
 #[derive(Clone, Copy)]

@@ -14,8 +14,7 @@ use Rattle.sums.proofs.Choices.{and_right, and-join, pick_yes, pick_no}
 use Rattle.sums.proofs.Lists.{list-is}
 use Rattle.numbers.specs.Bytes.{number, bytes_of}
 use Rattle.numbers.proofs.Numbers.{length-bytes_of, drop-bytes_of, number-bytes_of}
-use Rattle.closeouts.specs.declared.losses.Losses.{Losses}
-use Rattle.closeouts.specs.Losses.{loss_in, loss_count, losses_of, loss_file, Fits, Came}
+use Rattle.closeouts.specs.Losses.{loss_in, loss_count, losses_of, loss_file, Fits}
 
 -- no more losses than the file has room for, and at most 256
 pub count-within : (n : ℕ) → (8 * loss_count n ≤ n) × (loss_count n ≤ 256)
@@ -33,11 +32,6 @@ unfolding losses_of
 first-places file list n e l h =
     sym (list-is (loss_in file) n 0 (take n list) (length-take-le n list l) (λ i m. get_or-take n list i 0 m ∙ h i m))
     ∙ ap (list_to (loss_in file)) e
-
--- no bytes have no losses
-pub none_came : (l : Losses) → l.count ≡ 0 → Came l
-unfolding losses_of loss_count pick list_to
-none_came l e = record { file = []; bytes = λ i. omega arith; is = ap (λ (n : ℕ). take n l.list) e }
 
 -- k times eight bytes are k losses, up to 256
 count-of-all : (k : ℕ) → k ≤ 256 → loss_count (8 * k) ≡ k

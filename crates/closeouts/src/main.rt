@@ -104,10 +104,9 @@ fn asks_for_lines(rt: &HostRuntime) -> bool {
 }
 
 fn run(rt: &HostRuntime, lines: bool, from: usize) {
-    let losses = file::from_argument(rt, lines);
-    if !losses.readable {
+    let Some(losses) = file::from_argument(rt, lines) else {
         return;
-    }
+    };
     let start = feed::books::from_word(rt, b"closeouts", from);
     if start.failed {
         return;
@@ -136,7 +135,7 @@ fn main(rt: HostRuntime) {
         &rt,
         b"closeouts: carries out the day file on standard input over a fresh book, or over the one in the file FROM (- for a fresh one); the closing line, then who pays the losses in the file LOSSES, a line for each account; with --lines LOSSES is a text, a line NUMBER AMOUNT for each account that has a loss\nusage: closeouts [--lines] LOSSES [FROM] < DAYFILE\n",
     );
-    if help.asked {
+    if help.is_some() {
         return;
     }
     let lines = asks_for_lines(&rt);

@@ -11,8 +11,10 @@ fn loss_for(numbers: &[u16; 256], amounts: &[u64; 256], count: usize, n: u16) ->
     requires { (count ≤ 256) × (length numbers.now ≡ 256) × (length amounts.now ≡ 256) }
     ensures { result ≡ loss_for (take count numbers.now) (take count amounts.now) n }
 {
-    let p = first_place(numbers, count, n);
-    if p < count { amounts[p] } else { 0 }
+    match first_place(numbers, count, n) {
+        Some(p) => amounts[p],
+        None => 0,
+    }
 }
 
 // A loss for each of the first n rows.
@@ -28,10 +30,8 @@ pub(crate) fn row_losses(
         (get_or rows.now i 0)) n }
 {
     let mut list = [0u64; 256];
-    let mut i: usize = 0;
-    while i < n {
+    for i in 0..n {
         list[i] = loss_for(numbers, amounts, count, rows[i]);
-        i += 1;
     }
     list
 }
@@ -42,10 +42,8 @@ pub(crate) fn all_held(rows: &[u16; 256], n: usize, numbers: &[u16; 256], count:
     ensures { result ≡ all count (λ i. ltb (place_among rows.now n (get_or numbers.now i 0)) n) }
 {
     let mut ok = true;
-    let mut i: usize = 0;
-    while i < count {
-        ok = ok & (first_place(rows, n, numbers[i]) < n);
-        i += 1;
+    for i in 0..count {
+        ok = ok & first_place(rows, n, numbers[i]).is_some();
     }
     ok
 }

@@ -67,12 +67,10 @@ fn put_all(form: Form, figures: &[i64], n: usize, room: &mut [u64])
     requires { (n ≡ clients_in form (length figures.now)) × (length room.old ≡ 2 * n) }
     ensures { room.new ≡ list_to (number_in_room form figures.now) (2 * n) }
 {
-    let mut i: usize = 0;
-    while i < n {
+    for i in 0..n {
         let exposure = client(form, figures, i);
         room[2 * i] = exposure.refusal as u64;
         room[2 * i + 1] = exposure.amount;
-        i += 1;
     }
 }
 

@@ -9,7 +9,7 @@ ghost use Rattle.statements.specs.Printed.{finding_text};
 use feed::Table;
 use streams::standard::{read_input, write_output};
 use streams::{Moved, words};
-use text::decimals::{Decimal, number_of};
+use text::decimals::number_of;
 
 mod printed;
 
@@ -63,8 +63,8 @@ fn from_words(rt: &HostRuntime) {
     let mut word = words::blank();
     let n = words::put_or_none(rt, 1, &mut word);
     match number_of(&word[..n]) {
-        Decimal::Is(tm) => from_book(rt, tm),
-        Decimal::No => bad_words(rt),
+        Some(tm) => from_book(rt, tm),
+        None => bad_words(rt),
     }
 }
 
@@ -73,7 +73,7 @@ fn main(rt: HostRuntime) {
         &rt,
         b"statements: checks a TM's statement on standard input against the book in the file FROM; prints 0 where it is accepted, and otherwise the refusal, the record at fault, counted from 0, and the account wanted there\nusage: statements TM FROM < STATEMENT\n",
     );
-    if help.asked {
+    if help.is_some() {
         return;
     }
     if streams::standard::too_many_words(&rt, b"statements", 2) {

@@ -18,12 +18,9 @@ pub fn put_text(room: &mut [u8], at: usize, text: &[u8]) -> usize
     requires { at + length text.now ≤ length room.old }
     ensures { Puts room.old at text.now room.new result }
 {
-    let mut i: usize = 0;
-    while i < text.len() {
-        room[at + i] = text[i];
-        i += 1;
-    }
-    at + i
+    let end = at + text.len();
+    room[at..end].copy_from_slice(text);
+    end
 }
 
 // Puts a number and the byte after it, and gives the place after both.
@@ -80,10 +77,8 @@ pub fn put_each(room: &mut [u8], at: usize, list: &[u64], n: usize) -> usize
     ensures upper_bound { result ≤ at + 21 * n }
 {
     let mut place = at;
-    let mut i: usize = 0;
-    while i < n {
-        place = put_number(room, place, list[i], b' ');
-        i += 1;
+    for x in &list[..n] {
+        place = put_number(room, place, *x, b' ');
     }
     place
 }

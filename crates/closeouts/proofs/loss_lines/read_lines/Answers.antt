@@ -12,14 +12,14 @@ slice_bounds-loss_of-end c =
     let within = line-within t l.place _ c.loop-place-test.true e.ensures in
     within
 
-pub returns-then-not-one-clause-result_value : goal.returns-then-not-one-clause-result_value
-returns-then-not-one-clause-result_value c =
+pub returns-in-Err-clause-result_value : goal.returns-in-Err-clause-result_value
+returns-in-Err-clause-result_value c =
     let l = c.loop-place in
     let t = c.args.text.now in
     let e = c.line_end-end in
     let more = line-more t l.place _ c.loop-place-test.true e.ensures in
     let within = line-within t l.place _ c.loop-place-test.true e.ensures in
-    text-fails t l.place l.line l.count l.numbers l.amounts _ c.loop-place-test.true e.ensures l.invariant.0 c.loss_of-loss.ensures c.put_loss-one.ensures c.if-not-one.true
+    text-fails t l.place l.line l.count l.numbers l.amounts _ c.loop-place-test.true e.ensures l.invariant.0 c.loss_of-loss.ensures _ c.in-Err.ensures
 
 pub loop-place-smaller : goal.loop-place-smaller
 loop-place-smaller c =
@@ -37,8 +37,8 @@ loop-place-preserved c =
     let e = c.line_end-end in
     let more = line-more t l.place _ c.loop-place-test.true e.ensures in
     let within = line-within t l.place _ c.loop-place-test.true e.ensures in
-    let p = c.put_loss-one.ensures in
-    (text-goes t l.place l.line l.count l.numbers l.amounts _ c.loop-place-test.true e.ensures l.invariant.0 c.loss_of-loss.ensures c.put_loss-one.ensures c.if-not-one.false, p.few, p.wide, p.long, omega arith, omega (arith, more, l.invariant), within)
+    let p = c.in-Ok.ensures in
+    (text-goes t l.place l.line l.count l.numbers l.amounts _ c.loop-place-test.true e.ensures l.invariant.0 c.loss_of-loss.ensures _ p, p.few, p.wide, p.long, omega arith, omega (arith, more, l.invariant), within)
 
 pub returns-clause-result_value : goal.returns-clause-result_value
 returns-clause-result_value c =

@@ -1,10 +1,10 @@
-use Rattle.std.proofs.Common.{sym, arith}
+use Rattle.std.proofs.Common.{◌&&◌, sym, ap, ◌∙◌}
 use Rattle.sums.proofs.Sums.{all_none}
 use Rattle.closeouts.proofs.Named.{held_more}
 use Rattle.closeouts.proofs.matching.all_held.Goals as goal
 
 pub loop-i-init : goal.loop-i-init
-loop-i-init c = (omega arith, sym (all_none _))
+loop-i-init c = sym (all_none _)
 
 pub loop-i-preserved : goal.loop-i-preserved
-loop-i-preserved c = (omega (arith, c.loop-i-test.true), held_more c.args.rows.now c.args.n c.args.numbers.now c.loop-i.i _ _ c.loop-i.invariant.1 c.first_place.ensures)
+loop-i-preserved c = ap (λ t. c.loop-i.ok && t) c.is_some-ok.ensures ∙ held_more c.args.rows.now c.args.n c.args.numbers.now c.loop-i.i _ _ c.loop-i.invariant c.first_place.ensures

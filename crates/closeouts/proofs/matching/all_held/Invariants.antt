@@ -1,10 +1,7 @@
-use Rattle.std.proofs.Common.{ℕ, ◌≡◌, ◌-◌, ◌≤◌, ltb, get_or}
+use Rattle.std.proofs.Common.{ℕ, ◌≡◌, ltb, get_or}
 use Rattle.sums.specs.Sum.{all}
 use Rattle.rows.specs.Rows.{place_among}
 use Rattle.closeouts.proofs.matching.all_held.Given as goal
 
 abbrev pub invariant-loop-i : goal.invariant-loop-i
-invariant-loop-i l = (l.i ≤ l.count) × (l.ok ≡ all l.i (λ (j : ℕ). ltb (place_among l.rows l.n (get_or l.numbers j 0)) l.n))
-
-abbrev pub decreases-loop-i : goal.decreases-loop-i
-decreases-loop-i l = l.count - l.i
+invariant-loop-i l = l.ok ≡ all l.i (λ (j : ℕ). ltb (place_among l.rows l.n (get_or l.numbers j 0)) l.n)

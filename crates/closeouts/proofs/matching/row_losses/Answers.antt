@@ -7,4 +7,4 @@ pub returns : goal.returns
 returns c =
     let l = c.loop-i in
     let n = c.args.n in
-    sym (list-is _ n 0 (take n l.list) (length-take-le n l.list (omega (arith, c.requires.0, l.invariant.1))) (λ j q. get_or-take n l.list j 0 q ∙ l.invariant.2 j (omega (arith, q, c.loop-i-test.false))))
+    sym (list-is _ n 0 (take n l.list) (length-take-le n l.list (omega (arith, c.requires.0, l.invariant.0))) (λ j q. get_or-take n l.list j 0 q ∙ l.invariant.1 j (omega (arith, q, c.loop-i-test.false))))
