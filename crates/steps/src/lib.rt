@@ -1,4 +1,5 @@
 // One record carried out on the table's words in place: decided by its code, then kept needs (K3) and modes (K2) follow.
+// Refusals stay document 01's numbers, 0 for none: the table of refusals gives them so (`sums.Table.first`).
 #![tactic(auto)]
 
 ghost use Rattle.std.specs.Prelude.{◌≡◌, ◌<◌, true};
@@ -43,6 +44,7 @@ pub struct Lent {
 }
 
 // What a record came to: the refusal or 0, the number given or 0, 1 for one carried out, and the count, the serial and the next number after it.
+// No Result: count, serial and next stand beside a refusal too, since 4 to 14 move the serial on.
 #[derive(Clone, Copy)]
 pub struct Gone {
     pub refusal: u8,
