@@ -18,6 +18,7 @@ fn amount_near(piece: &[u8], place: usize, bit: u8) -> u64
 }
 
 // Where each of a record's six amounts stands, or would stand.
+// Not an array: each place is named once, by the amount that stands there.
 #[derive(Clone, Copy)]
 struct Places {
     p0: usize,

@@ -7,6 +7,7 @@ ghost use Rattle.exposure.specs.Lists.{figures_from, width_of, clients_in, clien
 use crate::{Exposure, end_of_day, intraday};
 
 // How many figures a client has: two, or four at the end of day.
+// Two forms of one paper, 000, and not two sizes: the figures behind the second two have other names.
 #[derive(Clone, Copy)]
 pub enum Form {
     Intraday,
