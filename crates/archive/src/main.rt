@@ -52,7 +52,7 @@ fn main(rt: HostRuntime) {
         &rt,
         b"archive: moves the retired accounts out of the book in the file FROM, a line for each into the text file ARCHIVE, the book without them into the file TO; prints 0 and how many moved, or 1 0 where the book isn't sound\nusage: archive FROM TO ARCHIVE\n",
     );
-    if help.asked {
+    if help.is_some() {
         return;
     }
     if streams::standard::too_many_words(&rt, b"archive", 3) {

@@ -13,7 +13,7 @@ use text::put_text;
 mod entry;
 mod found;
 
-// Whether a line was put, and how many bytes the file then has.
+// Whether a line was put, and how many bytes the file then has: the count holds in either case, so this is no Option.
 #[derive(Clone, Copy)]
 pub struct Filed {
     pub put: bool,

@@ -1,9 +1,9 @@
 // Calls 3, 4 and 5: records carried out. Call 10: a book taken over.
-ghost use Rattle.std.specs.Prelude.{◌+◌, ◌≤◌, length};
+ghost use Rattle.std.specs.Prelude.{◌+◌, ◌≤◌, length, IfSome};
 
-use crate::call::{Told, none};
+use crate::call::Told;
 use crate::changed::put_book;
-use crate::taken::{PIECE, length4, record};
+use crate::taken::{PIECE, length_at, record};
 use desk::{Answer, Outcome, Record};
 use numbers::number8;
 use run::{Closing, Table};
@@ -52,19 +52,18 @@ fn put_carried(room: &mut [u8], before: Table, r: Record) -> usize
     put_book(room, at, before, after)
 }
 
-pub(crate) fn carry_out(bytes: &[u8], table: Table, room: &mut [u8]) -> Told
+pub(crate) fn carry_out(bytes: &[u8], table: Table, room: &mut [u8]) -> Option<Told>
     requires { 178000 ≤ length room.old }
-    ensures { (result.size ≤ length bytes.now) × (result.text ≤ length room.new) }
+    ensures { IfSome result (λ t. (t.size ≤ length bytes.now) × (t.text ≤ length room.new)) }
 {
     if bytes.len() < 54 {
-        return none();
+        return None;
     }
     let r = record(bytes, 0);
-    Told {
-        is_call: true,
+    Some(Told {
         size: 54,
         text: put_carried(room, table, r),
-    }
+    })
 }
 
 // Carries out the record at a place of a piece, and puts the line.
@@ -106,53 +105,60 @@ fn put_day(room: &mut [u8], before: Table, piece: &[u8], most: u64) -> usize
     put_book(room, at, before, after)
 }
 
-fn put_either(room: &mut [u8], call: u8, t: Table, piece: &[u8], number: u64) -> usize
-    requires { 178000 ≤ length room.old }
-    ensures { result ≤ length room.new }
-{
-    if call == 4 {
-        put_next(room, t, piece, number as usize)
-    } else {
-        put_day(room, t, piece, number)
-    }
+// Where a piece behind its length ends, and the place or the number behind it.
+#[derive(Clone, Copy)]
+struct Behind {
+    end: usize,
+    number: u64,
 }
 
-// Calls 4 and 5: a piece, and a place or a number.
-pub(crate) fn of_piece(call: u8, bytes: &[u8], table: Table, room: &mut [u8]) -> Told
-    requires { 178000 ≤ length room.old }
-    ensures { (result.size ≤ length bytes.now) × (result.text ≤ length room.new) }
+fn piece_of(bytes: &[u8]) -> Option<Behind>
+    ensures { IfSome result (λ a. (4 ≤ a.end) × (a.end + 8 ≤ length bytes.now)) }
 {
-    let from: usize = 4;
-    if bytes.len() < from {
-        return none();
+    let end = 4 + length_at(bytes, 0, PIECE)?;
+    if bytes.len() < end + 8 {
+        return None;
     }
-    let n = length4(bytes, 0);
-    if PIECE < n {
-        return none();
-    }
-    let to = from + n;
-    if bytes.len() < to + 8 {
-        return none();
-    }
-    let number = number8(bytes, to);
-    Told {
-        is_call: true,
-        size: to + 8,
-        text: put_either(room, call, table, &bytes[from..to], number),
-    }
+    Some(Behind {
+        end,
+        number: number8(bytes, end),
+    })
+}
+
+// Call 4: a piece and a place.
+pub(crate) fn carry_out_next(bytes: &[u8], table: Table, room: &mut [u8]) -> Option<Told>
+    requires { 178000 ≤ length room.old }
+    ensures { IfSome result (λ t. (t.size ≤ length bytes.now) × (t.text ≤ length room.new)) }
+{
+    let asked = piece_of(bytes)?;
+    Some(Told {
+        size: asked.end + 8,
+        text: put_next(room, table, &bytes[4..asked.end], asked.number as usize),
+    })
+}
+
+// Call 5: a piece and a number.
+pub(crate) fn day(bytes: &[u8], table: Table, room: &mut [u8]) -> Option<Told>
+    requires { 178000 ≤ length room.old }
+    ensures { IfSome result (λ t. (t.size ≤ length bytes.now) × (t.text ≤ length room.new)) }
+{
+    let asked = piece_of(bytes)?;
+    Some(Told {
+        size: asked.end + 8,
+        text: put_day(room, table, &bytes[4..asked.end], asked.number),
+    })
 }
 
 // Takes a book over to the rule of K7, and puts the line.
-pub(crate) fn take_over(before: Table, room: &mut [u8]) -> Told
+pub(crate) fn take_over(before: Table, room: &mut [u8]) -> Option<Told>
     requires { 178000 ≤ length room.old }
-    ensures { (result.size ≤ 0) × (result.text ≤ length room.new) }
+    ensures { IfSome result (λ t. (t.size ≤ 0) × (t.text ≤ length room.new)) }
 {
     let taken = book::take_over(before);
     let after = taken.table;
     let at = put_number(room, 0, taken.refusal as u64, b' ');
-    Told {
-        is_call: true,
+    Some(Told {
         size: 0,
         text: put_book(room, at, before, after),
-    }
+    })
 }

@@ -5,25 +5,14 @@ use crate::rooms::{LINE, put_line};
 use desk::Table;
 use text::put_text;
 
-// A yes or no as a number.
-pub(crate) fn one_if(yes: bool) -> u64 {
-    if yes { 1 } else { 0 }
-}
-
-fn differ(a: bool, b: bool) -> bool {
-    if a { !b } else { b }
-}
-
 // Whether any of the ten amounts of account i differs.
 fn amounts_differ(a: &[u64; 2560], b: &[u64; 2560], i: usize) -> bool
     requires { i < 256 }
 {
-    let mut k: usize = i;
-    while k < 2560 {
-        if a[k] != b[k] {
+    for k in 0..10 {
+        if a[256 * k + i] != b[256 * k + i] {
             return true;
         }
-        k += 256;
     }
     false
 }
@@ -32,10 +21,8 @@ fn amounts_differ(a: &[u64; 2560], b: &[u64; 2560], i: usize) -> bool
 fn put_amounts(list: &mut [u64; 4355], n: usize, i: usize, w: &[u64; 2560])
     requires { (i < 256) × (n + 10 ≤ 4355) }
 {
-    let mut k: usize = 0;
-    while k < 10 {
+    for k in 0..10 {
         list[n + k] = w[256 * k + i];
-        k += 1;
     }
 }
 
@@ -60,12 +47,12 @@ fn put_place(
         return n;
     }
     list[n] = i as u64;
-    list[n + 1] = number as u64;
-    list[n + 2] = sort as u64;
-    list[n + 3] = one_if(live);
-    list[n + 4] = tm as u64;
+    list[n + 1] = u64::from(number);
+    list[n + 2] = u64::from(sort);
+    list[n + 3] = u64::from(live);
+    list[n + 4] = u64::from(tm);
     put_amounts(list, n + 5, i, w);
-    list[n + 15] = one_if(mode);
+    list[n + 15] = u64::from(mode);
     list[n + 16] = need;
     n + 17
 }
@@ -79,21 +66,19 @@ fn put_changes(list: &mut [u64; 4355], a: Table, b: Table) -> usize
     list[1] = b.serial as u64;
     list[2] = b.next as u64;
     let mut n: usize = 3;
-    let mut i: usize = 0;
-    while i < 256 {
+    for i in 0..256 {
         let number = b.numbers[i];
         let sort = b.sort[i];
         let live = b.live[i];
         let tm = b.tm[i];
         let mode = b.modes[i];
         let need = b.needs[i];
-        let marks = (a.sort[i] != sort) | differ(a.live[i], live) | (a.tm[i] != tm);
-        let kept = differ(a.modes[i], mode) | (a.needs[i] != need) | (a.numbers[i] != number);
+        let marks = (a.sort[i] != sort) | (a.live[i] != live) | (a.tm[i] != tm);
+        let kept = (a.modes[i] != mode) | (a.needs[i] != need) | (a.numbers[i] != number);
         let changed = marks | kept | amounts_differ(&a.amounts, &b.amounts, i);
         n = put_place(
             list, n, i, changed, number, sort, live, tm, mode, need, &b.amounts,
         );
-        i += 1;
     }
     n
 }

@@ -1,8 +1,8 @@
 // Call 11: the record that sets a client's margin on the currency desk.
-ghost use Rattle.std.specs.Prelude.{◌≡◌, ◌+◌, ◌*◌, ◌≤◌, length};
+ghost use Rattle.std.specs.Prelude.{◌≡◌, ◌+◌, ◌*◌, ◌≤◌, length, IfSome};
 
-use crate::call::{Told, none};
-use crate::taken::{LIST, length4};
+use crate::call::Told;
+use crate::taken::{LIST, length_at};
 use currency::{MOST, Made, Position, Record, Side};
 use numbers::{number2, number8};
 use text::{put_number, put_spaced};
@@ -35,12 +35,10 @@ fn position(bytes: &[u8], at: usize) -> Position
 fn sides_known(bytes: &[u8], n: usize) -> bool
     requires { (n ≤ 4096) × (17 + 10 * n ≤ length bytes.now) }
 {
-    let mut i: usize = 0;
-    while i < n {
+    for i in 0..n {
         if 3 < bytes[FROM + 10 * i + 1] {
             return false;
         }
-        i += 1;
     }
     true
 }
@@ -55,35 +53,24 @@ pub(crate) fn positions(bytes: &[u8], n: usize) -> [Position; 64]
         notional: 0,
     };
     let mut list = [empty; 64];
-    let mut i: usize = 0;
-    while i < MOST {
-        if i < n {
-            list[i] = position(bytes, FROM + 10 * i);
-        }
-        i += 1;
+    for i in 0..n.min(MOST) {
+        list[i] = position(bytes, FROM + 10 * i);
     }
     list
 }
 
-// How many positions there are, all of them there; more than any list has where that isn't so.
-pub(crate) fn count_of(bytes: &[u8]) -> usize
-    ensures { result ≤ 4096 → 17 + 10 * result ≤ length bytes.now }
+// How many positions there are, all of them there and each of a known side.
+pub(crate) fn count_of(bytes: &[u8]) -> Option<usize>
+    ensures { IfSome result (λ n. (n ≤ 4096) × (17 + 10 * n ≤ length bytes.now)) }
 {
-    let no = LIST + 1;
-    if bytes.len() < FROM {
-        return no;
-    }
-    let n = length4(bytes, 13);
-    if LIST < n {
-        return no;
-    }
+    let n = length_at(bytes, 13, LIST)?;
     if bytes.len() < FROM + 10 * n {
-        return no;
+        return None;
     }
     if !sides_known(bytes, n) {
-        return no;
+        return None;
     }
-    n
+    Some(n)
 }
 
 fn made_of(bytes: &[u8], n: usize) -> Made
@@ -129,18 +116,14 @@ pub(crate) fn put_made(room: &mut [u8], made: Made) -> usize
     }
 }
 
-pub(crate) fn margin(bytes: &[u8], room: &mut [u8]) -> Told
+pub(crate) fn margin(bytes: &[u8], room: &mut [u8]) -> Option<Told>
     requires { 178000 ≤ length room.old }
-    ensures { (result.size ≤ length bytes.now) × (result.text ≤ length room.new) }
+    ensures { IfSome result (λ t. (t.size ≤ length bytes.now) × (t.text ≤ length room.new)) }
 {
-    let n = count_of(bytes);
-    if LIST < n {
-        return none();
-    }
+    let n = count_of(bytes)?;
     let made = made_of(bytes, n);
-    Told {
-        is_call: true,
+    Some(Told {
         size: FROM + 10 * n,
         text: put_made(room, made),
-    }
+    })
 }

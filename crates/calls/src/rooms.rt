@@ -8,16 +8,22 @@ use text::{put_each, put_spaced};
 // The most numbers of a part of a line: count, serial, next number, and seventeen for each of 256 places.
 pub(crate) const LINE: usize = 4_355;
 
+// Fills a room by its places, from 1 on.
+fn fill<T: Copy, F: Fn(usize) -> T>(room: &mut [T], of: F)
+    requires callable { F.IsAlwaysCallable of }
+    requires short { length room.old ≤ 4096 }
+{
+    for (i, x) in room.iter_mut().enumerate() {
+        *x = of(i + 1);
+    }
+}
+
 pub(crate) fn numbers(n: usize) -> [u64; LINE]
     requires { n ≤ 4096 }
     ensures { length result ≡ 4355 }
 {
-    let mut line = [0u64; LINE];
-    let mut i: usize = 2;
-    while i < n + 2 {
-        line[i] = (i - 1) as u64;
-        i += 1;
-    }
+    let mut line = [0; LINE];
+    fill(&mut line[2..n + 2], |i| i as u64);
     line
 }
 
@@ -25,12 +31,8 @@ pub(crate) fn bytes(n: usize) -> [u8; LIST]
     requires { n ≤ 4096 }
     ensures { length result ≡ 4096 }
 {
-    let mut room = [0u8; LIST];
-    let mut i: usize = 0;
-    while i < n {
-        room[i] = ((i + 1) % 256) as u8;
-        i += 1;
-    }
+    let mut room = [0; LIST];
+    fill(&mut room[..n], |i| (i % 256) as u8);
     room
 }
 
@@ -38,47 +40,19 @@ pub(crate) fn words(n: usize) -> [u16; LIST]
     requires { n ≤ 4096 }
     ensures { length result ≡ 4096 }
 {
-    let mut room = [0u16; LIST];
-    let mut i: usize = 0;
-    while i < n {
-        room[i] = (i + 1) as u16;
-        i += 1;
-    }
+    let mut room = [0; LIST];
+    fill(&mut room[..n], |i| (i % 65536) as u16);
     room
 }
 
-fn wide(x: u8) -> u64 {
-    x as u64
-}
-
-// The first n bytes of a room as numbers of a line.
-pub(crate) fn widened(room: [u8; LIST], n: usize) -> [u64; LINE]
-    requires { n ≤ 4096 }
+// A room's bytes or words as numbers of a line.
+pub(crate) fn widened<T: Copy + Into<u64>>(room: &[T]) -> [u64; LINE]
+    requires { length room.now ≤ 4096 }
     ensures { length result ≡ 4355 }
 {
-    let mut line = [0u64; LINE];
-    let mut i: usize = 0;
-    while i < n {
-        line[i + 2] = wide(room[i]);
-        i += 1;
-    }
-    line
-}
-
-fn wide2(x: u16) -> u64 {
-    x as u64
-}
-
-// The first n words of a room as numbers of a line.
-pub(crate) fn widened_words(room: [u16; LIST], n: usize) -> [u64; LINE]
-    requires { n ≤ 4096 }
-    ensures { length result ≡ 4355 }
-{
-    let mut line = [0u64; LINE];
-    let mut i: usize = 0;
-    while i < n {
-        line[i + 2] = wide2(room[i]);
-        i += 1;
+    let mut line = [0; LINE];
+    for (i, x) in room.iter().enumerate() {
+        line[i + 2] = (*x).into();
     }
     line
 }
@@ -88,7 +62,7 @@ pub(crate) fn put_front(room: &mut [u8], line: [u64; LINE], n: usize) -> usize
     requires { (n ≤ 4098) × (86058 ≤ length room.old) }
     ensures { result ≤ 86058 }
 {
-    put_each(room, 0, &line[0..n], n)
+    put_each(room, 0, &line[..n], n)
 }
 
 // Puts the numbers of a line from one place up to another, and the line's end behind them.

@@ -20,14 +20,8 @@ pub fn ended(rt: &HostRuntime, e: Ended) {
     number(rt, e.done);
 }
 
-fn item(rt: &HostRuntime, n: u16) {
-    number(rt, n as u64);
-}
-
 pub fn list(rt: &HostRuntime, room: &[u16]) {
-    let mut i: usize = 0;
-    while i < room.len() {
-        item(rt, room[i]);
-        i += 1;
+    for n in room {
+        number(rt, u64::from(*n));
     }
 }

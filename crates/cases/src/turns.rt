@@ -44,12 +44,10 @@ fn line(rt: &HostRuntime, at: usize, t: Turn) {
 
 fn turns(rt: &HostRuntime, piece: &[u8], place: usize, n: u8) {
     let mut at = place;
-    let mut i: u8 = 0;
-    while i < n {
+    for _ in 0..n {
         let t = turning::take_turn(piece, at);
         line(rt, at, t);
         at = t.place;
-        i += 1;
     }
 }
 

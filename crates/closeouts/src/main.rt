@@ -135,7 +135,7 @@ fn main(rt: HostRuntime) {
         &rt,
         b"closeouts: carries out the day file on standard input over a fresh book, or over the one in the file FROM (- for a fresh one); the closing line, then who pays the losses in the file LOSSES, a line for each account; with --lines LOSSES is a text, a line NUMBER AMOUNT for each account that has a loss\nusage: closeouts [--lines] LOSSES [FROM] < DAYFILE\n",
     );
-    if help.asked {
+    if help.is_some() {
         return;
     }
     let lines = asks_for_lines(&rt);

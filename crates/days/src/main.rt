@@ -59,7 +59,7 @@ fn main(rt: HostRuntime) {
         &rt,
         b"days: carries out a bundle of small days on standard input, each over a fresh book; for each what `day` prints, then how each account stands\nusage: days < BUNDLE\n",
     );
-    if help.asked {
+    if help.is_some() {
         return;
     }
     for _ in 0..DAYS {

@@ -16,6 +16,14 @@ pub(crate) struct Figures {
     pub(crate) settlement: i64,
 }
 
+// Where no line tells them.
+pub(crate) const NO_FIGURES: Figures = Figures {
+    premium: 0,
+    loss: 0,
+    exercise: 0,
+    settlement: 0,
+};
+
 // One that does not fit the signed type counts as its largest or its least.
 #[tactic(auto, unfolding(sums::specs::Choice::pick))]
 fn above(n: u64) -> i64

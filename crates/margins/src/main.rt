@@ -59,7 +59,7 @@ fn main(rt: HostRuntime) {
         &rt,
         b"margins: a client's initial margin, the extreme loss margin of its positions and what its figures come to, on standard input a line each, PRODUCT SIDE NOTIONAL, and at most once figures PREMIUM LOSS [EXERCISE SETTLEMENT]; prints the refusal or 0 and the margin, with --record the record that sets it\nusage: margins [--record] SERIAL ACCOUNT INITIAL < POSITIONS\n",
     );
-    if help.asked {
+    if help.is_some() {
         return;
     }
     match asked::from_words(&rt) {

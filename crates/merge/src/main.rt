@@ -82,7 +82,7 @@ fn main(rt: HostRuntime) {
         &rt,
         b"merge: makes one day file of two counters', the records of the file A and then those of the file B, numbered from the next serial of the book in the file FROM, or from 0; a file that can't be merged is told on standard error with its refusal and the record at fault, counted from 0, and nothing is written\nusage: merge A B [FROM] > MERGED\n",
     );
-    if help.asked {
+    if help.is_some() {
         return;
     }
     if streams::standard::too_many_words(&rt, b"merge", 3) {

@@ -18,7 +18,7 @@ fn main(rt: HostRuntime) {
         &rt,
         b"needs: carries out the day file on standard input over a fresh book, or over the one in the file FROM (- for a fresh one); the closing line, then what each account needs, a line for each account\nusage: needs [FROM] < DAYFILE\n",
     );
-    if help.asked {
+    if help.is_some() {
         return;
     }
     if streams::standard::too_many_words(&rt, b"needs", 1) {

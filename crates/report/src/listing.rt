@@ -92,8 +92,7 @@ pub(crate) fn put_rows(
     ensures { Puts room.old start (lines_of (line_of sheet (turned_back t)) (length list.now)) room.new result }
 {
     let mut at = start;
-    let mut i: usize = 0;
-    while i < list.len() {
+    for (i, x) in list.iter().enumerate() {
         let number = number_at(&t.numbers, i);
         let r = row_of(&t.sort, &t.live, &t.tm, &t.amounts, i);
         let tm = tm_number(t.numbers, r.tm);
@@ -105,11 +104,10 @@ pub(crate) fn put_rows(
             r,
             tm,
             sound,
-            list[i],
+            *x,
             t.modes[i],
             i == 0,
         );
-        i += 1;
     }
     at
 }

@@ -18,7 +18,7 @@ fn main(rt: HostRuntime) {
         &rt,
         b"standings: carries out the day file on standard input over a fresh book, or over the one in the file FROM (- for a fresh one); the closing line, then how each account stands, a line for each account\nusage: standings [FROM] < DAYFILE\n",
     );
-    if help.asked {
+    if help.is_some() {
         return;
     }
     if streams::standard::too_many_words(&rt, b"standings", 1) {

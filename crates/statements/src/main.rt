@@ -73,7 +73,7 @@ fn main(rt: HostRuntime) {
         &rt,
         b"statements: checks a TM's statement on standard input against the book in the file FROM; prints 0 where it is accepted, and otherwise the refusal, the record at fault, counted from 0, and the account wanted there\nusage: statements TM FROM < STATEMENT\n",
     );
-    if help.asked {
+    if help.is_some() {
         return;
     }
     if streams::standard::too_many_words(&rt, b"statements", 2) {

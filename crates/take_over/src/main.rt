@@ -38,7 +38,7 @@ fn main(rt: HostRuntime) {
         &rt,
         b"take_over: takes the book in the file FROM over to the rule by which government securities count less a tenth, into the file TO; prints 0, or 1 where the book isn't sound by the old rule\nusage: take_over FROM TO\n",
     );
-    if help.asked {
+    if help.is_some() {
         return;
     }
     if streams::standard::too_many_words(&rt, b"take_over", 2) {

@@ -13,11 +13,11 @@ use crate::serial::moved;
 use dayfile::{Found, Read, Wrote, found_at, read_at};
 use text::put_text;
 
-// What one part came to: the place after what was put and the running serial then, or a fault.
+// What one part came to: the place after what was put, and the running serial then.
 #[derive(Clone, Copy)]
-enum Step {
-    Puts(usize, u16),
-    Fails(u8),
+struct Placed {
+    after: usize,
+    running: u16,
 }
 
 fn told(place: usize, lines: usize, count: usize, running: u16, fault: u8) -> Taken
@@ -45,7 +45,7 @@ pub fn line_end(text: &[u8], at: usize) -> usize
 }
 
 // Puts the bytes that a line means.
-fn line_into(line: &[u8], running: u16, room: &mut [u8], at: usize) -> Step
+fn line_into(line: &[u8], running: u16, room: &mut [u8], at: usize) -> Result<Placed, u8>
     requires { at + 70 ≤ length room.old }
     ensures { Stepped (line_turned running line.now) room.old at result room.new }
 {
@@ -54,9 +54,12 @@ fn line_into(line: &[u8], running: u16, room: &mut [u8], at: usize) -> Step
         Wrote::Written(n) => {
             let after = put_text(room, at, &bytes[..n]);
             let next = moved(running, &bytes[..n]);
-            Step::Puts(after, next)
+            Ok(Placed {
+                after,
+                running: next,
+            })
         }
-        Wrote::Refused(fault) => Step::Fails(fault),
+        Wrote::Refused(fault) => Err(fault),
     }
 }
 
@@ -78,14 +81,14 @@ pub fn bytes_of_text(text: &[u8], last: bool, running: u16, room: &mut [u8]) -> 
             return told(place, lines, count, next, 0);
         }
         match line_into(&text[place..end], next, room, count) {
-            Step::Fails(fault) => {
+            Err(fault) => {
                 return told(place, lines, count, next, fault);
             }
-            Step::Puts(after, serial) => {
+            Ok(placed) => {
                 place = end;
                 lines += 1;
-                count = after;
-                next = serial;
+                count = placed.after;
+                next = placed.running;
             }
         }
     }
@@ -120,7 +123,7 @@ fn record_end(bytes: &[u8], at: usize) -> End
 }
 
 // Puts the line of a record, or of a cut end.
-fn record_into(bytes: &[u8], running: u16, room: &mut [u8], at: usize) -> Step
+fn record_into(bytes: &[u8], running: u16, room: &mut [u8], at: usize) -> Result<Placed, u8>
     requires { (at + 205 ≤ length room.old) × (length bytes.now ≤ 70) }
     ensures { Stepped (record_turned running bytes.now) room.old at result room.new }
 {
@@ -131,7 +134,10 @@ fn record_into(bytes: &[u8], running: u16, room: &mut [u8], at: usize) -> Step
         Read::Cut => put_raw(room, at, bytes),
         Read::End => put_raw(room, at, bytes),
     };
-    Step::Puts(after, next)
+    Ok(Placed {
+        after,
+        running: next,
+    })
 }
 
 // Puts the lines of the records of a piece of a day file at a room's start: of as many records as the room surely holds,
@@ -152,14 +158,14 @@ pub fn text_of_bytes(bytes: &[u8], last: bool, running: u16, room: &mut [u8]) ->
             return told(place, lines, count, next, 0);
         }
         match record_into(&bytes[place..end], next, room, count) {
-            Step::Fails(fault) => {
+            Err(fault) => {
                 return told(place, lines, count, next, fault);
             }
-            Step::Puts(after, serial) => {
+            Ok(placed) => {
                 place = end;
                 lines += 1;
-                count = after;
-                next = serial;
+                count = placed.after;
+                next = placed.running;
             }
         }
     }

@@ -64,7 +64,7 @@ fn main(rt: HostRuntime) {
         &rt,
         b"write: writes the day file that the text in the file TEXT says, a record a line; lines without a serial get the running one, which begins with the next serial of the book in the file FROM, or with 0; a line that says nothing is told on standard error, and nothing is written\nusage: write TEXT [FROM] > DAYFILE\n",
     );
-    if help.asked {
+    if help.is_some() {
         return;
     }
     if streams::standard::too_many_words(&rt, b"write", 2) {

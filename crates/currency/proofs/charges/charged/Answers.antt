@@ -1,5 +1,5 @@
 -- `currency::charges::charged` meets its contract.
-use Rattle.std.proofs.Common.{◌+◌, length, sym, ap, ◌∙◌, arith}
+use Rattle.std.proofs.Common.{length, ap, ◌∙◌, arith}
 use Rattle.std.proofs.Math.Seq.{take-length}
 use Rattle.currency.specs.Charges.{first_fault, charges}
 use Rattle.currency.proofs.Steps.{no-fault-step, charge-step, charges-end}
