@@ -68,12 +68,12 @@ fn put_changes(list: &mut [u64; 4355], a: Table, b: Table) -> usize
     let mut n: usize = 3;
     for i in 0..256 {
         let number = b.numbers[i];
-        let sort = b.sort[i];
-        let live = b.live[i];
-        let tm = b.tm[i];
+        let sort = b.marks.sort[i];
+        let live = b.marks.live[i];
+        let tm = b.marks.tm[i];
         let mode = b.modes[i];
         let need = b.needs[i];
-        let marks = (a.sort[i] != sort) | (a.live[i] != live) | (a.tm[i] != tm);
+        let marks = (a.marks.sort[i] != sort) | (a.marks.live[i] != live) | (a.marks.tm[i] != tm);
         let kept = (a.modes[i] != mode) | (a.needs[i] != need) | (a.numbers[i] != number);
         let changed = marks | kept | amounts_differ(&a.amounts, &b.amounts, i);
         n = put_place(

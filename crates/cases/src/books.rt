@@ -6,9 +6,9 @@ fn with(t: Table, i: u8, sort: u8, tm: u16, amount: u64, margin: u64) -> Table {
     let at = i as usize;
     let mut w = t;
     w.count = i as u16 + 1;
-    w.sort[at] = sort;
-    w.live[at] = true;
-    w.tm[at] = tm;
+    w.marks.sort[at] = sort;
+    w.marks.live[at] = true;
+    w.marks.tm[at] = tm;
     w.numbers[at] = i as u16;
     w.next = i as u32 + 1;
     w.amounts[at] = amount;
@@ -20,7 +20,7 @@ fn with(t: Table, i: u8, sort: u8, tm: u16, amount: u64, margin: u64) -> Table {
 fn retired(t: Table, i: u8) -> Table {
     let at = i as usize;
     let mut w = t;
-    w.live[at] = false;
+    w.marks.live[at] = false;
     w
 }
 

@@ -9,8 +9,8 @@ fn some_book() -> Table {
     let mut t = book::fresh();
     t.count = 65_535;
     t.serial = 258;
-    t.sort[255] = 200;
-    t.live[255] = true;
+    t.marks.sort[255] = 200;
+    t.marks.live[255] = true;
     t.modes[255] = true;
     t.needs[255] = 72_623_859_790_382_856;
     t.amounts[2559] = 18_446_744_073_709_551_615;
@@ -45,7 +45,7 @@ fn held_line(rt: &HostRuntime, held: Held) {
     told(rt, b", next ", t.next as u64);
     told(rt, b", at 254 number ", u64::from(t.numbers[254]));
     told(rt, b", at 255 number ", u64::from(t.numbers[255]));
-    told(rt, b", sort ", u64::from(t.sort[255]));
+    told(rt, b", sort ", u64::from(t.marks.sort[255]));
     told(rt, b", need ", t.needs[255]);
     told(rt, b", margin ", t.amounts[2559]);
     say(rt, b"\n");

@@ -57,7 +57,7 @@ used-by v s under h i l = by (has_mode v i) refl
 
 module _ (t : Table) (e : sound_b (turned_back t) ≡ true) where
   abbrev seen : Book
-  seen = seen_book t.count t.sort t.tm t.amounts
+  seen = seen_book t.count t.marks t.amounts
 
   is_seen : view seen ≡ view (turned_back t)
   is_seen = seen-view t.count t.serial t.marks t.amounts t.modes t.needs t.next t.numbers

@@ -11,7 +11,7 @@ use crate::number_at;
 use crate::standing::{figures_of, put_standing};
 use rows::Row;
 use table::Table;
-use table::places::row_of;
+use table::places::row_at;
 use text::{put_short, put_sort, put_text};
 
 // Which line a row has.
@@ -94,7 +94,7 @@ pub(crate) fn put_rows(
     let mut at = start;
     for (i, x) in list.iter().enumerate() {
         let number = number_at(&t.numbers, i);
-        let r = row_of(&t.sort, &t.live, &t.tm, &t.amounts, i);
+        let r = row_at(&t.marks, &t.amounts, i);
         let tm = tm_number(t.numbers, r.tm);
         at = put_row(
             room,
