@@ -12,6 +12,7 @@ use gaps::close_gaps;
 pub use table::Table;
 
 // The refusal number or 0, how many rows moved, and the table after it.
+// No Result: the table is there in either case.
 #[derive(Clone, Copy)]
 pub struct Archived {
     pub refusal: u8,

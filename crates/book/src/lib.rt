@@ -1,4 +1,5 @@
 // The collateral book of one clearing member, by amount: a fresh one, its soundness, an account's standing, all needs, the evening sums.
+// Refusals stay document 01's numbers, 0 for none: the table of refusals gives them so (`sums.Table.first`).
 #![tactic(auto)]
 
 ghost use Rattle.std.specs.Prelude.{◌≡◌};
@@ -22,6 +23,7 @@ use table::needs::{account_at, needs_afresh};
 pub use table::{Marks, Table};
 
 // A standing's five figures, the account's mode and, of account 0, the shortfall (K8), behind the refusal number or 0.
+// No Result: document 01 has all figures 0 beside a refusal (`no_figures`).
 #[derive(Clone, Copy)]
 pub struct Figures {
     pub refusal: u8,
@@ -50,6 +52,7 @@ pub enum Amount {
 }
 
 // An amount of all accounts, behind the refusal number or 0.
+// No Result: the total is 0 beside a refusal (`evening_of`).
 #[derive(Clone, Copy)]
 pub struct Summed {
     pub refusal: u8,
@@ -57,6 +60,7 @@ pub struct Summed {
 }
 
 // The refusal number or 0, and the table after it.
+// No Result: the table is there in either case.
 #[derive(Clone, Copy)]
 pub struct Taken {
     pub refusal: u8,

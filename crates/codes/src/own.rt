@@ -1,4 +1,5 @@
 // One function for each code: it decides the code's own lines of the table, and puts the code's own words. The lines before 8 have passed.
+// Refusals stay document 01's numbers, 0 for none: the table of refusals gives them so (`sums.Table.first`).
 ghost use Rattle.std.specs.Prelude.{◌≡◌, ◌≤◌, ◌<◌, eqb, get_or};
 ghost use Rattle.rows.specs.Rows.{ceiling};
 ghost use Rattle.rows.specs.Facts.{InRange, KindsWithin};
@@ -91,6 +92,7 @@ pub(crate) fn hand_back(marks: &Marks, w: &mut [u64; 2560], i: usize, k: Kinds) 
 }
 
 // 6
+// One shape with hand_back, and no twin: other words are put by other setters (`HandsBack`, `Allocates`).
 pub(crate) fn allocate(marks: &Marks, w: &mut [u64; 2560], i: usize, k: Kinds) -> u8
     requires { Sized marks.now w.old × (i < 256) × InRange (row_in marks.now w.old i) × KindsWithin k ceilings }
     ensures { Allocates marks.now w.old i k result w.new }
@@ -242,6 +244,7 @@ pub(crate) fn set_pledged(marks: &Marks, w: &mut [u64; 2560], i: usize, y: u64) 
 }
 
 // 13: a margin was revised, likewise.
+// One shape with set_pledged, and no twin: another word by another setter.
 pub(crate) fn revise_margin(marks: &Marks, w: &mut [u64; 2560], i: usize, y: u64) -> u8
     requires { Sized marks.now w.old × (i < 256) }
     ensures { RevisesMargin marks.now w.old i y result w.new }

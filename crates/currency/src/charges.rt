@@ -1,4 +1,5 @@
 // A position's fault and its charge, and those of a client's positions.
+// Refusals stay document 01's numbers, 0 for none: the table of refusals gives them so (`sums.Table.first`).
 ghost use Rattle.std.specs.Prelude.{◌≡◌, ◌≤◌, ◌<◌, length};
 ghost use Rattle.currency.specs.Charges.{is_option, fault_of, parts_of, carried_by, rounded_up, charge_of, first_fault, charges};
 

@@ -14,6 +14,7 @@ pub struct Reader<'a> {
 }
 
 // What was read, with the place after it.
+// Not a pair: `place_after` is asked of both by name.
 #[derive(Clone, Copy)]
 struct Took {
     read: Read,

@@ -1,4 +1,5 @@
 // Two counters' day files made one (K14).
+// Refusals stay document 01's numbers, 0 for none: the table of refusals gives them so (`sums.Table.first`).
 #![tactic(auto)]
 
 ghost use Rattle.std.specs.Prelude.{◌≡◌, ◌≤◌, length, take};
@@ -11,6 +12,7 @@ use numbers::put2;
 use text::put_text;
 
 // What a merging came to: the refusal or 0; the file at fault, 1 for A, 2 for B, or 0; the place of the record at fault among the file's records, counted from 0; how many bytes were written.
+// No Result: file and place stand beside the refusal.
 #[derive(Clone, Copy)]
 pub struct Merged {
     pub refusal: u8,

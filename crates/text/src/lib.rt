@@ -35,6 +35,7 @@ pub fn put_number(room: &mut [u8], at: usize, n: u64, mark: u8) -> usize
 }
 
 // The same for a number of 16 bits, which takes five digits at most: no loop, and few steps.
+// Not one with put_number: 21 bytes of room are more than a short number asks for.
 pub fn put_short(room: &mut [u8], at: usize, n: u16, mark: u8) -> usize
     requires { at + 6 ≤ length room.old }
     ensures puts { Puts room.old at (followed n mark) room.new result }

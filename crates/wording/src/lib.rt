@@ -21,6 +21,7 @@ const ROOM: usize = 32_768;
 const TURNS: u64 = 281_474_976_710_656;
 
 // What a file came to: the number of the first line that says nothing and its fault, or 0 and 0; how many bytes were printed; whether a read or a write failed.
+// No Result: what was printed is counted before a failure and a fault too.
 #[derive(Clone, Copy)]
 pub struct Worded {
     pub failed: bool,

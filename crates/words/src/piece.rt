@@ -96,6 +96,7 @@ pub fn bytes_of_text(text: &[u8], last: bool, running: u16, room: &mut [u8]) -> 
 }
 
 // Where a part ends, and whether it is there as a whole.
+// No Option: the place counts in either case.
 #[derive(Clone, Copy)]
 struct End {
     place: usize,
