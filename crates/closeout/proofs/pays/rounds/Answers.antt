@@ -55,5 +55,5 @@ pub returns : goal.returns
 returns c =
     let a = c.args in
     by-rounds c.account_of-a.result _ _ _ _ _ _ c.free_with-free.ensures c.min.ensures c.only_if-own.ensures c.min-2.ensures
-    c.saturating_sub-ask.ensures c.only_if.ensures c.pay-first.ensures c.only_if-2.ensures c.pay-second.ensures
-    ∙ ap (λ r. rounds_by r a.loss a.under a.tm a.cm a.tm2 a.cm2) c.account_of-a.ensures
+    c.saturating_sub-ask.ensures c.only_if-purse.ensures c.pay-first.ensures c.only_if-spare.ensures c.pay-second.ensures
+    ∙ ap (λ r. rounds_by r a.loss a.under a.tm.left a.cm.left a.tm.free a.cm.free) c.account_of-a.ensures
