@@ -1,5 +1,5 @@
 // The collateral book of one clearing member, by amount: a fresh one, its soundness, an account's standing, all needs, the evening sums.
-// Refusals stay document 01's numbers, 0 for none: the table of refusals gives them so (`sums.Table.first`).
+// Refusals stay the documents' numbers, 0 for none: `needs_refusal` gives them so.
 #![tactic(auto)]
 
 ghost use Rattle.std.specs.Prelude.{◌≡◌};
@@ -23,7 +23,7 @@ use table::needs::{account_at, needs_afresh};
 pub use table::{Marks, Table};
 
 // A standing's five figures, the account's mode and, of account 0, the shortfall (K8), behind the refusal number or 0.
-// No Result: document 01 has all figures 0 beside a refusal (`no_figures`).
+// No Result: document 01 says all figures beside a refusal, 0 (`no_figures`).
 #[derive(Clone, Copy)]
 pub struct Figures {
     pub refusal: u8,
@@ -52,7 +52,7 @@ pub enum Amount {
 }
 
 // An amount of all accounts, behind the refusal number or 0.
-// No Result: the total is 0 beside a refusal (`evening_of`).
+// No Result: `evening_of` and docs/API.md say both fields, with a refusal too.
 #[derive(Clone, Copy)]
 pub struct Summed {
     pub refusal: u8,

@@ -1,5 +1,5 @@
 // A book's written form, put into a lent room.
-// Refusals stay document 01's numbers, 0 for none: the table of refusals gives them so (`sums.Table.first`).
+// Refusals stay the documents' numbers, 0 for none: `wrote_of` gives them so.
 ghost use Rattle.std.specs.Prelude.{◌≡◌, ◌+◌, ◌*◌, ◌≤◌, ◌<◌, length};
 ghost use Rattle.std.proofs.lemmas.List.Edits.{sets};
 ghost use Rattle.bookfile.specs.Written.{size, head_part, joined, marks_part, amounts_part, kept_part, place_bytes, wrote_of, room_after};

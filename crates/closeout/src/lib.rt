@@ -13,7 +13,7 @@ pub use table::Table;
 mod pays;
 
 // The refusal number or 0, and the total left uncovered.
-// No Result: the total is 0 beside a refusal (`no_total`).
+// No Result: `no_total` and docs/API.md say both fields, with a refusal too.
 #[derive(Clone, Copy)]
 pub struct Closed {
     pub refusal: u8,

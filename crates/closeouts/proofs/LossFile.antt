@@ -14,7 +14,8 @@ use Rattle.sums.proofs.Choices.{and_right, and-join, pick_yes, pick_no}
 use Rattle.sums.proofs.Lists.{list-is}
 use Rattle.numbers.specs.Bytes.{number, bytes_of}
 use Rattle.numbers.proofs.Numbers.{length-bytes_of, drop-bytes_of, number-bytes_of}
-use Rattle.closeouts.specs.Losses.{loss_in, loss_count, losses_of, loss_file, Fits}
+use Rattle.closeouts.specs.declared.losses.Losses.{Losses}
+use Rattle.closeouts.specs.Losses.{loss_in, loss_count, losses_of, loss_file, Fits, Came}
 
 -- no more losses than the file has room for, and at most 256
 pub count-within : (n : ℕ) → (8 * loss_count n ≤ n) × (loss_count n ≤ 256)
@@ -81,3 +82,8 @@ pub losses-read-back : (losses : List ℕ) → Fits losses → length losses ≤
 losses-read-back losses fit h =
     let n : length losses ≡ loss_count (length (loss_file losses)) = sym (ap loss_count (length-loss_file losses) ∙ count-of-all (length losses) h) in
     sym (first-places (loss_file losses) losses (length losses) n (omega arith) (loss-at losses fit)) ∙ take-length losses
+
+-- no bytes have no losses
+pub none_came : (l : Losses) → l.count ≡ 0 → Came l
+unfolding losses_of loss_count pick list_to
+none_came l e = record { file = []; bytes = λ i. omega arith; is = ap (λ (n : ℕ). take n l.list) e }

@@ -1,5 +1,5 @@
 // What each code decides on the table's words in place, by the lines of the table of refusals, and the words that it puts. A verdict reads kept needs (K3) and changes none.
-// Refusals stay document 01's numbers, 0 for none: the table of refusals gives them so (`sums.Table.first`).
+// Refusals stay the documents' numbers, 0 for none: `early_number` gives them so.
 #![tactic(auto)]
 
 ghost use Rattle.std.specs.Prelude.{◌≡◌, true, ◌≤◌};

@@ -1,5 +1,5 @@
 // Codes 4 to 7 where one kind alone is named: that kind's words are read and put, and no other.
-// Refusals stay document 01's numbers, 0 for none: the table of refusals gives them so (`sums.Table.first`).
+// Refusals stay the documents' numbers, 0 for none: `sums.Table.first` gives them so.
 ghost use Rattle.std.specs.Prelude.{◌≡◌, ◌+◌, ◌*◌, ◌≤◌, ◌<◌, set};
 ghost use Rattle.rows.specs.Rows.{ceiling};
 ghost use Rattle.rows.specs.Facts.{InRange};

@@ -1,5 +1,5 @@
 // One function for each code: it decides the code's own lines of the table, and puts the code's own words. The lines before 8 have passed.
-// Refusals stay document 01's numbers, 0 for none: the table of refusals gives them so (`sums.Table.first`).
+// Refusals stay the documents' numbers, 0 for none: `sums.Table.first` gives them so.
 ghost use Rattle.std.specs.Prelude.{◌≡◌, ◌≤◌, ◌<◌, eqb, get_or};
 ghost use Rattle.rows.specs.Rows.{ceiling};
 ghost use Rattle.rows.specs.Facts.{InRange, KindsWithin};

@@ -1,5 +1,5 @@
 // A position's fault and its charge, and those of a client's positions.
-// Refusals stay document 01's numbers, 0 for none: the table of refusals gives them so (`sums.Table.first`).
+// Refusals stay the documents' numbers, 0 for none: `first_fault` gives them so.
 ghost use Rattle.std.specs.Prelude.{◌≡◌, ◌≤◌, ◌<◌, length};
 ghost use Rattle.currency.specs.Charges.{is_option, fault_of, parts_of, carried_by, rounded_up, charge_of, first_fault, charges};
 

@@ -1,5 +1,5 @@
 // A record's length, and its fault.
-// Refusals stay document 01's numbers, 0 for none: the table of refusals gives them so (`sums.Table.first`).
+// Refusals stay the documents' numbers, 0 for none: `fault_of` gives them so.
 ghost use Rattle.std.specs.Prelude.{true, ◌&&◌, ◌≡◌, ◌<◌, leb, eqb};
 ghost use Rattle.dayfile.specs.Records.{known_code, suits, least_pledged, good_amount, good_amounts, fault_of};
 ghost use Rattle.dayfile.specs.Reading.{size_of};

@@ -1,5 +1,5 @@
 // The figures of many clients, one client's behind the other's.
-// Refusals stay document 01's numbers, 0 for none: the table of refusals gives them so (`sums.Table.first`).
+// Refusals stay the documents' numbers, 0 for none: `list_refusal` gives them so.
 ghost use Rattle.std.specs.Prelude.{◌≡◌, ◌+◌, ◌*◌, ◌≤◌, length};
 ghost use Rattle.sums.specs.Listed.{list_to};
 ghost use Rattle.exposure.specs.Lists.{figures_from, width_of, clients_in, client_of, number_in_room, list_refusal, list_room};
@@ -7,7 +7,7 @@ ghost use Rattle.exposure.specs.Lists.{figures_from, width_of, clients_in, clien
 use crate::{Exposure, end_of_day, intraday};
 
 // How many figures a client has: two, or four at the end of day.
-// Two forms of one paper, 000, and not two sizes: the figures behind the second two have other names.
+// An enum and no const size: a caller picks it as it runs, and the two go to two calls, `intraday` and `end_of_day`.
 #[derive(Clone, Copy)]
 pub enum Form {
     Intraday,

@@ -27,7 +27,7 @@ pub struct From {
 }
 
 // Whether a file was named for the book after a day, whether it couldn't be written, and how many bytes went there.
-// No Result: the count stands beside (`went_to`).
+// No Result: `went_to` and `nowhere` say all three fields, 0 beside a failure.
 #[derive(Clone, Copy)]
 pub struct To {
     pub named: bool,

@@ -1,5 +1,5 @@
 // Two counters' day files made one (K14).
-// Refusals stay document 01's numbers, 0 for none: the table of refusals gives them so (`sums.Table.first`).
+// Refusals stay the documents' numbers, 0 for none: `unless_refused` gives them so.
 #![tactic(auto)]
 
 ghost use Rattle.std.specs.Prelude.{◌≡◌, ◌≤◌, length, take};
@@ -12,7 +12,7 @@ use numbers::put2;
 use text::put_text;
 
 // What a merging came to: the refusal or 0; the file at fault, 1 for A, 2 for B, or 0; the place of the record at fault among the file's records, counted from 0; how many bytes were written.
-// No Result: file and place stand beside the refusal.
+// No Result: the definition of a merging's answer and docs/API.md say all four fields.
 #[derive(Clone, Copy)]
 pub struct Merged {
     pub refusal: u8,

@@ -17,7 +17,7 @@ use table::places::row_at;
 mod limits;
 
 // The refusal number or 0, and the largest amount.
-// No Result: the amount is 0 beside a refusal (`most_of`).
+// No Result: `most_of` and docs/API.md say both fields, with a refusal too.
 #[derive(Clone, Copy)]
 pub struct Largest {
     pub refusal: u8,

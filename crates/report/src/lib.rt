@@ -102,8 +102,7 @@ pub fn closing(rt: &HostRuntime, program: &[u8], word: Closing, read: u64, done:
     write_output(rt, program, &room[..n])
 }
 
-// Three of one shape, here and below: a closure for the text would need a contract that is longer than their bodies.
-// Prints the lines of all accounts' standings for the program named.
+// Prints the lines of all accounts' standings for the program named. Three are of one shape: a closure for the text would need a contract that is longer than their bodies.
 pub fn standings(rt: &HostRuntime, program: &[u8], t: Table) -> Moved
     ensures count_in_bounds { result.count ≤ length (standings_text (turned_back t)) }
     ensures failed_value { result.failed ≡ ltb result.count (length (standings_text (turned_back t))) }

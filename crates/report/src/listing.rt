@@ -21,7 +21,7 @@ pub(crate) enum Sheet {
     Holdings,
 }
 
-// One shape with put_mode, and other words.
+// One shape with put_mode: one function would be handed both words and both definitions, and be longer.
 fn put_state(room: &mut [u8], at: usize, live: bool) -> usize
     requires { at + 8 ≤ length room.old }
     ensures puts { Puts room.old at (and_space (state_word live)) room.new result }

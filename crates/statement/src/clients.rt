@@ -1,5 +1,5 @@
 // A statement's records held against the live clients of a TM, one by one.
-// Refusals stay document 01's numbers, 0 for none: the table of refusals gives them so (`sums.Table.first`).
+// Refusals stay the documents' numbers, 0 for none: `wanted_refusal` gives them so.
 ghost use Rattle.std.specs.Prelude.{◌≡◌, ◌≤◌, ◌<◌, length};
 ghost use Rattle.rows.specs.Rows.{row_at, number_at, is_live_client_of};
 ghost use Rattle.rows.specs.Facts.{KindsWithin};

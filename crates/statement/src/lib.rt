@@ -15,7 +15,7 @@ mod records;
 pub use table::Table;
 
 // What a check finds: the refusal or 0, the place of the record at fault among the statement's records, counted from 0, and the number of the account wanted there, 0 where none is.
-// No Result: place and account stand beside the refusal, and are 0 where there is none (`statement_finding`).
+// No Result: `statement_finding` and docs/API.md say all three fields, with a refusal too.
 #[derive(Clone, Copy)]
 pub struct Finding {
     pub refusal: u8,

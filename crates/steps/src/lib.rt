@@ -1,5 +1,5 @@
 // One record carried out on the table's words in place: decided by its code, then kept needs (K3) and modes (K2) follow.
-// Refusals stay document 01's numbers, 0 for none: the table of refusals gives them so (`sums.Table.first`).
+// Refusals stay the documents' numbers, 0 for none: `gone_with` gives them so.
 #![tactic(auto)]
 
 ghost use Rattle.std.specs.Prelude.{◌≡◌, ◌<◌, true};

@@ -2,9 +2,10 @@
 use mathlib.Core.List.{List, [], ◌∷◌, ◌++◌}
 use mathlib.Core.Path.{◌≡◌, refl, sym, ap, ◌∙◌}
 use Prim.Native.Nat.{ℕ, suc, ◌+◌, ◌≤◌, ◌<◌}
+use native.Mathlib.Numerals.{add-one}
 use native.Mathlib.Omega.{arith}
-use lib.ListN.{length, set, take, drop, length-append}
-use lib.Seq.{sets-eq, length-sets, length-take-le}
+use lib.ListN.{length, set, take, drop, get_or, length-append}
+use lib.Seq.{sets-eq, length-sets, length-take-le, take-suc}
 use Rattle.sums.specs.Room.{at_start}
 use Rattle.text.specs.Inner.{put, Puts}
 
@@ -41,6 +42,13 @@ and_then {room} {room₁} {room₂} {at} {p} {q} x y f g = record {
   next = omega (arith, f.next, g.next, length-append x y);
   within = omega (arith, g.within, puts-length f);
 }
+
+-- a text put byte by byte
+pub byte_at : {room₀ room : List ℕ} {at i : ℕ} (text : List ℕ) → i < length text → at + length text ≤ length room₀
+    → Puts room₀ at (take i text) room (at + i) → Puts room₀ at (take (i + 1) text) (set room (at + i) (get_or text i 0)) (at + (i + 1))
+byte_at {at = at} {i = i} text h m f =
+    let e : take (i + 1) text ≡ take i text ++ (get_or text i 0 ∷ []) = ap (λ (j : ℕ). take j text) (add-one i) ∙ take-suc text i 0 h in
+    rw e (and_then (take i text) (get_or text i 0 ∷ []) f (record { holds = refl; next = omega arith; within = omega (arith, puts-length f) }))
 
 -- a text at the room's start
 pub puts-at-start : {room text room' : List ℕ} {after : ℕ} → Puts room 0 text room' after → (after ≡ length text) × (room' ≡ at_start text room)

@@ -16,12 +16,12 @@ use Rattle.book.specs.Sound.{row_sound, formed_b}
 use Rattle.book.proofs.RowTests.{rows-ranged}
 use Rattle.book.proofs.SoundTest.{shaped-rows, blank-beyond}
 use Rattle.book.proofs.ByRule.{shaped-by}
-use Rattle.book.proofs.SoundInPlace.{rows-in-place, modes-in-place}
+use Rattle.book.proofs.SoundInPlace.{rows-in-table, modes-in-table}
 use Rattle.book.proofs.sound.table_kept.Goals as goal
 
 -- what rows that have passed show
 rows-hold : (t : Table) {x : Bool} → x ≡ all 256 (row_sound (book_from t.count 0 t.marks t.amounts [] [] 0 [])) → not x ≡ false → all 256 (row_sound (turned_back t)) ≡ true
-rows-hold t e h = sym (e ∙ rows-in-place t) ∙ not-false _ h
+rows-hold t e h = sym (e ∙ rows-in-table t) ∙ not-false _ h
 
 pub returns-then-t-lt1 : goal.returns-then-t-lt1
 unfolding formed_b
@@ -34,12 +34,12 @@ returns-then-t-gt256 c = simp (lt-leb c.args.t.now.count 256 c.if-t-gt256.true, 
 pub returns-then-not-rows_sound : goal.returns-then-not-rows_sound
 unfolding formed_b
 returns-then-not-rows_sound c =
-    simp (sym (c.rows_sound.ensures ∙ rows-in-place c.args.t.now) ∙ not-true _ c.if-not-rows_sound.true-raw, and-false)
+    simp (sym (c.rows_sound.ensures ∙ rows-in-table c.args.t.now) ∙ not-true _ c.if-not-rows_sound.true-raw, and-false)
 
 pub returns-then-not-modes_sound : goal.returns-then-not-modes_sound
 unfolding formed_b
 returns-then-not-modes_sound c =
-    simp (sym (c.modes_sound.ensures ∙ modes-in-place c.args.t.now) ∙ not-true _ c.if-not-modes_sound.true-raw, and-false)
+    simp (sym (c.modes_sound.ensures ∙ modes-in-table c.args.t.now) ∙ not-true _ c.if-not-modes_sound.true-raw, and-false)
 
 pub returns-then-not-numbers_sound : goal.returns-then-not-numbers_sound
 unfolding formed_b
@@ -67,6 +67,6 @@ returns c =
       le-leb t.count 256 (omega arith),
       rows-hold t c.rows_sound.ensures c.if-not-rows_sound.false-raw,
       eq-eqb _ 256 (rows-length t.marks t.amounts),
-      sym (c.modes_sound.ensures ∙ modes-in-place t) ∙ not-false _ c.if-not-modes_sound.false-raw,
+      sym (c.modes_sound.ensures ∙ modes-in-table t) ∙ not-false _ c.if-not-modes_sound.false-raw,
       sym c.numbers_sound.ensures ∙ not-false _ c.if-not-numbers_sound.false-raw,
     )
