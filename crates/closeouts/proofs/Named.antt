@@ -8,7 +8,7 @@ use native.Mathlib.Decide.{ℕ_discrete}
 use native.Mathlib.Numerals.{add-one}
 use borrow.Author.Tests.{eq-eqb, ne_eqb, lt-ltb, le-ltb, le-leb, lt-leb}
 use lib.Dec.{eqb, ltb}
-use lib.ListN.{length, take, drop, get_or, set, length-set, get_or-eq_default}
+use lib.ListN.{length, take, drop, get_or, set, get_or-eq_default}
 use lib.Seq.{length-take-le, get_or-take, take-suc-set}
 use Rattle.sums.specs.Sum.{any, all, least}
 use Rattle.sums.proofs.Choices.{pick_yes, pick_no, pick_first, pick_second}
@@ -21,7 +21,8 @@ use Rattle.words.specs.Texts.{lines_of, line_length}
 use Rattle.words.proofs.LinesAt.{line-here, no_line}
 use Rattle.closeouts.specs.declared.loss_lines.Loss.{Loss}
 use Rattle.closeouts.specs.declared.loss_lines.Loss.TheVariants.{Nothing, Of, Bad}
-use Rattle.std.specs.Prelude.{Option, None, Some, is_some, Result, Ok, Err}
+use Rattle.std.specs.Prelude.{Option, None, Some, is_some, Result, Ok, Err, ⊤}
+use Rattle.closeouts.specs.declared.losses.Losses.{Losses}
 use Rattle.closeouts.specs.Inner.{PlaceAmong, named_then, Puts}
 use Rattle.closeouts.specs.LossLines.{names, fails, loss_said, account_said, amount_said, named_by, losses, wrong, told_by, told_from, told_of, loss_for}
 
@@ -61,16 +62,16 @@ place-in-front numbers count n h = rw (length-take-le count numbers h) (least-eq
 
 -- ---- the losses of rows
 
-module _ (numbers amounts : List ℕ) (count n p : ℕ) (wide : count ≤ length numbers) (long : count ≤ length amounts) (e : p ≡ place_among numbers count n) where
-  at_place : loss_for (take count numbers) (take count amounts) n ≡ get_or (take count amounts) p 0
+module _ (numbers amounts : List ℕ) (count n : ℕ) (few : count ≤ 256) (long : length amounts ≡ 256) where
+  pub loss-named : (p : ℕ) → place_among (take count numbers) (length (take count numbers)) n ≡ p → p < length (take count numbers) → length (take count numbers) ≡ count
+      → get_or amounts p 0 ≡ loss_for (take count numbers) (take count amounts) n
   unfolding loss_for
-  at_place = ap (λ (i : ℕ). get_or (take count amounts) i 0) (place-in-front numbers count n wide ∙ sym e)
+  loss-named p e l q = sym (ap (λ (i : ℕ). get_or (take count amounts) i 0) e ∙ get_or-take count amounts p 0 (omega (arith, l, q)))
 
-  pub loss-named : p < count → get_or amounts p 0 ≡ loss_for (take count numbers) (take count amounts) n
-  loss-named l = sym (at_place ∙ get_or-take count amounts p 0 l)
-
-  pub loss-not-named : count ≤ p → 0 ≡ loss_for (take count numbers) (take count amounts) n
-  loss-not-named l = sym (at_place ∙ get_or-eq_default (take count amounts) 0 {n = p} (omega (arith, length-take-le count amounts long)))
+  pub loss-not-named : place_among (take count numbers) (length (take count numbers)) n ≡ length (take count numbers) → length (take count numbers) ≡ count
+      → 0 ≡ loss_for (take count numbers) (take count amounts) n
+  unfolding loss_for
+  loss-not-named e q = sym (get_or-eq_default (take count amounts) 0 (omega (arith, e, q, length-take-le count amounts (omega (arith, few, long)))))
 
 found : (numbers : List ℕ) (count n : ℕ) (place : Option ℕ) → PlaceAmong numbers count n place → is_some place ≡ ltb (place_among numbers count n) count
 found numbers count n None e = sym (le-ltb (place_among numbers count n) count (omega arith))
@@ -115,48 +116,26 @@ module _ (line : List ℕ) where
 
 -- ---- a line more
 
-module _ (numbers amounts : List ℕ) (count : ℕ) (few : count ≤ 256) (wide : length numbers ≡ 256) (long : length amounts ≡ 256) where
-  pub puts-nothing : Puts numbers amounts count Nothing numbers amounts (Ok count)
+module _ (numbers amounts : List ℕ) (account amount : ℕ) (place : Option ℕ) (e : PlaceAmong numbers (length numbers) account place) {t : Bool} (here : t ≡ is_some place) where
+  same : ltb (place_among numbers (length numbers) account) (length numbers) ≡ t
+  same = sym (here ∙ found numbers (length numbers) account place e)
+
+  pub names-twice : t ≡ true → named_by numbers amounts (Of account amount) ≡ fails 5
   unfolding named_by
-  puts-nothing = record { is = refl; few = few; wide = wide; long = long }
+  names-twice l = pick_yes _ _ _ (same ∙ l)
 
-  pub puts-bad : (n : ℕ) → Puts numbers amounts count (Bad n) numbers amounts (Err n)
-  unfolding named_by
-  puts-bad n = record { is = refl; few = tt; wide = wide; long = long }
-
-  module _ (account amount : ℕ) (place : Option ℕ) (e : PlaceAmong numbers count account place) {t : Bool} (here : t ≡ is_some place) where
-    fits : length (take count numbers) ≡ count
-    fits = length-take-le count numbers (omega arith)
-
-    same : ltb (place_among (take count numbers) (length (take count numbers)) account) (length (take count numbers)) ≡ t
-    same = rw (place-in-front numbers count account (omega arith), fits) (sym (here ∙ found numbers count account place e))
-
-    pub puts-twice : t ≡ true → Puts numbers amounts count (Of account amount) numbers amounts (Err 5)
+  module _ (l : t ≡ false) where
+    pub names_none : length numbers ≡ 256 → named_by numbers amounts (Of account amount) ≡ fails 6
     unfolding named_by
-    puts-twice l = record { is = pick_yes _ _ _ (same ∙ l); few = tt; wide = wide; long = long }
+    names_none z = pick_no _ _ _ (same ∙ l) ∙ pick_yes _ _ _ (le-leb 256 (length numbers) (omega arith))
 
-    module _ (l : t ≡ false) where
-      pub puts_none : count ≡ 256 → Puts numbers amounts count (Of account amount) numbers amounts (Err 6)
-      unfolding named_by
-      puts_none z = record {
-        is = pick_no _ _ _ (same ∙ l) ∙ pick_yes _ _ _ (le-leb 256 (length (take count numbers)) (omega (arith, fits)));
-        few = tt;
-        wide = wide;
-        long = long;
-      }
+    pub names-more : length numbers < 256 → named_by numbers amounts (Of account amount) ≡ names (numbers ++ (account ∷ [])) (amounts ++ (amount ∷ []))
+    unfolding named_by
+    names-more z = pick_no _ _ _ (same ∙ l) ∙ pick_no _ _ _ (lt-leb 256 (length numbers) z)
 
-      pub puts-loss : (count ≡ 256 → ⊥) → Puts numbers amounts count (Of account amount) (set numbers count account) (set amounts count amount) (Ok (count + 1))
-      unfolding named_by
-      puts-loss z =
-          let few' : count < 256 = omega arith in
-          let a : take (count + 1) (set numbers count account) ≡ take count numbers ++ (account ∷ []) = ap (λ (k : ℕ). take k (set numbers count account)) (add-one count) ∙ take-suc-set numbers count account (omega arith) in
-          let b : take (count + 1) (set amounts count amount) ≡ take count amounts ++ (amount ∷ []) = ap (λ (k : ℕ). take k (set amounts count amount)) (add-one count) ∙ take-suc-set amounts count amount (omega arith) in
-          record {
-            is = pick_no _ _ _ (same ∙ l) ∙ pick_no _ _ _ (lt-leb 256 (length (take count numbers)) (omega (arith, fits))) ∙ sym (rw (a, b));
-            few = omega arith;
-            wide = length-set numbers count account ∙ wide;
-            long = length-set amounts count amount ∙ long;
-          }
+-- the front of an array, after one element more
+pub front-more : (xs : List ℕ) (count x : ℕ) → count < length xs → take (count + 1) (set xs count x) ≡ take count xs ++ (x ∷ [])
+front-more xs count x l = ap (λ (k : ℕ). take k (set xs count x)) (add-one count) ∙ take-suc-set xs count x l
 
 -- ---- all lines
 
@@ -176,23 +155,23 @@ module _ (line : ℕ) (ns ms : List ℕ) (xs : List (List ℕ)) where
 
 -- ---- at a place of a text
 
-module _ (text : List ℕ) (place : ℕ) (line count : ℕ) (numbers amounts : List ℕ) where
-  pub text-over : length text ≤ place → told_from line (take count numbers) (take count amounts) (lines_of (drop place text)) ≡ told_of text
-      → losses (take count numbers) (take count amounts) ≡ told_of text
+module _ (text : List ℕ) (place : ℕ) (line : ℕ) (l : Losses) where
+  pub text-over : length text ≤ place → told_from line (take l.count l.numbers) (take l.count l.list) (lines_of (drop place text)) ≡ told_of text
+      → losses (take l.count l.numbers) (take l.count l.list) ≡ told_of text
   text-over h i = sym (no_more line _ _ _ (no_line text place h)) ∙ i
 
-  module _ (end : ℕ) {loss : Loss} {numbers' amounts' : List ℕ} (h : place < length text) (e : end ≡ place + line_length (drop place text))
-      (i : told_from line (take count numbers) (take count amounts) (lines_of (drop place text)) ≡ told_of text)
+  module _ (end : ℕ) {loss : Loss} {l' : Losses} (h : place < length text) (e : end ≡ place + line_length (drop place text))
+      (i : told_from line (take l.count l.numbers) (take l.count l.list) (lines_of (drop place text)) ≡ told_of text)
       (o : loss ≡ loss_said (take (end - place) (drop place text))) where
-    here : (p : Result ℕ ℕ) → Puts numbers amounts count loss numbers' amounts' p
-        → named_by (take count numbers) (take count amounts) (loss_said (take (end - place) (drop place text))) ≡ named_then numbers' amounts' p
-    here p s = ap (named_by (take count numbers) (take count amounts)) (sym o) ∙ s.is
+    here : (p : Result ⊤ ℕ) → Puts l loss l' p
+        → named_by (take l.count l.numbers) (take l.count l.list) (loss_said (take (end - place) (drop place text))) ≡ named_then l' p
+    here p s = ap (named_by (take l.count l.numbers) (take l.count l.list)) (sym o) ∙ s.is
 
-    pub text-fails : (fault : ℕ) → Puts numbers amounts count loss numbers' amounts' (Err fault) → wrong line fault ≡ told_of text
+    pub text-fails : (fault : ℕ) → Puts l loss l' (Err fault) → wrong line fault ≡ told_of text
     text-fails fault s = sym (line-fails line _ _ _ _ _ (line-here text place end h e) fault (here (Err fault) s)) ∙ i
 
-    pub text-goes : (more : ℕ) → Puts numbers amounts count loss numbers' amounts' (Ok more)
-        → told_from (line + 1) (take more numbers') (take more amounts') (lines_of (drop end text)) ≡ told_of text
-    text-goes more s =
-        ap (λ (k : ℕ). told_from k (take more numbers') (take more amounts') (lines_of (drop end text))) (add-one line)
-        ∙ sym (line-names line _ _ _ _ _ (line-here text place end h e) _ _ (here (Ok more) s)) ∙ i
+    pub text-goes : (u : ⊤) → Puts l loss l' (Ok u)
+        → told_from (line + 1) (take l'.count l'.numbers) (take l'.count l'.list) (lines_of (drop end text)) ≡ told_of text
+    text-goes u s =
+        ap (λ (k : ℕ). told_from k (take l'.count l'.numbers) (take l'.count l'.list) (lines_of (drop end text))) (add-one line)
+        ∙ sym (line-names line _ _ _ _ _ (line-here text place end h e) _ _ (here (Ok u) s)) ∙ i

@@ -48,12 +48,11 @@ fn loss_of(line: &[u8]) -> Loss
     Loss::Bad(4)
 }
 
-// The first of so many places that has the number. They need not rise.
-pub(crate) fn first_place(numbers: &[u16; 256], count: usize, n: u16) -> Option<usize>
-    requires { count ≤ 256 }
-    ensures { PlaceAmong numbers.now count n result }
+// The first place that has the number. They need not rise.
+pub(crate) fn first_place(numbers: &[u16], n: u16) -> Option<usize>
+    ensures { PlaceAmong numbers.now (length numbers.now) n result }
 {
-    for i in 0..count {
+    for i in 0..numbers.len() {
         if numbers[i] == n {
             return Some(i);
         }
@@ -61,29 +60,28 @@ pub(crate) fn first_place(numbers: &[u16; 256], count: usize, n: u16) -> Option<
     None
 }
 
-// One line's account and loss put, and how many there are then; or its fault.
-fn put_loss(
-    numbers: &mut [u16; 256],
-    amounts: &mut [u64; 256],
-    count: usize,
-    loss: Loss,
-) -> Result<usize, u8>
-    requires { (count ≤ 256) × (length numbers.old ≡ 256) × (length amounts.old ≡ 256) }
-    ensures { Puts numbers.old amounts.old count loss numbers.new amounts.new result }
-{
-    match loss {
-        Loss::Nothing => Ok(count),
-        Loss::Bad(fault) => Err(fault),
-        Loss::Of(account, amount) => {
-            if first_place(numbers, count, account).is_some() {
-                return Err(5);
+impl Losses {
+    // One line's account and loss put, or its fault.
+    fn put(&mut self, loss: Loss) -> Result<(), u8>
+        requires { self.old.count ≤ 256 }
+        ensures { Puts self.old loss self.new result }
+    {
+        match loss {
+            Loss::Nothing => Ok(()),
+            Loss::Bad(fault) => Err(fault),
+            Loss::Of(account, amount) => {
+                let n = self.count;
+                if first_place(&self.numbers[..n], account).is_some() {
+                    return Err(5);
+                }
+                if n == 256 {
+                    return Err(6);
+                }
+                self.numbers[n] = account;
+                self.list[n] = amount;
+                self.count = n + 1;
+                Ok(())
             }
-            if count == 256 {
-                return Err(6);
-            }
-            numbers[count] = account;
-            amounts[count] = amount;
-            Ok(count + 1)
         }
     }
 }
@@ -92,25 +90,19 @@ pub(crate) fn read_lines(text: &[u8]) -> Result<Losses, Wrong>
     ensures count_bound { IfOk result (λ l. l.count ≤ 256) }
     ensures result_value { answered result ≡ told_of text.now }
 {
-    let mut numbers = [0u16; 256];
-    let mut amounts = [0u64; 256];
-    let mut count: usize = 0;
+    let mut losses = Losses::none();
     let mut line: usize = 1;
     let mut place: usize = 0;
     // A `while`: a turn goes on by its line's length.
     while place < text.len() {
         let end = line_end(text, place);
         let loss = loss_of(&text[place..end]);
-        match put_loss(&mut numbers, &mut amounts, count, loss) {
-            Ok(more) => count = more,
+        match losses.put(loss) {
+            Ok(()) => {}
             Err(fault) => return Err(Wrong { line, fault }),
         }
         place = end;
         line += 1;
     }
-    Ok(Losses {
-        numbers,
-        list: amounts,
-        count,
-    })
+    Ok(losses)
 }

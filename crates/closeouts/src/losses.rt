@@ -13,6 +13,19 @@ pub(crate) struct Losses {
     pub(crate) count: usize,
 }
 
+impl Losses {
+    // None yet.
+    pub(crate) fn none() -> Losses
+        ensures { result.count ≡ 0 }
+    {
+        Losses {
+            numbers: [0; 256],
+            list: [0; 256],
+            count: 0,
+        }
+    }
+}
+
 // A length that is no multiple of eight gives no losses, which suit no book.
 #[tactic(auto, unfolding(crate::specs::Losses::loss_count, sums::specs::Choice::pick))]
 fn count_of(length: usize) -> usize

@@ -1,7 +1,0 @@
-use Rattle.std.proofs.Common.{ℕ, ◌≡◌, ltb, get_or}
-use Rattle.sums.specs.Sum.{all}
-use Rattle.rows.specs.Rows.{place_among}
-use Rattle.closeouts.proofs.matching.all_held.Given as goal
-
-abbrev pub invariant-loop-i : goal.invariant-loop-i
-invariant-loop-i l = l.ok ≡ all l.i (λ (j : ℕ). ltb (place_among l.rows l.n (get_or l.numbers j 0)) l.n)
