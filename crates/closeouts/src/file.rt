@@ -25,8 +25,7 @@ fn from_bytes(rt: &HostRuntime) -> Option<Losses>
     if read.failed {
         return None;
     }
-    let n = read.count;
-    Some(list(&bytes[..n]))
+    Some(list(&bytes[..read.count]))
 }
 
 // A line that says nothing is told.
@@ -53,12 +52,11 @@ fn from_lines(rt: &HostRuntime) -> Option<Losses>
     if read.failed {
         return None;
     }
-    let n = read.count;
-    if TEXT < n {
+    if TEXT < read.count {
         told::too_long(rt);
         return None;
     }
-    from_text(rt, &text[..n])
+    from_text(rt, &text[..read.count])
 }
 
 // Of the first word, or of the second behind `--lines`.

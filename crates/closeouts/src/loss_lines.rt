@@ -15,7 +15,7 @@ pub(crate) enum Loss {
     Bad(u8),
 }
 
-// The first line that says nothing, counted from 1, and its fault.
+// The first line that says nothing, counted from 1, and its fault: what a `Result` fails with, so there always is one.
 #[derive(Clone, Copy)]
 pub(crate) struct Wrong {
     pub(crate) line: usize,
