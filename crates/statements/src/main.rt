@@ -39,20 +39,19 @@ fn run(rt: &HostRuntime, t: Table, tm: u16) {
     if read.failed {
         return;
     }
-    let n = read.count;
-    tell(rt, t, tm, &room[..n]);
+    tell(rt, t, tm, &room[..read.count]);
 }
 
 fn from_book(rt: &HostRuntime, tm: u64) {
-    if 65_535 < tm {
+    let Ok(tm) = u16::try_from(tm) else {
         bad_words(rt);
         return;
-    }
+    };
     let from = feed::books::from_word(rt, b"statements", 2);
     if from.failed {
         return;
     }
-    run(rt, from.table, tm as u16);
+    run(rt, from.table, tm);
 }
 
 fn from_words(rt: &HostRuntime) {
