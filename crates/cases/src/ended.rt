@@ -13,8 +13,7 @@ fn word(rt: &HostRuntime, closing: Closing) {
 
 // The closing word, the place and the counts.
 pub fn ended(rt: &HostRuntime, e: Ended) {
-    let closing = e.closing;
-    word(rt, closing);
+    word(rt, e.closing);
     number(rt, e.place as u64);
     number(rt, e.read);
     number(rt, e.done);

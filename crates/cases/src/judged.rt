@@ -18,7 +18,7 @@ fn fault(rt: &HostRuntime, code: u8, named: u8, bit: u8) {
         pledged: u64::from(bit == 4),
         margin: u64::from(bit == 5),
     };
-    shown::number(rt, dayfile::fault_of(r) as u64);
+    shown::number(rt, u64::from(dayfile::fault_of(r)));
 }
 
 // Retiring names no amount.

@@ -42,7 +42,7 @@ fn held_line(rt: &HostRuntime, held: Held) {
     }
     told(rt, b"; count ", u64::from(t.count));
     told(rt, b", serial ", u64::from(t.serial));
-    told(rt, b", next ", t.next as u64);
+    told(rt, b", next ", u64::from(t.next));
     told(rt, b", at 254 number ", u64::from(t.numbers[254]));
     told(rt, b", at 255 number ", u64::from(t.numbers[255]));
     told(rt, b", sort ", u64::from(t.marks.sort[255]));
