@@ -17,22 +17,22 @@ fn too_few_words(rt: &HostRuntime) -> bool {
 
 fn tell(rt: &HostRuntime, refusal: u8) {
     let mut line = [0u8; 21];
-    let n = text::put_number(&mut line, 0, refusal as u64, b'\n');
+    let n = text::put_number(&mut line, 0, u64::from(refusal), b'\n');
     write_output(rt, b"take_over", &line[..n]);
 }
 
 fn take_over(rt: &HostRuntime, before: Table) {
     let taken = book::take_over(before);
-    let refusal = taken.refusal;
-    if refusal == 0 {
+    if taken.refusal == 0 {
         let put = feed::books::to_word(rt, b"take_over", 2, taken.table);
         if put.failed {
             return;
         }
     }
-    tell(rt, refusal);
+    tell(rt, taken.refusal);
 }
 
+// One shape with the main of `archive`: each names its own words and calls, and no crate is for what two mains share.
 fn main(rt: HostRuntime) {
     let help = streams::standard::help(
         &rt,
