@@ -21,8 +21,7 @@ fn main(rt: HostRuntime) {
     if day.failed {
         return;
     }
-    let word = day.closing;
-    let closed = report::closing(&rt, b"holdings", word, day.read, day.done);
+    let closed = report::closing(&rt, b"holdings", day.closing, day.read, day.done);
     if closed.failed {
         return;
     }
