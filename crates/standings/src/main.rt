@@ -13,6 +13,7 @@ fn list(rt: &HostRuntime, word: Closing, table: Table) {
     }
 }
 
+// One shape with the main of `needs`: each names its own words and calls, and no crate is for what two mains share.
 fn main(rt: HostRuntime) {
     let help = streams::standard::help(
         &rt,
@@ -32,10 +33,9 @@ fn main(rt: HostRuntime) {
     if day.failed {
         return;
     }
-    let word = day.closing;
-    let closed = report::closing(&rt, b"standings", word, day.read, day.done);
+    let closed = report::closing(&rt, b"standings", day.closing, day.read, day.done);
     if closed.failed {
         return;
     }
-    list(&rt, word, day.table);
+    list(&rt, day.closing, day.table);
 }
