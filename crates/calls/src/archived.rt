@@ -3,7 +3,7 @@ ghost use Rattle.std.specs.Prelude.{◌≤◌, length, IfSome};
 
 use crate::call::Told;
 use crate::changed::put_book;
-use crate::rooms::{put_front, widened, words};
+use crate::rooms::{lent, put_front, widened};
 use crate::taken::{LIST, length_at};
 use archival::Table;
 
@@ -13,16 +13,16 @@ fn put_archived(room: &mut [u8], before: Table, n: usize) -> usize
     ensures { result ≤ length room.new }
 {
     let end = n + 2;
-    let mut archive = words(n);
+    let mut archive = lent(n, |i| (i % 65536) as u16);
     let got = archival::archive(before, &mut archive[..n]);
-    let after = got.table;
     let mut line = widened(&archive[..n]);
-    line[0] = got.refusal as u64;
-    line[1] = got.moved as u64;
+    line[0] = u64::from(got.refusal);
+    line[1] = u64::from(got.moved);
     let at = put_front(room, line, end);
-    put_book(room, at, before, after)
+    put_book(room, at, before, got.table)
 }
 
+// One shape with `needs`: a closure for the line would need a contract that is longer than their bodies.
 pub(crate) fn archive(bytes: &[u8], table: Table, room: &mut [u8]) -> Option<Told>
     requires { 178000 ≤ length room.old }
     ensures { IfSome result (λ t. (t.size ≤ length bytes.now) × (t.text ≤ length room.new)) }

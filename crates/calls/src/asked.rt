@@ -58,7 +58,7 @@ fn put_needs(room: &mut [u8], table: Table, n: usize) -> usize
     let end = n + 2;
     let mut line = numbers(n);
     let refusal = book::needs(table, &mut line[2..end]);
-    line[1] = refusal as u64;
+    line[1] = u64::from(refusal);
     put_line(room, 0, line, 1, end)
 }
 

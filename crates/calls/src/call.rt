@@ -55,8 +55,7 @@ fn with_book(bytes: &[u8], room: &mut [u8]) -> Option<Told>
     if !held.is_book {
         return None;
     }
-    let table = held.table;
-    let told = of_book(bytes[0], &bytes[from..], table, room)?;
+    let told = of_book(bytes[0], &bytes[from..], held.table, room)?;
     Some(Told {
         size: from + told.size,
         text: told.text,

@@ -16,8 +16,8 @@ fn put_outcome(room: &mut [u8], at: usize, o: Outcome) -> usize
 {
     match o {
         Outcome::CarriedOut => put_two(room, at, 0, 0),
-        Outcome::Opened(n) => put_two(room, at, 0, n as u64),
-        Outcome::Refused(reason) => put_two(room, at, reason as u64, 0),
+        Outcome::Opened(n) => put_two(room, at, 0, u64::from(n)),
+        Outcome::Refused(reason) => put_two(room, at, u64::from(reason), 0),
         Outcome::End => put_text(room, at, b"end 0 "),
     }
 }
@@ -34,10 +34,9 @@ fn put_answer(room: &mut [u8], a: Answer) -> usize
     requires { 105 ≤ length room.old }
     ensures { result ≤ 105 }
 {
-    let list = [a.serial as u64, a.code as u64, a.account as u64];
+    let list = [u64::from(a.serial), u64::from(a.code), u64::from(a.account)];
     let at = put_each(room, 0, &list, 3);
-    let o = a.outcome;
-    put_outcome(room, at, o)
+    put_outcome(room, at, a.outcome)
 }
 
 // Carries out a record handed over as values, and puts the line.
@@ -46,10 +45,8 @@ fn put_carried(room: &mut [u8], before: Table, r: Record) -> usize
     ensures { result ≤ length room.new }
 {
     let done = desk::carry_out(before, r);
-    let answer = done.answer;
-    let after = done.table;
-    let at = put_answer(room, answer);
-    put_book(room, at, before, after)
+    let at = put_answer(room, done.answer);
+    put_book(room, at, before, done.table)
 }
 
 pub(crate) fn carry_out(bytes: &[u8], table: Table, room: &mut [u8]) -> Option<Told>
@@ -72,11 +69,9 @@ fn put_next(room: &mut [u8], before: Table, piece: &[u8], place: usize) -> usize
     ensures { result ≤ length room.new }
 {
     let next = desk::carry_out_next(before, piece, place);
-    let answer = next.answer;
-    let after = next.table;
-    let p = put_answer(room, answer);
+    let p = put_answer(room, next.answer);
     let at = put_number(room, p, next.place as u64, b' ');
-    put_book(room, at, before, after)
+    put_book(room, at, before, next.table)
 }
 
 fn put_word(room: &mut [u8], word: Closing) -> usize
@@ -97,12 +92,10 @@ fn put_day(room: &mut [u8], before: Table, piece: &[u8], most: u64) -> usize
     ensures { result ≤ length room.new }
 {
     let ended = run::day(before, piece, most);
-    let word = ended.closing;
-    let after = ended.table;
-    let p = put_word(room, word);
+    let p = put_word(room, ended.closing);
     let list = [ended.place as u64, ended.read, ended.done];
     let at = put_each(room, p, &list, 3);
-    put_book(room, at, before, after)
+    put_book(room, at, before, ended.table)
 }
 
 // Where a piece behind its length ends, and the place or the number behind it.
@@ -155,10 +148,9 @@ pub(crate) fn take_over(before: Table, room: &mut [u8]) -> Option<Told>
     ensures { IfSome result (λ t. (t.size ≤ 0) × (t.text ≤ length room.new)) }
 {
     let taken = book::take_over(before);
-    let after = taken.table;
-    let at = put_number(room, 0, taken.refusal as u64, b' ');
+    let at = put_number(room, 0, u64::from(taken.refusal), b' ');
     Some(Told {
         size: 0,
-        text: put_book(room, at, before, after),
+        text: put_book(room, at, before, taken.table),
     })
 }

@@ -62,9 +62,9 @@ fn put_place(
 fn put_changes(list: &mut [u64; 4355], a: Table, b: Table) -> usize
     ensures { (3 ≤ result) × (result ≤ 4355) }
 {
-    list[0] = b.count as u64;
-    list[1] = b.serial as u64;
-    list[2] = b.next as u64;
+    list[0] = u64::from(b.count);
+    list[1] = u64::from(b.serial);
+    list[2] = u64::from(b.next);
     let mut n: usize = 3;
     for i in 0..256 {
         let number = b.numbers[i];

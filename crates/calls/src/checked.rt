@@ -12,7 +12,7 @@ fn put_checked(room: &mut [u8], table: Table, tm: u16, statement: &[u8]) -> usiz
     ensures { result ≤ length room.new }
 {
     let finding = statement::check(table, tm, statement);
-    put_number(room, 0, finding.refusal as u64, b'\n')
+    put_number(room, 0, u64::from(finding.refusal), b'\n')
 }
 
 pub(crate) fn check(bytes: &[u8], table: Table, room: &mut [u8]) -> Option<Told>

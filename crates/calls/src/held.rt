@@ -8,7 +8,8 @@ const SPACE: usize = 262_144;
 // The longest call: its byte, a book of version 2, a piece's length, the longest piece, a place.
 const LONGEST: usize = 89_881;
 
-// Where the next call begins, where what is held ends, and whether the input ends there too.
+// Where the next call begins, where what is held ends, and whether the input ends there too:
+// a fact of its own, since both places are wanted either way.
 #[derive(Clone, Copy)]
 pub(crate) struct Stands {
     pub(crate) at: usize,

@@ -23,10 +23,9 @@ fn side_of(byte: u8) -> Side {
 fn position(bytes: &[u8], at: usize) -> Position
     requires { at + 10 ≤ length bytes.now }
 {
-    let side = side_of(bytes[at + 1]);
     Position {
         product: bytes[at],
-        side,
+        side: side_of(bytes[at + 1]),
         notional: number8(bytes, at + 2),
     }
 }
@@ -89,17 +88,16 @@ fn put_record(room: &mut [u8], r: Record) -> usize
     requires { 178000 ≤ length room.old }
     ensures { result ≤ length room.new }
 {
-    let kinds = r.kinds;
     let list = [
         0,
-        r.serial as u64,
-        r.code as u64,
-        r.named as u64,
-        r.account as u64,
-        kinds.cash,
-        kinds.deposits,
-        kinds.guarantees,
-        kinds.securities,
+        u64::from(r.serial),
+        u64::from(r.code),
+        u64::from(r.named),
+        u64::from(r.account),
+        r.kinds.cash,
+        r.kinds.deposits,
+        r.kinds.guarantees,
+        r.kinds.securities,
         r.pledged,
         r.margin,
     ];
@@ -112,7 +110,7 @@ pub(crate) fn put_made(room: &mut [u8], made: Made) -> usize
 {
     match made {
         Made::Given(record) => put_record(room, record),
-        Made::Refused(refusal) => put_number(room, 0, refusal as u64, b'\n'),
+        Made::Refused(refusal) => put_number(room, 0, u64::from(refusal), b'\n'),
     }
 }
 

@@ -11,7 +11,7 @@ fn put_most(room: &mut [u8], table: Table, r: Record) -> usize
     ensures { result ≤ length room.new }
 {
     let largest = most::most(table, r);
-    let list = [largest.refusal as u64, largest.amount];
+    let list = [u64::from(largest.refusal), largest.amount];
     put_spaced(room, 0, &list)
 }
 

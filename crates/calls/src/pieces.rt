@@ -12,18 +12,17 @@ fn put_record(room: &mut [u8], r: Record, next: usize) -> usize
     requires { 178000 ≤ length room.old }
     ensures { result ≤ length room.new }
 {
-    let kinds = r.kinds;
     let list = [
         0,
         next as u64,
-        r.serial as u64,
-        r.code as u64,
-        r.account as u64,
-        r.named as u64,
-        kinds.cash,
-        kinds.deposits,
-        kinds.guarantees,
-        kinds.securities,
+        u64::from(r.serial),
+        u64::from(r.code),
+        u64::from(r.account),
+        u64::from(r.named),
+        r.kinds.cash,
+        r.kinds.deposits,
+        r.kinds.guarantees,
+        r.kinds.securities,
         r.pledged,
         r.margin,
     ];
@@ -42,11 +41,11 @@ fn put_bad_record(
     ensures { result ≤ length room.new }
 {
     let list = [
-        reason as u64,
+        u64::from(reason),
         next as u64,
-        serial as u64,
-        code as u64,
-        account as u64,
+        u64::from(serial),
+        u64::from(code),
+        u64::from(account),
     ];
     put_spaced(room, 0, &list)
 }
@@ -88,7 +87,7 @@ pub(crate) fn read_at(bytes: &[u8], room: &mut [u8]) -> Option<Told>
 fn refusal_of(wrote: Wrote) -> u64 {
     match wrote {
         Wrote::Written(_) => 0,
-        Wrote::Refused(reason) => reason as u64,
+        Wrote::Refused(reason) => u64::from(reason),
     }
 }
 
@@ -103,7 +102,7 @@ fn put_written(room: &mut [u8], r: Record, n: usize) -> usize
     requires { (n ≤ 4096) × (178000 ≤ length room.old) }
     ensures { result ≤ length room.new }
 {
-    let mut bytes = rooms::bytes(n);
+    let mut bytes = rooms::lent(n, |i| (i % 256) as u8);
     let wrote = dayfile::write(r, &mut bytes[..n]);
     let mut line = rooms::widened(&bytes[..n]);
     line[0] = refusal_of(wrote);

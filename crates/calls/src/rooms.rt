@@ -8,40 +8,27 @@ use text::{put_each, put_spaced};
 // The most numbers of a part of a line: count, serial, next number, and seventeen for each of 256 places.
 pub(crate) const LINE: usize = 4_355;
 
-// Fills a room by its places, from 1 on.
-fn fill<T: Copy, F: Fn(usize) -> T>(room: &mut [T], of: F)
-    requires callable { F.IsAlwaysCallable of }
-    requires short { length room.old ≤ 4096 }
-{
-    for (i, x) in room.iter_mut().enumerate() {
-        *x = of(i + 1);
-    }
-}
-
 pub(crate) fn numbers(n: usize) -> [u64; LINE]
     requires { n ≤ 4096 }
     ensures { length result ≡ 4355 }
 {
     let mut line = [0; LINE];
-    fill(&mut line[2..n + 2], |i| i as u64);
+    for i in 0..n {
+        line[i + 2] = i as u64 + 1;
+    }
     line
 }
 
-pub(crate) fn bytes(n: usize) -> [u8; LIST]
-    requires { n ≤ 4096 }
+// A lent room of n bytes or words, each by its place from 1 on.
+pub(crate) fn lent<T: Copy, F: Fn(usize) -> T>(n: usize, of: F) -> [T; LIST]
+    requires callable { F.IsAlwaysCallable of }
+    requires short { n ≤ 4096 }
     ensures { length result ≡ 4096 }
 {
-    let mut room = [0; LIST];
-    fill(&mut room[..n], |i| (i % 256) as u8);
-    room
-}
-
-pub(crate) fn words(n: usize) -> [u16; LIST]
-    requires { n ≤ 4096 }
-    ensures { length result ≡ 4096 }
-{
-    let mut room = [0; LIST];
-    fill(&mut room[..n], |i| (i % 65536) as u16);
+    let mut room = [of(0); LIST];
+    for i in 0..n {
+        room[i] = of(i + 1);
+    }
     room
 }
 

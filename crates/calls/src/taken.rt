@@ -38,13 +38,12 @@ fn kinds(bytes: &[u8], at: usize) -> Kinds
 pub(crate) fn record(bytes: &[u8], at: usize) -> Record
     requires { at + 54 ≤ length bytes.now }
 {
-    let kinds = kinds(bytes, at + 6);
     Record {
         serial: number2(bytes, at),
         code: bytes[at + 2],
         named: bytes[at + 3],
         account: number2(bytes, at + 4),
-        kinds,
+        kinds: kinds(bytes, at + 6),
         pledged: number8(bytes, at + 38),
         margin: number8(bytes, at + 46),
     }
