@@ -16,6 +16,5 @@ fn main(rt: HostRuntime) {
     if from.failed {
         return;
     }
-    let table = from.table;
-    wording::in_words(&rt, b"read", table.serial);
+    wording::in_words(&rt, b"read", from.table.serial);
 }
