@@ -20,13 +20,12 @@ pub(crate) struct Said {
 fn made_for(asked: Asked, held: Held) -> Made
     ensures { result ≡ made_for asked held }
 {
-    let positions = held.positions;
     let figures = held.figures.unwrap_or(NO_FIGURES);
     exposure::margin(
         asked.serial,
         asked.account,
         asked.initial,
-        positions,
+        held.positions,
         held.number,
         figures.premium,
         figures.loss,

@@ -34,10 +34,8 @@ fn hand_over(rt: &HostRuntime, asked: Asked, text: &[u8]) -> Moved
     let mut out = [0u8; 70];
     let mut err = [0u8; 70];
     let said = answer(asked, held, &mut out, &mut err);
-    let told = said.told;
-    let printed = said.printed;
-    tell(rt, &err[..told]);
-    write_output(rt, b"margins", &out[..printed])
+    tell(rt, &err[..said.told]);
+    write_output(rt, b"margins", &out[..said.printed])
 }
 
 fn run(rt: &HostRuntime, asked: Asked) {

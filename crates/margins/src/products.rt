@@ -24,7 +24,7 @@ pub(crate) fn names_product(word: &[u8]) -> bool
     is_all_capitals_or_digits(word) & !word.is_empty()
 }
 
-// A product's number, in the paper's order; 10 for any other. Not a `match` on the bytes: it leaves a goal for each byte of each word.
+// A product's number, in the paper's order; 10 for any other, since `currency::Position` holds any number and `currency` refuses that one. Not a `match` on the bytes: it leaves a goal for each byte of each word.
 pub(crate) fn product_of(word: &[u8]) -> u8
     ensures { result ≡ product_of word.now }
 {
