@@ -31,13 +31,11 @@ fn run_day(rt: &HostRuntime, bytes: &[u8]) -> bool {
     if put.failed {
         return false;
     }
-    let word = lined.closing;
-    let closed = report::closing(rt, b"days", word, lined.read, lined.done);
+    let closed = report::closing(rt, b"days", lined.closing, lined.read, lined.done);
     if closed.failed {
         return false;
     }
-    let table = lined.table;
-    let stood = report::standings(rt, b"days", table);
+    let stood = report::standings(rt, b"days", lined.table);
     !stood.failed
 }
 
