@@ -20,6 +20,5 @@ fn main(rt: HostRuntime) {
     if day.failed {
         return;
     }
-    let word = day.closing;
-    report::closing(&rt, b"explain", word, day.read, day.done);
+    report::closing(&rt, b"explain", day.closing, day.read, day.done);
 }
