@@ -34,9 +34,8 @@ fn main(rt: HostRuntime) {
     if day.failed {
         return;
     }
-    let word = day.closing;
-    if !put_to(&rt, word, day.table) {
+    if !put_to(&rt, day.closing, day.table) {
         return;
     }
-    report::closing(&rt, b"day", word, day.read, day.done);
+    report::closing(&rt, b"day", day.closing, day.read, day.done);
 }
