@@ -43,7 +43,7 @@ fn tell_number(rt: &HostRuntime, n: u64, mark: u8) {
 fn tell_line(rt: &HostRuntime, line: u64, fault: u8) {
     tell(rt, b"write: line ");
     tell_number(rt, line, b':');
-    tell_number(rt, fault as u64, b',');
+    tell_number(rt, u64::from(fault), b',');
     tell_fault(rt, fault);
 }
 
@@ -77,6 +77,5 @@ fn main(rt: HostRuntime) {
     if from.failed {
         return;
     }
-    let table = from.table;
-    run(&rt, table.serial);
+    run(&rt, from.table.serial);
 }
