@@ -11,12 +11,12 @@ use Rattle.rows.specs.declared.Book.{Book}
 use Rattle.rows.specs.Rows.{row_at, mode_at, need_at, view}
 use Rattle.rows.proofs.KeptNeeds.{kept-none}
 use Rattle.table.specs.declared.Table.{Table}
-use Rattle.table.specs.Words.{marks_of, turned, turned_back}
+use Rattle.table.specs.Words.{turned, turned_back}
 use Rattle.table.specs.Facts.{Sized}
 use Rattle.table.proofs.Turning.{turned-from}
 use Rattle.book.specs.Facts.{Sound, MayBeOn}
 use Rattle.gaps.specs.Gaps.{archived}
-use Rattle.gaps.specs.Inner.{held_book, Closable}
+use Rattle.gaps.specs.Inner.{Closable}
 
 module _ (b : Book) (s : Sound b) where
   pub tm-low : (i : ℕ) → i < b.count → (row_at b i).tm ≤ i
@@ -45,9 +45,8 @@ module _ (b : Book) (s : Sound b) where
       by (yes q) = s.kept i q ∙ kept-none (view b) i (λ e. omega (arith, s.shaped.some)) (ap (λ r. eqb r.sort 1) (s.blank i l))
       by (no q) = get_or-eq_default b.needs 0 (omega arith)
 
--- what closing up asks, without the serial and the next number
-pub sound-closable : (t : Table) → Sound (turned_back t) → length t.modes ≡ 256 → length t.needs ≡ 256
-    → Closable (held_book t.count (marks_of t) t.amounts t.modes t.needs t.numbers)
+-- what closing up asks
+pub sound-closable : (t : Table) → Sound (turned_back t) → length t.modes ≡ 256 → length t.needs ≡ 256 → Closable (turned_back t)
 sound-closable t s zm zn =
     let b = turned_back t in
     record {
@@ -63,12 +62,6 @@ sound-closable t s zm zn =
       no_number = s.numbered.beyond;
     }
 
--- THE LAW: the table with them as they were
-pub closed-table : (t u : Table) → Sized (marks_of u) u.amounts → u.serial ≡ t.serial → u.next ≡ t.next
-    → held_book u.count (marks_of u) u.amounts u.modes u.needs u.numbers
-    ≡ archived (held_book t.count (marks_of t) t.amounts t.modes t.needs t.numbers)
-    → u ≡ turned (archived (turned_back t))
-unfolding archived
-closed-table t u z es en e =
-    turned-from u (archived (turned_back t)) z
-    (rw (es, en) (ap (λ b. record { count = b.count; serial = t.serial; rows = b.rows; modes = b.modes; needs = b.needs; next = t.next; numbers = b.numbers }) e))
+-- THE LAW: the table closed up
+pub closed-table : (t u : Table) → Sized u.marks u.amounts → turned_back u ≡ archived (turned_back t) → u ≡ turned (archived (turned_back t))
+closed-table t u z e = turned-from u (archived (turned_back t)) z e

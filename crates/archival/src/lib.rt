@@ -12,6 +12,7 @@ use gaps::close_gaps;
 pub use table::Table;
 
 // The refusal number or 0, how many rows moved, and the table after it.
+// No Result: the table is there in either case.
 #[derive(Clone, Copy)]
 pub struct Archived {
     pub refusal: u8,
@@ -36,38 +37,9 @@ fn without_retired(t: Table) -> Table
     requires { Sound (turned_back t) }
     ensures { result ≡ turned (archived (turned_back t)) }
 {
-    let mut sort = t.sort;
-    let mut live = t.live;
-    let mut tm = t.tm;
-    let mut amounts = t.amounts;
-    let mut modes = t.modes;
-    let mut needs = t.needs;
-    let mut numbers = t.numbers;
-    table::sizes(sort, live, tm, amounts);
-    table::modes::size(modes);
-    table::needs::size(needs);
-    let count = close_gaps(
-        &mut sort,
-        &mut live,
-        &mut tm,
-        &mut amounts,
-        &mut modes,
-        &mut needs,
-        &mut numbers,
-        t.count,
-    );
-    Table {
-        count,
-        serial: t.serial,
-        sort,
-        live,
-        tm,
-        modes,
-        needs,
-        amounts,
-        next: t.next,
-        numbers,
-    }
+    let mut table = t;
+    close_gaps(&mut table);
+    table
 }
 
 // All retired rows go to the room, three numbers each, and the gaps that they leave are closed. The room is filled first: a
@@ -79,12 +51,11 @@ pub fn archive(t: Table, room: &mut [u16]) -> Archived
     if !book::is_sound(t) {
         return refused(t, 1);
     }
-    let count = t.count;
-    let moved = retired(&t.live, count);
+    let moved = retired(&t);
     if room.len() < 3 * moved as usize {
         return refused(t, 23);
     }
-    put_archived(&t.sort, &t.live, &t.tm, &t.amounts, &t.numbers, count, room);
+    put_archived(&t, room);
     let table = without_retired(t);
     Archived {
         refusal: 0,

@@ -22,7 +22,7 @@ fn too_few_words(rt: &HostRuntime) -> bool {
 
 fn tell(rt: &HostRuntime, refusal: u8, moved: u16) {
     let mut line = [0u8; 42];
-    let list = [refusal as u64, moved as u64];
+    let list = [u64::from(refusal), u64::from(moved)];
     let n = text::put_spaced(&mut line, 0, &list);
     write_output(rt, b"archive", &line[..n]);
 }
@@ -31,28 +31,26 @@ fn tell(rt: &HostRuntime, refusal: u8, moved: u16) {
 fn archive(rt: &HostRuntime, t: Table) {
     let mut entries = [0u16; ENTRIES];
     let archived = archival::archive(t, &mut entries);
-    let refusal = archived.refusal;
-    let moved = archived.moved;
-    let after = archived.table;
-    if refusal == 0 {
-        let n = 3 * moved as usize;
+    if archived.refusal == 0 {
+        let n = 3 * usize::from(archived.moved);
         if file::fails(rt, &entries[..n]) {
             return;
         }
-        let put = feed::books::to_word(rt, b"archive", 2, after);
+        let put = feed::books::to_word(rt, b"archive", 2, archived.table);
         if put.failed {
             return;
         }
     }
-    tell(rt, refusal, moved);
+    tell(rt, archived.refusal, archived.moved);
 }
 
+// One shape with the main of `take_over`: each names its own words and calls, and no crate is for what two mains share.
 fn main(rt: HostRuntime) {
     let help = streams::standard::help(
         &rt,
         b"archive: moves the retired accounts out of the book in the file FROM, a line for each into the text file ARCHIVE, the book without them into the file TO; prints 0 and how many moved, or 1 0 where the book isn't sound\nusage: archive FROM TO ARCHIVE\n",
     );
-    if help.asked {
+    if help.is_some() {
         return;
     }
     if streams::standard::too_many_words(&rt, b"archive", 3) {

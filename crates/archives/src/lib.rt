@@ -13,7 +13,7 @@ use text::put_text;
 mod entry;
 mod found;
 
-// Whether a line was put, and how many bytes the file then has.
+// Whether a line was put, and how many bytes the file then has: the count holds in either case, so this is no Option.
 #[derive(Clone, Copy)]
 pub struct Filed {
     pub put: bool,
@@ -67,11 +67,9 @@ pub fn file(room: &mut [u8], n: usize, entries: &[u16]) -> Filed
 {
     let before = end_line(room, n);
     let mut count = before;
-    let mut i: usize = 0;
-    while i < entries.len() / 3 {
+    for i in 0..entries.len() / 3 {
         let k = 3 * i;
         count = with_entry(room, count, entries[k], entries[k + 1], entries[k + 2]);
-        i += 1;
     }
     Filed {
         put: before < count,

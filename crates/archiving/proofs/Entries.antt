@@ -16,7 +16,8 @@ use Rattle.sums.proofs.Choices.{pick_yes, pick_no}
 use Rattle.rows.specs.declared.Row.{Row}
 use Rattle.rows.specs.declared.Book.{Book}
 use Rattle.rows.specs.Rows.{row_at, number_at}
-use Rattle.table.specs.Words.{Marks, book_from}
+use Rattle.table.specs.declared.Marks.{Marks}
+use Rattle.table.specs.Words.{book_from}
 use Rattle.table.proofs.Gathered.{row-in}
 use Rattle.gaps.specs.Gaps.{place_after, kept_to}
 use Rattle.gaps.proofs.Places.{place-le, place-lt}

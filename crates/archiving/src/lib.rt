@@ -1,31 +1,27 @@
 // The retired rows put into a lent archive (K11).
 #![tactic(auto)]
 
-ghost use Rattle.std.specs.Prelude.{false, not, [], ◌∷◌, ◌≡◌, ◌+◌, ◌≤◌, ◌<◌, eqb, length, get_or};
-ghost use Rattle.sums.specs.Sum.{sum, only};
+ghost use Rattle.std.specs.Prelude.{[], ◌∷◌, ◌≡◌, ◌+◌, ◌≤◌, ◌<◌, eqb, length, get_or};
 ghost use Rattle.sums.specs.Choice.{pick};
 ghost use Rattle.sums.specs.Room.{at_start};
-ghost use Rattle.table.specs.Words.{marks_from};
+ghost use Rattle.table.specs.Words.{turned_back};
 ghost use Rattle.text.specs.Inner.{Puts};
-ghost use Rattle.archiving.specs.Archiving.{archive_of};
-ghost use Rattle.archiving.specs.Inner.{entry_of, numbered_book};
+ghost use Rattle.archiving.specs.Archiving.{retired_of, archive_of};
+ghost use Rattle.archiving.specs.Inner.{entry_of};
 
-use rows::needs::only_if;
-use table::places::row_at;
+use table::Table;
 
 // How many of the rows are retired.
-pub fn retired(live: &[bool; 256], count: u16) -> u16
-    requires { count ≤ 256 }
-    ensures { result ≡ sum count (λ i. only (not (get_or live.now i false)) 1) }
+pub fn retired(t: &Table) -> u16
+    requires { t.now.count ≤ 256 }
+    ensures { result ≡ retired_of (turned_back t.now) }
 {
-    let n = count as usize;
-    let mut many: u64 = 0;
-    let mut i: usize = 0;
-    while i < n {
-        many += only_if(!live[i], 1);
-        i += 1;
+    let n = t.count as usize;
+    let mut many: u16 = 0;
+    for i in 0..n {
+        many += u16::from(!t.marks.live[i]);
     }
-    many as u16
+    many
 }
 
 // The number of a client's TM, and 0 for any other.
@@ -51,49 +47,28 @@ fn put_three(room: &mut [u16], at: usize, a: u16, b: u8, c: u16) -> usize
 }
 
 // Row i goes to the archive at a place where it is retired. The place after it.
-fn put_one(
-    sort: &[u8; 256],
-    live: &[bool; 256],
-    tm: &[u16; 256],
-    w: &[u64; 2560],
-    numbers: &[u16; 256],
-    i: usize,
-    room: &mut [u16],
-    at: usize,
-) -> usize
-    requires { (i < 256) × (get_or tm.now i 0 < 256) × (at + length
-        (entry_of (numbered_book 0 (marks_from sort.now live.now tm.now) w.now numbers.now) i) ≤ length room.old) }
-    ensures { Puts room.old at (entry_of (numbered_book 0 (marks_from sort.now live.now tm.now)
-        w.now numbers.now) i) room.new result }
+fn put_one(t: &Table, i: usize, room: &mut [u16], at: usize) -> usize
+    requires { (i < 256) × (get_or t.now.marks.tm i 0 < 256)
+        × (at + length (entry_of (turned_back t.now) i) ≤ length room.old) }
+    ensures { Puts room.old at (entry_of (turned_back t.now) i) room.new result }
 {
-    let r = row_at(sort, live, tm, w, i);
-    if r.live {
+    if t.marks.live[i] {
         return at;
     }
-    let its = tm_number(numbers, r.sort, r.tm);
-    put_three(room, at, numbers[i], r.sort, its)
+    let sort = t.marks.sort[i];
+    let its = tm_number(&t.numbers, sort, t.marks.tm[i]);
+    put_three(room, at, t.numbers[i], sort, its)
 }
 
 // All retired rows, in rising number.
-pub fn put_archived<'a>(
-    sort: &'a [u8; 256],
-    live: &'a [bool; 256],
-    tm: &'a [u16; 256],
-    w: &'a [u64; 2560],
-    numbers: &'a [u16; 256],
-    count: u16,
-    room: &mut [u16],
-)
-    requires { (count ≤ 256) × ((i : _) → i < count → get_or tm.now i 0 < 256)
-        × (length (archive_of (numbered_book count (marks_from sort.now live.now tm.now) w.now numbers.now)) ≤ length room.old) }
-    ensures { room.new ≡ at_start (archive_of (numbered_book count (marks_from sort.now live.now tm.now)
-        w.now numbers.now)) room.old }
+pub fn put_archived(t: &Table, room: &mut [u16])
+    requires { (t.now.count ≤ 256) × ((i : _) → i < t.now.count → get_or t.now.marks.tm i 0 < 256)
+        × (length (archive_of (turned_back t.now)) ≤ length room.old) }
+    ensures { room.new ≡ at_start (archive_of (turned_back t.now)) room.old }
 {
-    let n = count as usize;
+    let n = t.count as usize;
     let mut at: usize = 0;
-    let mut i: usize = 0;
-    while i < n {
-        at = put_one(sort, live, tm, w, numbers, i, room, at);
-        i += 1;
+    for i in 0..n {
+        at = put_one(t, i, room, at);
     }
 }

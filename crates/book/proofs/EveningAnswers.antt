@@ -12,7 +12,7 @@ use Rattle.rows.specs.declared.Row.{Row}
 use Rattle.rows.specs.declared.Book.{Book}
 use Rattle.rows.specs.Rows.{row_at}
 use Rattle.table.specs.declared.Table.{Table}
-use Rattle.table.specs.Words.{amount_of, marks_of, turned_back}
+use Rattle.table.specs.Words.{amount_of, turned_back}
 use Rattle.table.specs.Inner.{amount_sum}
 use Rattle.table.proofs.EveningSums.{sum-by-rows}
 use Rattle.book.specs.declared.Amount.{Amount}
@@ -72,5 +72,5 @@ pub number-sum : (t : Table) (a : Amount) → t.count ≤ 256 → amount_sum t.a
 unfolding evening_sum
 number-sum t a l =
     let b = turned_back t in
-    sum-by-rows (marks_of t) t.amounts (amount_number a) t.count (number-below a) l
+    sum-by-rows t.marks t.amounts (amount_number a) t.count (number-below a) l
     ∙ sum-eq t.count (λ i. amount_of (row_at b i) (amount_number a)) (λ i. amount_in a (row_at b i)) (λ i p. number_is a (row_at b i))

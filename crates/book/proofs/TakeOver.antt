@@ -13,7 +13,7 @@ use Rattle.rows.specs.Rows.{view, with_needs}
 use Rattle.rows.specs.KeptNeeds.{needs_afresh}
 use Rattle.rows.proofs.KeptNeeds.{afresh-at}
 use Rattle.table.specs.declared.Table.{Table}
-use Rattle.table.specs.Words.{marks_of, turned, turned_back}
+use Rattle.table.specs.Words.{turned, turned_back}
 use Rattle.table.specs.Facts.{Sized}
 use Rattle.table.proofs.Turning.{back-and-over, turned-from}
 use Rattle.book.specs.declared.Taken.{Taken}
@@ -41,7 +41,7 @@ module _ (b : Book) where
   takes-over e = let n = first-later 1 (not (sound_by_the_old b)) [] (ap not e) in (n, ap (λ k. unless_refused k (needs_renewed b) (λ n. b)) n)
 
 -- what the call gives: the table as it is, or with the needs worked out afresh
-module _ (t : Table) (h : Sized (marks_of t) t.amounts) where
+module _ (t : Table) (h : Sized t.marks t.amounts) where
   abbrev given : Taken
   given = record { refusal = take_over_refusal (turned_back t); table = turned (taken_over (turned_back t)) }
 
@@ -51,7 +51,7 @@ module _ (t : Table) (h : Sized (marks_of t) t.amounts) where
       rw (n.0, n.1) (ap (λ (x : Table). record { refusal = 1; table = x }) (sym (back-and-over t h)))
 
   abbrev renewed : List ℕ → Table
-  renewed needs = record { count = t.count; serial = t.serial; sort = t.sort; live = t.live; tm = t.tm; modes = t.modes; needs = needs; amounts = t.amounts; next = t.next; numbers = t.numbers }
+  renewed needs = record { count = t.count; serial = t.serial; marks = t.marks; modes = t.modes; needs = needs; amounts = t.amounts; next = t.next; numbers = t.numbers }
 
   pub taken : (needs : List ℕ) → sound_by_the_old (turned_back t) ≡ true → needs ≡ needs_afresh (view (turned_back t))
       → ◌≡◌ {A = Taken} (record { refusal = 0; table = renewed needs }) given

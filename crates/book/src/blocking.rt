@@ -13,22 +13,22 @@ use super::Figures;
 use rows::Rule;
 use rows::deemed::need_by;
 use rows::needs::{blocked_of, only_if};
+use table::Marks;
 use table::needs::account_at;
 
-pub(crate) fn figures<'a>(
-    sort: &'a [u8; 256],
-    tm: &'a [u16; 256],
-    w: &'a [u64; 2560],
+pub(crate) fn figures(
+    marks: &Marks,
+    w: &[u64; 2560],
     count: u16,
     i: usize,
     kept: u64,
     mode: bool,
 ) -> Figures
-    requires { Ranged (seen_book count sort.now tm.now w.now) × Shaped (view (seen_book count sort.now tm.now w.now)) × (i < count)
-        × (kept ≡ kept_need (view (seen_book count sort.now tm.now w.now)) i) }
-    ensures { result ≡ figures_of (view (seen_book count sort.now tm.now w.now)) mode i }
+    requires { Ranged (seen_book count marks.now w.now) × Shaped (view (seen_book count marks.now w.now)) × (i < count)
+        × (kept ≡ kept_need (view (seen_book count marks.now w.now)) i) }
+    ensures { result ≡ figures_of (view (seen_book count marks.now w.now)) mode i }
 {
-    let a = account_at(sort, tm, w, i, Rule::New);
+    let a = account_at(marks, w, i, Rule::New);
     let n = need_by(a, kept);
     let c = a.collateral;
     let k = blocked_of(n, c);
@@ -59,23 +59,19 @@ pub(crate) fn refused(n: u8) -> Figures
     }
 }
 
-pub(crate) fn put_needs<'a>(
-    sort: &'a [u8; 256],
-    tm: &'a [u16; 256],
-    w: &'a [u64; 2560],
-    needs: &'a [u64; 256],
+pub(crate) fn put_needs(
+    marks: &Marks,
+    w: &[u64; 2560],
+    needs: &[u64; 256],
     count: u16,
     room: &mut [u64],
 )
-    requires ranged { Ranged (seen_book count sort.now tm.now w.now) × Shaped (view (seen_book count sort.now tm.now w.now)) }
-    requires needs_kept { NeedsKept (view (seen_book count sort.now tm.now w.now)) needs.now × (length room.old ≡ count) }
-    ensures { room.new ≡ list_to (need (view (seen_book count sort.now tm.now w.now))) count }
+    requires ranged { Ranged (seen_book count marks.now w.now) × Shaped (view (seen_book count marks.now w.now)) }
+    requires needs_kept { NeedsKept (view (seen_book count marks.now w.now)) needs.now × (length room.old ≡ count) }
+    ensures { room.new ≡ list_to (need (view (seen_book count marks.now w.now))) count }
 {
-    let n = count as usize;
-    let mut i: usize = 0;
-    while i < n {
-        let a = account_at(sort, tm, w, i, Rule::New);
+    for i in 0..count as usize {
+        let a = account_at(marks, w, i, Rule::New);
         room[i] = need_by(a, needs[i]);
-        i += 1;
     }
 }

@@ -1,4 +1,5 @@
 // The collateral book of one clearing member, by amount: a fresh one, its soundness, an account's standing, all needs, the evening sums.
+// Refusals stay the documents' numbers, 0 for none: `needs_refusal` gives them so.
 #![tactic(auto)]
 
 ghost use Rattle.std.specs.Prelude.{◌≡◌};
@@ -18,10 +19,11 @@ use lookup::place_among;
 pub use rows::CEILING;
 use rows::Rule;
 use sound::{table_kept, table_sound};
-pub use table::Table;
 use table::needs::{account_at, needs_afresh};
+pub use table::{Marks, Table};
 
 // A standing's five figures, the account's mode and, of account 0, the shortfall (K8), behind the refusal number or 0.
+// No Result: document 01 says all figures beside a refusal, 0 (`no_figures`).
 #[derive(Clone, Copy)]
 pub struct Figures {
     pub refusal: u8,
@@ -50,6 +52,7 @@ pub enum Amount {
 }
 
 // An amount of all accounts, behind the refusal number or 0.
+// No Result: `evening_of` and docs/API.md say both fields, with a refusal too.
 #[derive(Clone, Copy)]
 pub struct Summed {
     pub refusal: u8,
@@ -57,6 +60,7 @@ pub struct Summed {
 }
 
 // The refusal number or 0, and the table after it.
+// No Result: the table is there in either case.
 #[derive(Clone, Copy)]
 pub struct Taken {
     pub refusal: u8,
@@ -71,48 +75,42 @@ pub fn fresh() -> Table
     Table {
         count: 1,
         serial: 0,
-        sort: [0u8; 256],
-        live,
-        tm: [0u16; 256],
+        marks: Marks {
+            sort: [0; 256],
+            live,
+            tm: [0; 256],
+        },
         modes: [false; 256],
-        needs: [0u64; 256],
-        amounts: [0u64; 2560],
+        needs: [0; 256],
+        amounts: [0; 2560],
         next: 1,
-        numbers: [0u16; 256],
+        numbers: [0; 256],
     }
 }
 
 pub fn is_sound(t: Table) -> bool
     ensures { result ≡ sound_b (turned_back t) }
 {
-    let count = t.count;
-    let numbers = t.numbers;
-    table_sound(
-        &t.sort, &t.live, &t.tm, &t.amounts, &t.modes, &t.needs, numbers, count, t.next,
-    )
+    table_sound(&t)
 }
 
 pub fn standing(t: Table, account: u16) -> Figures
     ensures { result ≡ standing_of (turned_back t) account }
 {
-    let count = t.count;
-    let numbers = t.numbers;
-    if !table_sound(
-        &t.sort, &t.live, &t.tm, &t.amounts, &t.modes, &t.needs, numbers, count, t.next,
-    ) {
+    if !table_sound(&t) {
         return blocking::refused(1);
     }
-    let place = place_among(&numbers, count, account);
-    if place >= count {
+    let place = place_among(&t.numbers, t.count, account);
+    if place >= t.count {
         return blocking::refused(7);
     }
     let i = place as usize;
-    if !t.live[i] {
+    if !t.marks.live[i] {
         return blocking::refused(7);
     }
     let mode = t.modes[i];
     let kept = t.needs[i];
-    blocking::figures(&t.sort, &t.tm, &t.amounts, count, i, kept, mode)
+    blocking::figures(&t.marks, &t.amounts, t.count, i, kept, mode)
 }
 
 // The needs of all accounts, one for each place of the room: the refusal, or 0 (K3).
@@ -120,17 +118,13 @@ pub fn needs(t: Table, room: &mut [u64]) -> u8
     ensures value { result ≡ needs_refusal (turned_back t) room.old }
     ensures room_after { room.new ≡ needs_room (turned_back t) room.old }
 {
-    let count = t.count;
-    let numbers = t.numbers;
-    if !table_sound(
-        &t.sort, &t.live, &t.tm, &t.amounts, &t.modes, &t.needs, numbers, count, t.next,
-    ) {
+    if !table_sound(&t) {
         return 1;
     }
-    if room.len() != count as usize {
+    if room.len() != t.count as usize {
         return 15;
     }
-    blocking::put_needs(&t.sort, &t.tm, &t.amounts, &t.needs, count, room);
+    blocking::put_needs(&t.marks, &t.amounts, &t.needs, t.count, room);
     0
 }
 
@@ -138,17 +132,13 @@ pub fn needs(t: Table, room: &mut [u64]) -> u8
 pub fn amount_sum(t: Table, amount: Amount) -> Summed
     ensures { result ≡ evening_of (turned_back t) amount }
 {
-    let count = t.count;
-    let numbers = t.numbers;
-    if !table_sound(
-        &t.sort, &t.live, &t.tm, &t.amounts, &t.modes, &t.needs, numbers, count, t.next,
-    ) {
+    if !table_sound(&t) {
         return Summed {
             refusal: 1,
             total: 0,
         };
     }
-    let n = count as usize;
+    let n = t.count as usize;
     let k = evening::amount_number(amount);
     let total = table::evening::amount_sum(&t.amounts, k, n);
     Summed { refusal: 0, total }
@@ -159,43 +149,23 @@ pub fn amount_sum(t: Table, amount: Amount) -> Summed
 pub fn take_over(t: Table) -> Taken
     ensures { result ≡ record { refusal = take_over_refusal (turned_back t); table = turned (taken_over (turned_back t)) } }
 {
-    let sort = t.sort;
-    let live = t.live;
-    let tm = t.tm;
-    let amounts = t.amounts;
-    table::sizes(sort, live, tm, amounts);
-    let numbers = t.numbers;
-    let count = t.count;
-    if !table_kept(
-        &sort,
-        &live,
-        &tm,
-        &amounts,
-        &t.modes,
-        &t.needs,
-        numbers,
-        count,
-        t.next,
-        Rule::Old,
-    ) {
+    if !table_kept(&t, Rule::Old) {
         return Taken {
             refusal: 1,
             table: t,
         };
     }
-    let cm = account_at(&sort, &tm, &amounts, 0, Rule::Old);
+    let cm = account_at(&t.marks, &t.amounts, 0, Rule::Old);
     if cm.collateral < t.needs[0] {
         return Taken {
             refusal: 1,
             table: t,
         };
     }
-    let mut needs = [0u64; 256];
-    needs_afresh(&sort, &tm, &amounts, count, &mut needs, Rule::New);
-    let mut after = t;
-    after.needs = needs;
+    let mut needs = [0; 256];
+    needs_afresh(&t.marks, &t.amounts, t.count, &mut needs, Rule::New);
     Taken {
         refusal: 0,
-        table: after,
+        table: Table { needs, ..t },
     }
 }

@@ -3,7 +3,7 @@ ghost use Rattle.std.specs.Prelude.{◌≡◌, false, ◌&&◌, [], ◌<◌, eqb
 ghost use Rattle.sums.specs.Sum.{all};
 ghost use Rattle.sums.specs.Choice.{pick};
 ghost use Rattle.rows.specs.Ranges.{no_amounts, in_range};
-ghost use Rattle.table.specs.Words.{marks_from, book_from};
+ghost use Rattle.table.specs.Words.{book_from, turned_back};
 ghost use Rattle.book.specs.Sound.{is_top, good_sort, row_sound, good_number, numbers_sound, formed_b, kept_by, sound_b};
 ghost use Rattle.book.specs.Inner.{marked, amounts_at, modes_at};
 
@@ -12,6 +12,7 @@ use rows::ranges::{kinds_capped, kinds_within};
 use rows::{CEILING, Rule};
 use table::needs::needs_kept;
 use table::places::{kinds_at, word_at};
+use table::{Marks, Table};
 
 // What of an account is no amount.
 #[derive(Clone, Copy)]
@@ -21,14 +22,14 @@ pub(crate) struct Mark {
     pub tm: u16,
 }
 
-fn mark_at<'a>(sort: &'a [u8; 256], live: &'a [bool; 256], tm: &'a [u16; 256], i: usize) -> Mark
+fn mark_at(marks: &Marks, i: usize) -> Mark
     requires { i < 256 }
-    ensures { result ≡ record { sort = get_or sort.entry.now i 0; live = get_or live.now i false; tm = get_or tm.now i 0 } }
+    ensures { result ≡ record { sort = get_or marks.now.sort i 0; live = get_or marks.now.live i false; tm = get_or marks.now.tm i 0 } }
 {
     Mark {
-        sort: sort[i],
-        live: live[i],
-        tm: tm[i],
+        sort: marks.sort[i],
+        live: marks.live[i],
+        tm: marks.tm[i],
     }
 }
 
@@ -81,19 +82,12 @@ fn in_range(w: &[u64; 2560], i: usize) -> bool
         & (word_at(w, 9, i) <= CEILING)
 }
 
-fn good_row<'a>(
-    sort: &'a [u8; 256],
-    live: &'a [bool; 256],
-    tm: &'a [u16; 256],
-    w: &'a [u64; 2560],
-    n: usize,
-    i: usize,
-) -> bool
+fn good_row(marks: &Marks, w: &[u64; 2560], n: usize, i: usize) -> bool
     requires { i < 256 }
-    ensures { result ≡ row_sound (book_from n 0 (marks_from sort.now live.now tm.now) w.now [] [] 0 []) i }
+    ensures { result ≡ row_sound (book_from n 0 marks.now w.now [] [] 0 []) i }
 {
-    let own = mark_at(sort, live, tm, i);
-    let its = mark_at(sort, live, tm, slot(own.tm));
+    let own = mark_at(marks, i);
+    let its = mark_at(marks, slot(own.tm));
     if i < n {
         good_place(i, own, its) & (own.live | no_amounts(w, i)) & in_range(w, i)
     } else {
@@ -101,35 +95,25 @@ fn good_row<'a>(
     }
 }
 
-fn rows_sound<'a>(
-    sort: &'a [u8; 256],
-    live: &'a [bool; 256],
-    tm: &'a [u16; 256],
-    w: &'a [u64; 2560],
-    count: u16,
-) -> bool
-    ensures { result ≡ all 256 (row_sound (book_from count 0 (marks_from sort.now live.now tm.now) w.now []
+fn rows_sound(marks: &Marks, w: &[u64; 2560], count: u16) -> bool
+    ensures { result ≡ all 256 (row_sound (book_from count 0 marks.now w.now []
         [] 0 [])) }
 {
     let n = count as usize;
     let mut ok = true;
-    let mut i: usize = 0;
-    while i < 256 {
-        ok = ok & good_row(sort, live, tm, w, n, i);
-        i += 1;
+    for i in 0..256 {
+        ok = ok & good_row(marks, w, n, i);
     }
     ok
 }
 
 // An account is in the mode only where it is the CM or a live TM.
-fn modes_sound<'a>(sort: &'a [u8; 256], live: &'a [bool; 256], modes: &'a [bool; 256]) -> bool
-    ensures { result ≡ modes_at sort.now live.now modes.now }
+fn modes_sound(marks: &Marks, modes: &[bool; 256]) -> bool
+    ensures { result ≡ modes_at marks.now.sort marks.now.live modes.now }
 {
     let mut ok = true;
-    let mut i: usize = 0;
-    while i < 256 {
-        ok = ok & (!modes[i] | (i == 0) | ((sort[i] == 1) & live[i]));
-        i += 1;
+    for i in 0..256 {
+        ok = ok & (!modes[i] | (i == 0) | ((marks.sort[i] == 1) & marks.live[i]));
     }
     ok
 }
@@ -151,9 +135,8 @@ fn good_number(count: usize, next: u32, i: usize, before: u16, n: u16) -> bool
     }
 }
 
-// By value: an array that is lent does not show its length.
-fn numbers_sound(numbers: [u16; 256], count: u16, next: u32) -> bool
-    ensures { result ≡ numbers_sound count next numbers }
+fn numbers_sound(numbers: &[u16; 256], count: u16, next: u32) -> bool
+    ensures { result ≡ numbers_sound count next numbers.now }
 {
     if 65536 < next {
         return false;
@@ -161,77 +144,39 @@ fn numbers_sound(numbers: [u16; 256], count: u16, next: u32) -> bool
     let n = count as usize;
     let mut before = numbers[0];
     let mut ok = true;
-    let mut i: usize = 0;
-    while i < 256 {
+    for i in 0..256 {
         let own = numbers[i];
         ok = ok & good_number(n, next, i, before, own);
         before = own;
-        i += 1;
     }
     ok
 }
 
-// The test of a table's arrays where they are, with kept needs by a rule. Ranges are tested before anything is added, so that no sum can pass a word.
-pub(crate) fn table_kept<'a>(
-    sort: &'a [u8; 256],
-    live: &'a [bool; 256],
-    tm: &'a [u16; 256],
-    w: &'a [u64; 2560],
-    modes: &'a [bool; 256],
-    needs: &'a [u64; 256],
-    numbers: [u16; 256],
-    count: u16,
-    next: u32,
-    rule: Rule,
-) -> bool
-    ensures { result ≡ (formed_b (book_from count 0 (marks_from sort.now live.now tm.now) w.now
-        modes.now needs.now next numbers) && kept_by rule
-        (book_from count 0 (marks_from sort.now live.now tm.now) w.now modes.now
-        needs.now next numbers)) }
+// The test of a table where it is, with kept needs by a rule. Ranges are tested before anything is added, so that no sum can pass a word.
+pub(crate) fn table_kept(t: &Table, rule: Rule) -> bool
+    ensures { result ≡ (formed_b (turned_back t.now) && kept_by rule (turned_back t.now)) }
 {
-    if count < 1 {
+    if t.count < 1 {
         return false;
     }
-    if count > 256 {
+    if t.count > 256 {
         return false;
     }
-    if !rows_sound(sort, live, tm, w, count) {
+    if !rows_sound(&t.marks, &t.amounts, t.count) {
         return false;
     }
-    if !modes_sound(sort, live, modes) {
+    if !modes_sound(&t.marks, &t.modes) {
         return false;
     }
-    if !numbers_sound(numbers, count, next) {
+    if !numbers_sound(&t.numbers, t.count, t.next) {
         return false;
     }
-    needs_kept(sort, tm, w, count, needs, rule)
+    needs_kept(&t.marks, &t.amounts, t.count, &t.needs, rule)
 }
 
 // The test that refusal 1 is about.
-pub fn table_sound<'a>(
-    sort: &'a [u8; 256],
-    live: &'a [bool; 256],
-    tm: &'a [u16; 256],
-    w: &'a [u64; 2560],
-    modes: &'a [bool; 256],
-    needs: &'a [u64; 256],
-    numbers: [u16; 256],
-    count: u16,
-    next: u32,
-) -> bool
-    ensures { result ≡ sound_b (book_from count 0 (marks_from sort.now live.now tm.now) w.now
-        modes.now needs.now next numbers) }
+pub fn table_sound(t: &Table) -> bool
+    ensures { result ≡ sound_b (turned_back t.now) }
 {
-    table_kept(
-        sort,
-        live,
-        tm,
-        w,
-        modes,
-        needs,
-        numbers,
-        count,
-        next,
-        Rule::New,
-    )
+    table_kept(t, Rule::New)
 }

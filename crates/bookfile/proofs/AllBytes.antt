@@ -60,10 +60,10 @@ module _ (t : Table) (f : Fits t) where
   bytes-row : (i : ℕ) → Bytes (row_part t i)
   unfolding row_part
   bytes-row i =
-      let marks = marks_part (get_or t.sort i 0) (get_or t.live i false) (get_or t.tm i 0) in
+      let marks = marks_part (get_or t.marks.sort i 0) (get_or t.marks.live i false) (get_or t.marks.tm i 0) in
       let amounts = amounts_part t.amounts i in
       let kept = kept_part (get_or t.modes i false) (get_or t.needs i 0) in
-      bytes-append marks (amounts ++ kept) (bytes-marks (get_or t.sort i 0) (get_or t.live i false) (get_or t.tm i 0) (f.sort i))
+      bytes-append marks (amounts ++ kept) (bytes-marks (get_or t.marks.sort i 0) (get_or t.marks.live i false) (get_or t.marks.tm i 0) (f.sort i))
       (bytes-append amounts kept (bytes-amounts t.amounts i) (bytes-kept (get_or t.modes i false) (get_or t.needs i 0)))
 
   bytes-place : (i : ℕ) → Bytes (place_bytes Two t i)

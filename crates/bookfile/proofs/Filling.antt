@@ -1,28 +1,21 @@
--- An array filled from its start on.
-use mathlib.Core.List.{List}
-use mathlib.Core.Path.{◌≡◌, sym, ◌∙◌}
-use Prim.Native.Nat.{ℕ, ◌+◌, ◌≤◌, ◌<◌}
-use native.Mathlib.Omega.{arith}
-use lib.ListN.{length, get_or, set, replicate, length-set, length-replicate}
+-- An array of what a closure answers of each place.
+use Rattle.std.proofs.Common.{◌≡◌, ℕ, zero, suc, ◌+◌, ◌<◌, List, get_or, sym, subst, ◌∙◌, arith}
+use denote.Param.Members.{Mut}
+use Rattle.std.specs.Array.{IsFromFnResultFrom, IsFromFnResult}
+use Rattle.std.specs.Iterator.{ActsAs}
 use Rattle.sums.specs.Listed.{list_to}
-use Rattle.sums.proofs.Lists.{list-is, filled-step}
+use Rattle.sums.proofs.Lists.{list-is}
 
--- of n places the first i are f's
-pub record Filled {A : Type 0} (f : ℕ → A) (d : A) (n : ℕ) (list : List A) (i : ℕ) : Type 0 where
-  pub within : i ≤ n
-  pub long : length list ≡ n
-  pub each : (j : ℕ) → j < i → get_or list j d ≡ f j
+module _ {F A : Type 0} (g : Mut F (ℕ × Unit {0}) A) (f : F) (h : ℕ → A) (acts : ActsAs g f h) (ys : List A) (d : A) where
+  from-on : (n i j : ℕ) → IsFromFnResultFrom g f ys i n → j < n → get_or ys (i + j) d ≡ h (i + j)
+  from-on zero i j e l = absurd (omega arith)
+  from-on (suc n) i zero e l = let k : i + zero ≡ i = omega arith in rw k (e.2.1 d ∙ (acts i e.1 e.0 e.3).1)
+  from-on (suc n) i (suc j) e l =
+      let k : i + suc j ≡ i + 1 + j = omega arith in
+      let P : F → Type 0 = λ q. IsFromFnResultFrom g q ys (i + 1) n in
+      rw k (from-on n (i + 1) j (subst P (acts i e.1 e.0 e.3).0 e.4) (omega arith))
 
-module _ {A : Type 0} (f : ℕ → A) (d : A) (n : ℕ) where
-  pub filled_none : Filled f d n (replicate n d) 0
-  filled_none = record { within = omega arith; long = length-replicate n d; each = λ j l. absurd (omega arith) }
-
-  pub filled_more : (list : List A) (i : ℕ) (x : A) → Filled f d n list i → i < n → x ≡ f i → Filled f d n (set list i x) (i + 1)
-  filled_more list i x h l e = record {
-    within = omega arith;
-    long = length-set list i x ∙ h.long;
-    each = filled-step f list d i x (omega (arith, h.long)) h.each e;
-  }
-
-  pub filled-all : (list : List A) (i : ℕ) → Filled f d n list i → n ≤ i → list ≡ list_to f n
-  filled-all list i h l = sym (list-is f n d list h.long (λ j m. h.each j (omega arith)))
+  -- the array holds what the closure answers
+  pub made : (n : ℕ) → IsFromFnResult g f ys n → ys ≡ list_to h n
+  made n e =
+      sym (list-is h n d ys e.long (λ j l. let k : 0 + j ≡ j = omega arith in rw k at (from-on n 0 j e.each l)))

@@ -33,21 +33,21 @@ module _ (t : Table) (i : ℕ) (r : List ℕ) where
   marks_then : drop 4 (row_part t i ++ r) ≡ amounts_part t.amounts i ++ (kept_part (get_or t.modes i false) (get_or t.needs i 0) ++ r)
   unfolding row_part
   marks_then =
-      let marks = marks_part (get_or t.sort i 0) (get_or t.live i false) (get_or t.tm i 0) in
+      let marks = marks_part (get_or t.marks.sort i 0) (get_or t.marks.live i false) (get_or t.marks.tm i 0) in
       let kept = kept_part (get_or t.modes i false) (get_or t.needs i 0) in
       ap (drop 4) (append_assoc marks (amounts_part t.amounts i ++ kept) r)
-      ∙ drop_at marks ((amounts_part t.amounts i ++ kept) ++ r) 4 (length-marks (get_or t.sort i 0) (get_or t.live i false) (get_or t.tm i 0))
+      ∙ drop_at marks ((amounts_part t.amounts i ++ kept) ++ r) 4 (length-marks (get_or t.marks.sort i 0) (get_or t.marks.live i false) (get_or t.marks.tm i 0))
       ∙ append_assoc (amounts_part t.amounts i) kept r
 
   amounts-then : drop 84 (row_part t i ++ r) ≡ kept_part (get_or t.modes i false) (get_or t.needs i 0) ++ r
   amounts-then =
       sym (drop-drop 80 4 (row_part t i ++ r)) ∙ ap (drop 80) marks_then ∙ drop_at (amounts_part t.amounts i) _ 80 (length-amounts t.amounts i)
 
-  pub sort-in : get_or (row_part t i ++ r) 0 0 ≡ get_or t.sort i 0
+  pub sort-in : get_or (row_part t i ++ r) 0 0 ≡ get_or t.marks.sort i 0
   unfolding row_part
   sort-in = refl
 
-  pub live_in : get_or (row_part t i ++ r) 1 0 ≡ yes_no (get_or t.live i false)
+  pub live_in : get_or (row_part t i ++ r) 1 0 ≡ yes_no (get_or t.marks.live i false)
   unfolding row_part
   live_in = refl
 
@@ -55,12 +55,12 @@ module _ (t : Table) (i : ℕ) (r : List ℕ) where
   mode-in = sym (get_or-drop 84 (row_part t i ++ r) 0 0) ∙ ap (λ (l : List ℕ). get_or l 0 0) amounts-then
 
   module _ (f : Fits t) where
-    pub tm-in : number 2 (drop 2 (row_part t i ++ r)) ≡ get_or t.tm i 0
+    pub tm-in : number 2 (drop 2 (row_part t i ++ r)) ≡ get_or t.marks.tm i 0
     unfolding row_part
     tm-in =
-        let tm = bytes_of 2 (get_or t.tm i 0) in
+        let tm = bytes_of 2 (get_or t.marks.tm i 0) in
         let rest = amounts_part t.amounts i ++ kept_part (get_or t.modes i false) (get_or t.needs i 0) in
-        ap (number 2) (append_assoc tm rest r) ∙ number-bytes_of 2 (get_or t.tm i 0) (rest ++ r) (f.tm i)
+        ap (number 2) (append_assoc tm rest r) ∙ number-bytes_of 2 (get_or t.marks.tm i 0) (rest ++ r) (f.tm i)
 
     pub amount-in : (k : ℕ) → k < 10 → number 8 (drop (4 + 8 * k) (row_part t i ++ r)) ≡ word_at t.amounts k i
     amount-in k l =

@@ -1,5 +1,5 @@
 -- The parts of a written form, put into a room one after another.
-use mathlib.Core.Bool.{Bool, false}
+use mathlib.Core.Bool.{Bool, true, false}
 use mathlib.Core.List.{List, ◌∷◌, ◌++◌, append-nil}
 use mathlib.Core.Path.{◌≡◌, refl, sym, ap, ap₂, ◌∙◌}
 use Prim.Native.Nat.{ℕ, ◌+◌, ◌-◌}
@@ -14,9 +14,15 @@ use Rattle.table.specs.declared.Table.{Table}
 use Rattle.bookfile.specs.declared.Version.{Version}
 use Rattle.bookfile.specs.declared.Version.TheVariants.{One, Two}
 use Rattle.bookfile.specs.Versions.{size_of, head_of, width_of}
-use Rattle.bookfile.specs.Written.{size, head_part, joined, marks_part, amount_part, amounts_part, kept_part, row_part, place_bytes, written_by, written_of}
+use Rattle.bookfile.specs.Written.{size, head_part, yes_no, joined, marks_part, amount_part, amounts_part, kept_part, row_part, place_bytes, written_by, written_of}
 use Rattle.bookfile.proofs.Joining.{length-joined}
 use Rattle.bookfile.proofs.Measures.{all-places}
+use Rattle.std.specs.Int.{from_bool}
+
+-- a yes or a no as the byte that stands for it
+pub yes-byte : (b : Bool) → from_bool b ≡ yes_no b
+yes-byte true = refl
+yes-byte false = refl
 
 -- one run, and another one where it ended
 pub put_then : (l m n x y : List ℕ) (at k : ℕ) → m ≡ sets l at x → n ≡ sets m (at + k) y → length x ≡ k → n ≡ sets l at (x ++ y)
@@ -70,20 +76,20 @@ length-written v t =
 
 module _ (t : Table) where
   -- what stands in a place from the sort on
-  put-row : (l m n r : List ℕ) (at i : ℕ) → m ≡ sets l at (marks_part (get_or t.sort i 0) (get_or t.live i false) (get_or t.tm i 0))
+  put-row : (l m n r : List ℕ) (at i : ℕ) → m ≡ sets l at (marks_part (get_or t.marks.sort i 0) (get_or t.marks.live i false) (get_or t.marks.tm i 0))
       → n ≡ sets m (at + 4) (amounts_part t.amounts i) → r ≡ sets n (at + 84) (kept_part (get_or t.modes i false) (get_or t.needs i 0)) → r ≡ sets l at (row_part t i)
   unfolding row_part
   put-row l m n r at i p q h =
-      let marks = marks_part (get_or t.sort i 0) (get_or t.live i false) (get_or t.tm i 0) in
+      let marks = marks_part (get_or t.marks.sort i 0) (get_or t.marks.live i false) (get_or t.marks.tm i 0) in
       let kept = kept_part (get_or t.modes i false) (get_or t.needs i 0) in
       let e : at + 84 ≡ at + 4 + 80 = omega arith in
       let rest : r ≡ sets m (at + 4) (amounts_part t.amounts i ++ kept) =
       put_then m n r (amounts_part t.amounts i) kept (at + 4) 80 q (h ∙ ap (λ (k : ℕ). sets n k kept) e) (length-amounts t.amounts i) in
-      put_then l m r marks (amounts_part t.amounts i ++ kept) at 4 p rest (length-marks (get_or t.sort i 0) (get_or t.live i false) (get_or t.tm i 0))
+      put_then l m r marks (amounts_part t.amounts i ++ kept) at 4 p rest (length-marks (get_or t.marks.sort i 0) (get_or t.marks.live i false) (get_or t.marks.tm i 0))
 
   -- a number, and the rest of the place behind it
   pub put-place : (k l m n r : List ℕ) (at s i : ℕ) → s ≡ at + 2 → l ≡ sets k (s - 2) (bytes_of 2 (get_or t.numbers i 0))
-      → m ≡ sets l s (marks_part (get_or t.sort i 0) (get_or t.live i false) (get_or t.tm i 0)) → n ≡ sets m (s + 4) (amounts_part t.amounts i)
+      → m ≡ sets l s (marks_part (get_or t.marks.sort i 0) (get_or t.marks.live i false) (get_or t.marks.tm i 0)) → n ≡ sets m (s + 4) (amounts_part t.amounts i)
       → r ≡ sets n (s + 84) (kept_part (get_or t.modes i false) (get_or t.needs i 0)) → r ≡ sets k at (place_bytes Two t i)
   unfolding place_bytes
   put-place k l m n r at s i e o p q h =

@@ -41,17 +41,17 @@ yes-back (suc (suc b)) h = absurd (omega (arith, leb-true (suc (suc b)) 1 h))
 
 -- the words of place i, its number aside, are those that s begins with
 pub record Stands (t : Table) (i : ℕ) (s : List ℕ) : Type 0 where
-  pub sort : get_or t.sort i 0 ≡ get_or s 0 0
-  pub live : yes_no (get_or t.live i false) ≡ get_or s 1 0
-  pub tm : get_or t.tm i 0 ≡ number 2 (drop 2 s)
+  pub sort : get_or t.marks.sort i 0 ≡ get_or s 0 0
+  pub live : yes_no (get_or t.marks.live i false) ≡ get_or s 1 0
+  pub tm : get_or t.marks.tm i 0 ≡ number 2 (drop 2 s)
   pub amounts : (k : ℕ) → k < 10 → word_at t.amounts k i ≡ number 8 (drop (4 + 8 * k) s)
   pub mode : yes_no (get_or t.modes i false) ≡ get_or s 84 0
   pub need : get_or t.needs i 0 ≡ number 8 (drop 85 s)
 
 module _ (t : Table) (i : ℕ) (s : List ℕ) (y : Bytes s) (n : 93 ≤ length s) (w : Stands t i s) where
-  marks-back : marks_part (get_or t.sort i 0) (get_or t.live i false) (get_or t.tm i 0) ++ drop 4 s ≡ s
+  marks-back : marks_part (get_or t.marks.sort i 0) (get_or t.marks.live i false) (get_or t.marks.tm i 0) ++ drop 4 s ≡ s
   marks-back =
-      ap (λ (l : List ℕ). get_or t.sort i 0 ∷ yes_no (get_or t.live i false) ∷ l) (number-back 2 2 s (get_or t.tm i 0) y (omega arith) w.tm)
+      ap (λ (l : List ℕ). get_or t.marks.sort i 0 ∷ yes_no (get_or t.marks.live i false) ∷ l) (number-back 2 2 s (get_or t.marks.tm i 0) y (omega arith) w.tm)
       ∙ ap₂ (λ (a b : ℕ). a ∷ b ∷ drop 2 s) w.sort w.live
       ∙ sym (two_at s 0 (omega arith))
 
@@ -68,7 +68,7 @@ module _ (t : Table) (i : ℕ) (s : List ℕ) (y : Bytes s) (n : 93 ≤ length s
   pub row_back : row_part t i ++ drop 93 s ≡ s
   unfolding row_part
   row_back =
-      let marks = marks_part (get_or t.sort i 0) (get_or t.live i false) (get_or t.tm i 0) in
+      let marks = marks_part (get_or t.marks.sort i 0) (get_or t.marks.live i false) (get_or t.marks.tm i 0) in
       let amounts = amounts_part t.amounts i in
       let kept = kept_part (get_or t.modes i false) (get_or t.needs i 0) in
       append_assoc marks (amounts ++ kept) (drop 93 s)

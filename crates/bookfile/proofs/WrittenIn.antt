@@ -49,7 +49,7 @@ module _ (v : Version) (t : Table) where
   each-yes-or-no : (i : ℕ) → i < 256 → yes_or_no v file i ≡ true
   each-yes-or-no i l =
       and-join {a = leb (get_or file (sort_at v i + 1) 0) 1}
-      (ap (λ (x : ℕ). leb x 1) (byte_at v t i 1 l ∙ live_in t i _) ∙ yes_or_no_lem (get_or t.live i false))
+      (ap (λ (x : ℕ). leb x 1) (byte_at v t i 1 l ∙ live_in t i _) ∙ yes_or_no_lem (get_or t.marks.live i false))
       (ap (λ (x : ℕ). leb x 1) (byte_at v t i 84 l ∙ mode-in t i _) ∙ yes_or_no_lem (get_or t.modes i false))
 
   -- a written form is a book's
@@ -57,7 +57,7 @@ module _ (v : Version) (t : Table) where
   written_is = sym (right-length v file {a = true} {b = true} (length-written v t) (begins v t) (sym (all_from 256 (yes_or_no v file) each-yes-or-no)))
 
   module _ (f : Fits t) where
-    sort : (i : ℕ) → i < 256 → get_or file (sort_at v i) 0 ≡ get_or t.sort i 0
+    sort : (i : ℕ) → i < 256 → get_or file (sort_at v i) 0 ≡ get_or t.marks.sort i 0
     sort i l = ap (λ (x : ℕ). get_or file x 0) (sym (add-zero (sort_at v i))) ∙ byte_at v t i 0 l ∙ sort-in t i _
 
     yes : (list : List Bool) (i k : ℕ) → get_or file (sort_at v i + k) 0 ≡ yes_no (get_or list i false) → yes_at file (sort_at v i + k) ≡ get_or list i false
@@ -73,9 +73,7 @@ module _ (v : Version) (t : Table) where
     all_told : book_by v file ≡ record {
       count = t.count;
       serial = t.serial;
-      sort = t.sort;
-      live = t.live;
-      tm = t.tm;
+      marks = t.marks;
       modes = t.modes;
       needs = t.needs;
       amounts = t.amounts;
@@ -87,9 +85,11 @@ module _ (v : Version) (t : Table) where
         λ j. record {
           count = count_at v t f j;
           serial = serial-at v t f j;
-          sort = list-is _ 256 0 t.sort f.sorts (λ i l. sym (sort i l)) j;
-          live = list-is _ 256 false t.live f.lives (λ i l. sym (yes t.live i 1 (byte_at v t i 1 l ∙ live_in t i _))) j;
-          tm = list-is _ 256 0 t.tm f.tms (λ i l. sym (ap (number 2) (bytes-at v t i 2 l) ∙ tm-in t i _ f)) j;
+          marks = record {
+            sort = list-is _ 256 0 t.marks.sort f.sorts (λ i l. sym (sort i l)) j;
+            live = list-is _ 256 false t.marks.live f.lives (λ i l. sym (yes t.marks.live i 1 (byte_at v t i 1 l ∙ live_in t i _))) j;
+            tm = list-is _ 256 0 t.marks.tm f.tms (λ i l. sym (ap (number 2) (bytes-at v t i 2 l) ∙ tm-in t i _ f)) j;
+          };
           modes = list-is _ 256 false t.modes f.modes (λ i l. sym (yes t.modes i 84 (byte_at v t i 84 l ∙ mode-in t i _))) j;
           needs = list-is _ 256 0 t.needs f.needs (λ i l. sym (ap (number 8) (bytes-at v t i 85 l) ∙ need-in t i _ f)) j;
           amounts = list-is _ 2560 0 t.amounts f.amounts (λ n l. sym (word n l)) j;

@@ -10,15 +10,15 @@ use Rattle.bookfile.specs.Reading.{is_of}
 pub record Fits (t : Table) : Type 0 where
   pub count : t.count < 2 ^ 16
   pub serial : t.serial < 2 ^ 16
-  pub sorts : length t.sort ≡ 256
-  pub lives : length t.live ≡ 256
-  pub tms : length t.tm ≡ 256
+  pub sorts : length t.marks.sort ≡ 256
+  pub lives : length t.marks.live ≡ 256
+  pub tms : length t.marks.tm ≡ 256
   pub modes : length t.modes ≡ 256
   pub needs : length t.needs ≡ 256
   pub amounts : length t.amounts ≡ 2560
   pub numbers : length t.numbers ≡ 256
-  pub sort : (i : ℕ) → get_or t.sort i 0 < 2 ^ 8
-  pub tm : (i : ℕ) → get_or t.tm i 0 < 2 ^ 16
+  pub sort : (i : ℕ) → get_or t.marks.sort i 0 < 2 ^ 8
+  pub tm : (i : ℕ) → get_or t.marks.tm i 0 < 2 ^ 16
   pub need : (i : ℕ) → get_or t.needs i 0 < 2 ^ 64
   pub amount : (n : ℕ) → get_or t.amounts n 0 < 2 ^ 64
   pub next : t.next < 2 ^ 32
@@ -29,9 +29,7 @@ abbrev pub by_places : Table → Table
 by_places t = record {
   count = t.count;
   serial = t.serial;
-  sort = t.sort;
-  live = t.live;
-  tm = t.tm;
+  marks = t.marks;
   modes = t.modes;
   needs = t.needs;
   amounts = t.amounts;

@@ -48,9 +48,11 @@ unfoldable pub book_by : Version → List ℕ → Table
 book_by v file = record {
   count = number 2 (drop 4 file);
   serial = number 2 (drop 6 file);
-  sort = list_to (λ i. get_or file (sort_at v i) 0) 256;
-  live = list_to (λ i. yes_at file (sort_at v i + 1)) 256;
-  tm = list_to (λ i. number 2 (drop (sort_at v i + 2) file)) 256;
+  marks = record {
+    sort = list_to (λ i. get_or file (sort_at v i) 0) 256;
+    live = list_to (λ i. yes_at file (sort_at v i + 1)) 256;
+    tm = list_to (λ i. number 2 (drop (sort_at v i + 2) file)) 256;
+  };
   modes = list_to (λ i. yes_at file (sort_at v i + 84)) 256;
   needs = list_to (λ i. number 8 (drop (sort_at v i + 85) file)) 256;
   amounts = list_to (λ n. number 8 (drop (sort_at v (n % 256) + (4 + 8 * (n / 256))) file)) 2560;

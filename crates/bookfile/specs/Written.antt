@@ -54,7 +54,7 @@ kept_part mode need = yes_no mode ∷ bytes_of 8 need
 -- the 93 bytes of place i from its sort on
 unfoldable pub row_part : Table → ℕ → List ℕ
 row_part t i =
-    marks_part (get_or t.sort i 0) (get_or t.live i false) (get_or t.tm i 0)
+    marks_part (get_or t.marks.sort i 0) (get_or t.marks.live i false) (get_or t.marks.tm i 0)
     ++ (amounts_part t.amounts i ++ kept_part (get_or t.modes i false) (get_or t.needs i 0))
 
 -- all of place i

@@ -22,7 +22,7 @@ pub(crate) enum Version {
     Two,
 }
 
-// What bytes hold: a book, or none, and then the fresh book stands here.
+// What bytes hold: a book, or none, and then the fresh book stands here (`bookfile.Reading.read_of`).
 #[derive(Clone, Copy)]
 pub struct Held {
     pub is_book: bool,

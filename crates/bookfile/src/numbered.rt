@@ -11,6 +11,7 @@ ghost use Rattle.bookfile.specs.Reading.{next_in, numbers_in};
 use crate::Version;
 use crate::forms::sort_at;
 use numbers::{number2, number4};
+use std::array::from_fn;
 
 // A book of version 1 has its places for numbers.
 fn place_number(count: u16, i: usize) -> u16
@@ -23,26 +24,14 @@ fn place_number(count: u16, i: usize) -> u16
 fn place_numbers(count: u16) -> [u16; 256]
     ensures { result ≡ place_numbers count }
 {
-    let mut list = [0u16; 256];
-    let mut i: usize = 0;
-    while i < 256 {
-        list[i] = place_number(count, i);
-        i += 1;
-    }
-    list
+    from_fn(|i| place_number(count, i))
 }
 
 fn written_numbers(piece: &[u8]) -> [u16; 256]
     requires { length piece.now ≡ size_of Two }
     ensures { result ≡ list_to (λ i. number 2 (drop (place_at Two i) piece.now)) 256 }
 {
-    let mut list = [0u16; 256];
-    let mut i: usize = 0;
-    while i < 256 {
-        list[i] = number2(piece, sort_at(Version::Two, i) - 2);
-        i += 1;
-    }
-    list
+    from_fn(|i| number2(piece, sort_at(Version::Two, i) - 2))
 }
 
 pub(crate) fn numbers_in(v: Version, piece: &[u8], count: u16) -> [u16; 256]

@@ -10,7 +10,7 @@ use crate::tested::is_of;
 use crate::{Held, SIZE, Version};
 use book::fresh;
 use numbers::number2;
-use table::Table;
+use table::{Marks, Table};
 
 // The two versions differ in length.
 fn version_of(piece: &[u8]) -> Version
@@ -31,9 +31,11 @@ fn book_by(v: Version, piece: &[u8]) -> Table
     Table {
         count,
         serial: number2(piece, 6),
-        sort: sorts(v, piece),
-        live: yeses(v, piece, 1),
-        tm: tms(v, piece),
+        marks: Marks {
+            sort: sorts(v, piece),
+            live: yeses(v, piece, 1),
+            tm: tms(v, piece),
+        },
         modes: yeses(v, piece, 84),
         needs: needs(v, piece),
         amounts: amounts(v, piece),

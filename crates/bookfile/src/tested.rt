@@ -19,14 +19,10 @@ fn all_yes_or_no(v: Version, piece: &[u8]) -> bool
     requires { length piece.now ≡ size_of v }
     ensures { result ≡ all 256 (yes_or_no v piece.now) }
 {
-    let mut all = true;
-    let mut i: usize = 0;
-    while i < 256 {
+    (0..256).all(|i| {
         let sort = sort_at(v, i);
-        all = all & ((piece[sort + 1] <= 1) & (piece[sort + 84] <= 1));
-        i += 1;
-    }
-    all
+        (piece[sort + 1] <= 1) & (piece[sort + 84] <= 1)
+    })
 }
 
 pub(crate) fn is_of(v: Version, piece: &[u8]) -> bool

@@ -1,7 +1,8 @@
 // A book's written form, put into a lent room.
+// Refusals stay the documents' numbers, 0 for none: `wrote_of` gives them so.
 ghost use Rattle.std.specs.Prelude.{◌≡◌, ◌+◌, ◌*◌, ◌≤◌, ◌<◌, length};
 ghost use Rattle.std.proofs.lemmas.List.Edits.{sets};
-ghost use Rattle.bookfile.specs.Written.{size, head_part, yes_no, joined, marks_part, amounts_part, kept_part, place_bytes, wrote_of, room_after};
+ghost use Rattle.bookfile.specs.Written.{size, head_part, joined, marks_part, amounts_part, kept_part, place_bytes, wrote_of, room_after};
 ghost use Rattle.bookfile.specs.declared.Version.TheVariants.{Two};
 
 use crate::forms::sort_at;
@@ -9,12 +10,6 @@ use crate::{SIZE, Version};
 use numbers::{put2, put4, put8};
 use table::Table;
 use table::places::word_at;
-
-fn yes_no(x: bool) -> u8
-    ensures { result ≡ yes_no x }
-{
-    if x { 1 } else { 0 }
-}
 
 fn put_head(room: &mut [u8], count: u16, serial: u16, next: u32)
     requires { 12 ≤ length room.old }
@@ -34,7 +29,7 @@ fn put_marks(room: &mut [u8], place: usize, sort: u8, live: bool, tm: u16)
     ensures { room.new ≡ sets room.old place (marks_part sort live tm) }
 {
     room[place] = sort;
-    room[place + 1] = yes_no(live);
+    room[place + 1] = u8::from(live);
     put2(room, place + 2, tm);
 }
 
@@ -42,10 +37,8 @@ fn put_amounts(room: &mut [u8], place: usize, amounts: &[u64; 2560], i: usize)
     requires { (place + 80 ≤ length room.old) × (i < 256) }
     ensures { room.new ≡ sets room.old place (amounts_part amounts.now i) }
 {
-    let mut k: usize = 0;
-    while k < 10 {
+    for k in 0..10 {
         put8(room, place + 8 * k, word_at(amounts, k, i));
-        k += 1;
     }
 }
 
@@ -53,7 +46,7 @@ fn put_kept(room: &mut [u8], place: usize, mode: bool, need: u64)
     requires { place + 9 ≤ length room.old }
     ensures { room.new ≡ sets room.old place (kept_part mode need) }
 {
-    room[place] = yes_no(mode);
+    room[place] = u8::from(mode);
     put8(room, place + 1, need);
 }
 
@@ -61,14 +54,12 @@ fn put_places(t: Table, room: &mut [u8])
     requires { length room.old ≡ size }
     ensures { room.new ≡ sets room.old 12 (joined (place_bytes Two t) 256) }
 {
-    let mut i: usize = 0;
-    while i < 256 {
+    for i in 0..256 {
         let sort = sort_at(Version::Two, i);
         put2(room, sort - 2, t.numbers[i]);
-        put_marks(room, sort, t.sort[i], t.live[i], t.tm[i]);
+        put_marks(room, sort, t.marks.sort[i], t.marks.live[i], t.marks.tm[i]);
         put_amounts(room, sort + 4, &t.amounts, i);
         put_kept(room, sort + 84, t.modes[i], t.needs[i]);
-        i += 1;
     }
 }
 

@@ -1,10 +1,10 @@
 // Call 16: retired rows moved to a lent archive (K11).
-ghost use Rattle.std.specs.Prelude.{◌≤◌, length};
+ghost use Rattle.std.specs.Prelude.{◌≤◌, length, IfSome};
 
-use crate::call::{Told, none};
+use crate::call::Told;
 use crate::changed::put_book;
-use crate::rooms::{put_front, widened_words, words};
-use crate::taken::{LIST, length4};
+use crate::rooms::{lent, put_front, widened};
+use crate::taken::{LIST, length_at};
 use archival::Table;
 
 // Archives with a room of n, and puts the line.
@@ -13,30 +13,23 @@ fn put_archived(room: &mut [u8], before: Table, n: usize) -> usize
     ensures { result ≤ length room.new }
 {
     let end = n + 2;
-    let mut archive = words(n);
-    let got = archival::archive(before, &mut archive[0..n]);
-    let after = got.table;
-    let mut line = widened_words(archive, n);
-    line[0] = got.refusal as u64;
-    line[1] = got.moved as u64;
+    let mut archive = lent(n, |i| (i % 65536) as u16);
+    let got = archival::archive(before, &mut archive[..n]);
+    let mut line = widened(&archive[..n]);
+    line[0] = u64::from(got.refusal);
+    line[1] = u64::from(got.moved);
     let at = put_front(room, line, end);
-    put_book(room, at, before, after)
+    put_book(room, at, before, got.table)
 }
 
-pub(crate) fn archive(bytes: &[u8], table: Table, room: &mut [u8]) -> Told
+// One shape with `needs`: a closure for the line would need a contract that is longer than their bodies.
+pub(crate) fn archive(bytes: &[u8], table: Table, room: &mut [u8]) -> Option<Told>
     requires { 178000 ≤ length room.old }
-    ensures { (result.size ≤ length bytes.now) × (result.text ≤ length room.new) }
+    ensures { IfSome result (λ t. (t.size ≤ length bytes.now) × (t.text ≤ length room.new)) }
 {
-    if bytes.len() < 4 {
-        return none();
-    }
-    let n = length4(bytes, 0);
-    if LIST < n {
-        return none();
-    }
-    Told {
-        is_call: true,
+    let n = length_at(bytes, 0, LIST)?;
+    Some(Told {
         size: 4,
         text: put_archived(room, table, n),
-    }
+    })
 }

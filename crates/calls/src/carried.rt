@@ -1,9 +1,9 @@
 // Calls 3, 4 and 5: records carried out. Call 10: a book taken over.
-ghost use Rattle.std.specs.Prelude.{◌+◌, ◌≤◌, length};
+ghost use Rattle.std.specs.Prelude.{◌+◌, ◌≤◌, length, IfSome};
 
-use crate::call::{Told, none};
+use crate::call::Told;
 use crate::changed::put_book;
-use crate::taken::{PIECE, length4, record};
+use crate::taken::{PIECE, length_at, record};
 use desk::{Answer, Outcome, Record};
 use numbers::number8;
 use run::{Closing, Table};
@@ -16,8 +16,8 @@ fn put_outcome(room: &mut [u8], at: usize, o: Outcome) -> usize
 {
     match o {
         Outcome::CarriedOut => put_two(room, at, 0, 0),
-        Outcome::Opened(n) => put_two(room, at, 0, n as u64),
-        Outcome::Refused(reason) => put_two(room, at, reason as u64, 0),
+        Outcome::Opened(n) => put_two(room, at, 0, u64::from(n)),
+        Outcome::Refused(reason) => put_two(room, at, u64::from(reason), 0),
         Outcome::End => put_text(room, at, b"end 0 "),
     }
 }
@@ -34,10 +34,9 @@ fn put_answer(room: &mut [u8], a: Answer) -> usize
     requires { 105 ≤ length room.old }
     ensures { result ≤ 105 }
 {
-    let list = [a.serial as u64, a.code as u64, a.account as u64];
+    let list = [u64::from(a.serial), u64::from(a.code), u64::from(a.account)];
     let at = put_each(room, 0, &list, 3);
-    let o = a.outcome;
-    put_outcome(room, at, o)
+    put_outcome(room, at, a.outcome)
 }
 
 // Carries out a record handed over as values, and puts the line.
@@ -46,25 +45,22 @@ fn put_carried(room: &mut [u8], before: Table, r: Record) -> usize
     ensures { result ≤ length room.new }
 {
     let done = desk::carry_out(before, r);
-    let answer = done.answer;
-    let after = done.table;
-    let at = put_answer(room, answer);
-    put_book(room, at, before, after)
+    let at = put_answer(room, done.answer);
+    put_book(room, at, before, done.table)
 }
 
-pub(crate) fn carry_out(bytes: &[u8], table: Table, room: &mut [u8]) -> Told
+pub(crate) fn carry_out(bytes: &[u8], table: Table, room: &mut [u8]) -> Option<Told>
     requires { 178000 ≤ length room.old }
-    ensures { (result.size ≤ length bytes.now) × (result.text ≤ length room.new) }
+    ensures { IfSome result (λ t. (t.size ≤ length bytes.now) × (t.text ≤ length room.new)) }
 {
     if bytes.len() < 54 {
-        return none();
+        return None;
     }
     let r = record(bytes, 0);
-    Told {
-        is_call: true,
+    Some(Told {
         size: 54,
         text: put_carried(room, table, r),
-    }
+    })
 }
 
 // Carries out the record at a place of a piece, and puts the line.
@@ -73,11 +69,9 @@ fn put_next(room: &mut [u8], before: Table, piece: &[u8], place: usize) -> usize
     ensures { result ≤ length room.new }
 {
     let next = desk::carry_out_next(before, piece, place);
-    let answer = next.answer;
-    let after = next.table;
-    let p = put_answer(room, answer);
+    let p = put_answer(room, next.answer);
     let at = put_number(room, p, next.place as u64, b' ');
-    put_book(room, at, before, after)
+    put_book(room, at, before, next.table)
 }
 
 fn put_word(room: &mut [u8], word: Closing) -> usize
@@ -98,61 +92,65 @@ fn put_day(room: &mut [u8], before: Table, piece: &[u8], most: u64) -> usize
     ensures { result ≤ length room.new }
 {
     let ended = run::day(before, piece, most);
-    let word = ended.closing;
-    let after = ended.table;
-    let p = put_word(room, word);
+    let p = put_word(room, ended.closing);
     let list = [ended.place as u64, ended.read, ended.done];
     let at = put_each(room, p, &list, 3);
-    put_book(room, at, before, after)
+    put_book(room, at, before, ended.table)
 }
 
-fn put_either(room: &mut [u8], call: u8, t: Table, piece: &[u8], number: u64) -> usize
-    requires { 178000 ≤ length room.old }
-    ensures { result ≤ length room.new }
-{
-    if call == 4 {
-        put_next(room, t, piece, number as usize)
-    } else {
-        put_day(room, t, piece, number)
-    }
+// Where a piece behind its length ends, and the place or the number behind it.
+#[derive(Clone, Copy)]
+struct Behind {
+    end: usize,
+    number: u64,
 }
 
-// Calls 4 and 5: a piece, and a place or a number.
-pub(crate) fn of_piece(call: u8, bytes: &[u8], table: Table, room: &mut [u8]) -> Told
-    requires { 178000 ≤ length room.old }
-    ensures { (result.size ≤ length bytes.now) × (result.text ≤ length room.new) }
+fn piece_of(bytes: &[u8]) -> Option<Behind>
+    ensures { IfSome result (λ a. (4 ≤ a.end) × (a.end + 8 ≤ length bytes.now)) }
 {
-    let from: usize = 4;
-    if bytes.len() < from {
-        return none();
+    let end = 4 + length_at(bytes, 0, PIECE)?;
+    if bytes.len() < end + 8 {
+        return None;
     }
-    let n = length4(bytes, 0);
-    if PIECE < n {
-        return none();
-    }
-    let to = from + n;
-    if bytes.len() < to + 8 {
-        return none();
-    }
-    let number = number8(bytes, to);
-    Told {
-        is_call: true,
-        size: to + 8,
-        text: put_either(room, call, table, &bytes[from..to], number),
-    }
+    Some(Behind {
+        end,
+        number: number8(bytes, end),
+    })
+}
+
+// Call 4: a piece and a place.
+pub(crate) fn carry_out_next(bytes: &[u8], table: Table, room: &mut [u8]) -> Option<Told>
+    requires { 178000 ≤ length room.old }
+    ensures { IfSome result (λ t. (t.size ≤ length bytes.now) × (t.text ≤ length room.new)) }
+{
+    let asked = piece_of(bytes)?;
+    Some(Told {
+        size: asked.end + 8,
+        text: put_next(room, table, &bytes[4..asked.end], asked.number as usize),
+    })
+}
+
+// Call 5: a piece and a number.
+pub(crate) fn day(bytes: &[u8], table: Table, room: &mut [u8]) -> Option<Told>
+    requires { 178000 ≤ length room.old }
+    ensures { IfSome result (λ t. (t.size ≤ length bytes.now) × (t.text ≤ length room.new)) }
+{
+    let asked = piece_of(bytes)?;
+    Some(Told {
+        size: asked.end + 8,
+        text: put_day(room, table, &bytes[4..asked.end], asked.number),
+    })
 }
 
 // Takes a book over to the rule of K7, and puts the line.
-pub(crate) fn take_over(before: Table, room: &mut [u8]) -> Told
+pub(crate) fn take_over(before: Table, room: &mut [u8]) -> Option<Told>
     requires { 178000 ≤ length room.old }
-    ensures { (result.size ≤ 0) × (result.text ≤ length room.new) }
+    ensures { IfSome result (λ t. (t.size ≤ 0) × (t.text ≤ length room.new)) }
 {
     let taken = book::take_over(before);
-    let after = taken.table;
-    let at = put_number(room, 0, taken.refusal as u64, b' ');
-    Told {
-        is_call: true,
+    let at = put_number(room, 0, u64::from(taken.refusal), b' ');
+    Some(Told {
         size: 0,
-        text: put_book(room, at, before, after),
-    }
+        text: put_book(room, at, before, taken.table),
+    })
 }

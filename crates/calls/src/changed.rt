@@ -5,25 +5,14 @@ use crate::rooms::{LINE, put_line};
 use desk::Table;
 use text::put_text;
 
-// A yes or no as a number.
-pub(crate) fn one_if(yes: bool) -> u64 {
-    if yes { 1 } else { 0 }
-}
-
-fn differ(a: bool, b: bool) -> bool {
-    if a { !b } else { b }
-}
-
 // Whether any of the ten amounts of account i differs.
 fn amounts_differ(a: &[u64; 2560], b: &[u64; 2560], i: usize) -> bool
     requires { i < 256 }
 {
-    let mut k: usize = i;
-    while k < 2560 {
-        if a[k] != b[k] {
+    for k in 0..10 {
+        if a[256 * k + i] != b[256 * k + i] {
             return true;
         }
-        k += 256;
     }
     false
 }
@@ -32,10 +21,8 @@ fn amounts_differ(a: &[u64; 2560], b: &[u64; 2560], i: usize) -> bool
 fn put_amounts(list: &mut [u64; 4355], n: usize, i: usize, w: &[u64; 2560])
     requires { (i < 256) × (n + 10 ≤ 4355) }
 {
-    let mut k: usize = 0;
-    while k < 10 {
+    for k in 0..10 {
         list[n + k] = w[256 * k + i];
-        k += 1;
     }
 }
 
@@ -60,12 +47,12 @@ fn put_place(
         return n;
     }
     list[n] = i as u64;
-    list[n + 1] = number as u64;
-    list[n + 2] = sort as u64;
-    list[n + 3] = one_if(live);
-    list[n + 4] = tm as u64;
+    list[n + 1] = u64::from(number);
+    list[n + 2] = u64::from(sort);
+    list[n + 3] = u64::from(live);
+    list[n + 4] = u64::from(tm);
     put_amounts(list, n + 5, i, w);
-    list[n + 15] = one_if(mode);
+    list[n + 15] = u64::from(mode);
     list[n + 16] = need;
     n + 17
 }
@@ -75,25 +62,23 @@ fn put_place(
 fn put_changes(list: &mut [u64; 4355], a: Table, b: Table) -> usize
     ensures { (3 ≤ result) × (result ≤ 4355) }
 {
-    list[0] = b.count as u64;
-    list[1] = b.serial as u64;
-    list[2] = b.next as u64;
+    list[0] = u64::from(b.count);
+    list[1] = u64::from(b.serial);
+    list[2] = u64::from(b.next);
     let mut n: usize = 3;
-    let mut i: usize = 0;
-    while i < 256 {
+    for i in 0..256 {
         let number = b.numbers[i];
-        let sort = b.sort[i];
-        let live = b.live[i];
-        let tm = b.tm[i];
+        let sort = b.marks.sort[i];
+        let live = b.marks.live[i];
+        let tm = b.marks.tm[i];
         let mode = b.modes[i];
         let need = b.needs[i];
-        let marks = (a.sort[i] != sort) | differ(a.live[i], live) | (a.tm[i] != tm);
-        let kept = differ(a.modes[i], mode) | (a.needs[i] != need) | (a.numbers[i] != number);
+        let marks = (a.marks.sort[i] != sort) | (a.marks.live[i] != live) | (a.marks.tm[i] != tm);
+        let kept = (a.modes[i] != mode) | (a.needs[i] != need) | (a.numbers[i] != number);
         let changed = marks | kept | amounts_differ(&a.amounts, &b.amounts, i);
         n = put_place(
             list, n, i, changed, number, sort, live, tm, mode, need, &b.amounts,
         );
-        i += 1;
     }
     n
 }

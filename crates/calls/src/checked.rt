@@ -1,8 +1,8 @@
 // Call 15: a TM's statement held against the book (K13).
-ghost use Rattle.std.specs.Prelude.{◌≤◌, length};
+ghost use Rattle.std.specs.Prelude.{◌≤◌, length, IfSome};
 
-use crate::call::{Told, none};
-use crate::taken::{PIECE, length4};
+use crate::call::Told;
+use crate::taken::{PIECE, length_at};
 use numbers::number2;
 use statement::Table;
 use text::put_number;
@@ -12,28 +12,19 @@ fn put_checked(room: &mut [u8], table: Table, tm: u16, statement: &[u8]) -> usiz
     ensures { result ≤ length room.new }
 {
     let finding = statement::check(table, tm, statement);
-    put_number(room, 0, finding.refusal as u64, b'\n')
+    put_number(room, 0, u64::from(finding.refusal), b'\n')
 }
 
-pub(crate) fn check(bytes: &[u8], table: Table, room: &mut [u8]) -> Told
+pub(crate) fn check(bytes: &[u8], table: Table, room: &mut [u8]) -> Option<Told>
     requires { 178000 ≤ length room.old }
-    ensures { (result.size ≤ length bytes.now) × (result.text ≤ length room.new) }
+    ensures { IfSome result (λ t. (t.size ≤ length bytes.now) × (t.text ≤ length room.new)) }
 {
-    let from: usize = 6;
-    if bytes.len() < from {
-        return none();
-    }
-    let n = length4(bytes, 2);
-    if PIECE < n {
-        return none();
-    }
-    let to = from + n;
+    let to = 6 + length_at(bytes, 2, PIECE)?;
     if bytes.len() < to {
-        return none();
+        return None;
     }
-    Told {
-        is_call: true,
+    Some(Told {
         size: to,
-        text: put_checked(room, table, number2(bytes, 0), &bytes[from..to]),
-    }
+        text: put_checked(room, table, number2(bytes, 0), &bytes[6..to]),
+    })
 }

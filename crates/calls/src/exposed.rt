@@ -1,44 +1,26 @@
 // Calls 12 to 14: crystallised obligations, of one client, in its margin, and of a list of clients.
-ghost use Rattle.std.specs.Prelude.{◌+◌, ◌*◌, ◌≤◌, length};
+ghost use Rattle.std.specs.Prelude.{◌+◌, ◌*◌, ◌≤◌, length, IfSome};
 
-use crate::call::{Told, none};
+use crate::call::Told;
 use crate::closed::lengths;
 use crate::margins::{count_of, positions, put_made};
 use crate::rooms::{numbers, put_line};
-use crate::taken::{LIST, length4};
+use crate::taken::{length_at, list};
 use currency::Made;
 use exposure::Exposure;
 use exposure::lists::Form;
 use numbers::{number2, number8};
 use text::put_spaced;
 
-const LARGEST: u64 = 18_446_744_073_709_551_615;
-
-// A two's complement number by its bits.
-fn signed(bits: u64) -> i64 {
-    if bits <= 9_223_372_036_854_775_807 {
-        bits as i64
-    } else {
-        -1 - (LARGEST - bits) as i64
-    }
-}
-
-// How many figures are said to stand at a place: two or four, or 0.
-fn count_at(bytes: &[u8], at: usize) -> usize
-    requires { at ≤ length bytes.now }
-    ensures { result ≤ 4 }
+// How many figures are said to stand at a place: two or four.
+fn count_at(bytes: &[u8], at: usize) -> Option<usize>
+    ensures { IfSome result (λ n. n ≤ 4) }
 {
-    if bytes.len() - at < 4 {
-        return 0;
-    }
-    let n = length4(bytes, at);
-    if 4 < n {
-        return 0;
-    }
+    let n = length_at(bytes, at, 4)?;
     if (n != 2) & (n != 4) {
-        return 0;
+        return None;
     }
-    n
+    Some(n)
 }
 
 // Figure k of n, or 0 where there are not so many.
@@ -48,7 +30,7 @@ fn figure(bytes: &[u8], at: usize, n: usize, k: usize) -> i64
     if n <= k {
         return 0;
     }
-    signed(number8(bytes, at + 4 + 8 * k))
+    number8(bytes, at + 4 + 8 * k).cast_signed()
 }
 
 fn exposure_of(bytes: &[u8], at: usize, n: usize) -> Exposure
@@ -69,28 +51,24 @@ fn put_exposure(room: &mut [u8], e: Exposure) -> usize
     requires { 178000 ≤ length room.old }
     ensures { result ≤ length room.new }
 {
-    let list = [e.refusal as u64, e.amount];
+    let list = [u64::from(e.refusal), e.amount];
     put_spaced(room, 0, &list)
 }
 
-pub(crate) fn one_client(bytes: &[u8], room: &mut [u8]) -> Told
+pub(crate) fn one_client(bytes: &[u8], room: &mut [u8]) -> Option<Told>
     requires { (1 ≤ length bytes.now) × (178000 ≤ length room.old) }
-    ensures { (result.size ≤ length bytes.now) × (result.text ≤ length room.new) }
+    ensures { IfSome result (λ t. (t.size ≤ length bytes.now) × (t.text ≤ length room.new)) }
 {
-    let n = count_at(bytes, 1);
-    if n == 0 {
-        return none();
-    }
+    let n = count_at(bytes, 1)?;
     let size = 5 + 8 * n;
     if bytes.len() < size {
-        return none();
+        return None;
     }
     let exposure = exposure_of(bytes, 1, n);
-    Told {
-        is_call: true,
+    Some(Told {
         size,
         text: put_exposure(room, exposure),
-    }
+    })
 }
 
 // The margin of n positions, with so many figures at a place.
@@ -110,45 +88,22 @@ fn joined(bytes: &[u8], n: usize, at: usize, count: usize) -> Made
     )
 }
 
-pub(crate) fn margin(bytes: &[u8], room: &mut [u8]) -> Told
+pub(crate) fn margin(bytes: &[u8], room: &mut [u8]) -> Option<Told>
     requires { 178000 ≤ length room.old }
-    ensures { (result.size ≤ length bytes.now) × (result.text ≤ length room.new) }
+    ensures { IfSome result (λ t. (t.size ≤ length bytes.now) × (t.text ≤ length room.new)) }
 {
-    let n = count_of(bytes);
-    if LIST < n {
-        return none();
-    }
+    let n = count_of(bytes)?;
     let at = 17 + 10 * n;
-    if bytes.len() < at {
-        return none();
-    }
-    let count = count_at(bytes, at);
-    if count == 0 {
-        return none();
-    }
+    let count = count_at(bytes, at)?;
     let size = at + 4 + 8 * count;
     if bytes.len() < size {
-        return none();
+        return None;
     }
     let made = joined(bytes, n, at, count);
-    Told {
-        is_call: true,
+    Some(Told {
         size,
         text: put_made(room, made),
-    }
-}
-
-// All clients' figures.
-fn list(bytes: &[u8], at: usize, n: usize) -> [i64; LIST]
-    requires { (n ≤ 4096) × (at + 8 * n ≤ length bytes.now) }
-{
-    let mut list = [0i64; LIST];
-    let mut i: usize = 0;
-    while i < n {
-        list[i] = signed(number8(bytes, at + 8 * i));
-        i += 1;
-    }
-    list
+    })
 }
 
 // Asks with a room of n, and puts the line.
@@ -159,37 +114,32 @@ fn put_all(room: &mut [u8], form: Form, figures: &[i64], n: usize) -> usize
     let end = n + 2;
     let mut line = numbers(n);
     let refusal = exposure::lists::exposures(form, figures, &mut line[2..end]);
-    line[1] = refusal as u64;
+    line[1] = u64::from(refusal);
     put_line(room, 0, line, 1, end)
 }
 
-fn of_form(bytes: &[u8], form: Form, room: &mut [u8]) -> Told
+fn of_form(bytes: &[u8], form: Form, room: &mut [u8]) -> Option<Told>
     requires { 178000 ≤ length room.old }
-    ensures { (result.size ≤ length bytes.now) × (result.text ≤ length room.new) }
+    ensures { IfSome result (λ t. (t.size ≤ length bytes.now) × (t.text ≤ length room.new)) }
 {
-    let asked = lengths(bytes, 2);
-    if !asked.is_call {
-        return none();
-    }
-    let n = asked.count;
-    let figures = list(bytes, asked.from, n);
-    Told {
-        is_call: true,
+    let asked = lengths(bytes, 2)?;
+    let figures = list(bytes, asked.from, asked.count, |bits| bits.cast_signed());
+    Some(Told {
         size: asked.end,
-        text: put_all(room, form, &figures[0..n], asked.room),
-    }
+        text: put_all(room, form, &figures[..asked.count], asked.room),
+    })
 }
 
-pub(crate) fn clients(bytes: &[u8], room: &mut [u8]) -> Told
+pub(crate) fn clients(bytes: &[u8], room: &mut [u8]) -> Option<Told>
     requires { 178000 ≤ length room.old }
-    ensures { (result.size ≤ length bytes.now) × (result.text ≤ length room.new) }
+    ensures { IfSome result (λ t. (t.size ≤ length bytes.now) × (t.text ≤ length room.new)) }
 {
     if bytes.len() < 2 {
-        return none();
+        return None;
     }
     match bytes[1] {
         2 => of_form(bytes, Form::Intraday, room),
         4 => of_form(bytes, Form::EndOfDay, room),
-        _ => none(),
+        _ => None,
     }
 }

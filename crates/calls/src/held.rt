@@ -1,5 +1,5 @@
 // The bytes held of the input: a call is answered only where all of it is held.
-ghost use Rattle.std.specs.Prelude.{◌≡◌, ◌-◌, ◌≤◌, length};
+ghost use Rattle.std.specs.Prelude.{◌≡◌, ◌-◌, ◌≤◌, length, IfSome};
 
 use streams::standard::read_input;
 
@@ -8,13 +8,13 @@ const SPACE: usize = 262_144;
 // The longest call: its byte, a book of version 2, a piece's length, the longest piece, a place.
 const LONGEST: usize = 89_881;
 
-// Where the next call begins, where what is held ends, whether the input ends there too, and whether a read failed.
+// Where the next call begins, where what is held ends, and whether the input ends there too:
+// a fact of its own, since both places are wanted either way.
 #[derive(Clone, Copy)]
 pub(crate) struct Stands {
     pub(crate) at: usize,
     pub(crate) end: usize,
     pub(crate) ended: bool,
-    pub(crate) failed: bool,
 }
 
 pub(crate) fn blank() -> [u8; SPACE]
@@ -29,35 +29,36 @@ fn to_front(space: &mut [u8], from: usize, to: usize) -> usize
     ensures { result ≡ to - from }
 {
     let n = to - from;
-    let mut i: usize = 0;
-    while i < n {
+    for i in 0..n {
         space[i] = space[from + i];
-        i += 1;
     }
     n
 }
 
-// Reads on where the longest call might not be held whole. So one that isn't whole after this is cut short, or has a
+// Reads on where the longest call might not be held whole, unless that fails. So one that isn't whole after this is cut short, or has a
 // length past its limit: no call either way.
-pub(crate) fn more(rt: &HostRuntime, space: &mut [u8], at: usize, end: usize, ended: bool) -> Stands
+pub(crate) fn more(
+    rt: &HostRuntime,
+    space: &mut [u8],
+    at: usize,
+    end: usize,
+    ended: bool,
+) -> Option<Stands>
     requires { (at ≤ end) × (end ≤ length space.old) }
-    ensures { (result.at ≤ result.end) × (result.end ≤ length space.new) }
+    ensures { IfSome result (λ s. (s.at ≤ s.end) × (s.end ≤ length space.new)) }
 {
     if ended | (LONGEST <= end - at) {
-        return Stands {
-            at,
-            end,
-            ended,
-            failed: false,
-        };
+        return Some(Stands { at, end, ended });
     }
     let rest = to_front(space, at, end);
     let got = read_input(rt, b"calls", &mut space[rest..]);
-    let filled = rest + got.count;
-    Stands {
-        at: 0,
-        end: filled,
-        ended: filled < space.len(),
-        failed: got.failed,
+    if got.failed {
+        return None;
     }
+    let end = rest + got.count;
+    Some(Stands {
+        at: 0,
+        end,
+        ended: end < space.len(),
+    })
 }

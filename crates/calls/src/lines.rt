@@ -1,5 +1,5 @@
 // The lines gathered for standard output.
-ghost use Rattle.std.specs.Prelude.{◌≡◌, ◌+◌, ◌≤◌, length};
+ghost use Rattle.std.specs.Prelude.{◌≡◌, ◌+◌, ◌≤◌, length, IfSome};
 
 use streams::Moved;
 use streams::standard::write_output;
@@ -10,13 +10,6 @@ const ROOM: usize = 393_216;
 
 const HALF: usize = 196_608;
 
-// How many bytes are left to write, and whether a write failed.
-#[derive(Clone, Copy)]
-pub(crate) struct Wrote {
-    pub(crate) left: usize,
-    pub(crate) failed: bool,
-}
-
 pub(crate) fn blank() -> [u8; ROOM]
     ensures { length result ≡ 393216 }
 {
@@ -26,25 +19,22 @@ pub(crate) fn blank() -> [u8; ROOM]
 pub(crate) fn write(rt: &HostRuntime, room: &[u8], put: usize) -> Moved
     requires { put ≤ length room.now }
 {
-    write_output(rt, b"calls", &room[0..put])
+    write_output(rt, b"calls", &room[..put])
 }
 
-// Writes the lines once they fill more than half of the room.
-pub(crate) fn written(rt: &HostRuntime, room: &[u8], put: usize) -> Wrote
+// Writes the lines once they fill more than half of the room, and gives how many bytes are left to write, unless a write failed.
+pub(crate) fn written(rt: &HostRuntime, room: &[u8], put: usize) -> Option<usize>
     requires { put ≤ length room.now }
-    ensures { result.left ≤ 196608 }
+    ensures { IfSome result (λ left. left ≤ 196608) }
 {
     if put <= HALF {
-        return Wrote {
-            left: put,
-            failed: false,
-        };
+        return Some(put);
     }
     let moved = write(rt, room, put);
-    Wrote {
-        left: 0,
-        failed: moved.failed,
+    if moved.failed {
+        return None;
     }
+    Some(0)
 }
 
 // Writes the last lines, behind them "`bad N`, N the number of calls answered".

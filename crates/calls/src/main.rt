@@ -22,7 +22,7 @@ mod rooms;
 mod taken;
 
 // More calls than any input holds: the loop must have an end.
-const MOST: u64 = 18_446_744_073_709_551_615;
+const MOST: u64 = u64::MAX;
 
 // Answers the calls up to the end of the input, or up to what is no call.
 fn run(rt: &HostRuntime) {
@@ -32,32 +32,27 @@ fn run(rt: &HostRuntime) {
     let mut end: usize = 0;
     let mut ended = false;
     let mut put: usize = 0;
-    let mut answered: u64 = 0;
-    while answered < MOST {
-        let stands = more(rt, &mut space, at, end, ended);
+    for answered in 0..MOST {
+        // The lines of what came before a failed read are written too.
+        let Some(stands) = more(rt, &mut space, at, end, ended) else {
+            break;
+        };
         let from = stands.at;
         let to = stands.end;
-        // The lines of what came before a failed read are written too.
-        if stands.failed {
-            break;
-        }
         if from == to {
             break;
         }
-        let told = call::answer(&space[from..to], &mut room, put);
-        if !told.is_call {
+        let Some(told) = call::answer(&space[from..to], &mut room, put) else {
             lines::write_bad(rt, &mut room, put, answered);
             return;
-        }
-        let wrote = written(rt, &room, put + told.text);
-        if wrote.failed {
+        };
+        let Some(left) = written(rt, &room, put + told.text) else {
             return;
-        }
+        };
         at = from + told.size;
         end = to;
         ended = stands.ended;
-        put = wrote.left;
-        answered += 1;
+        put = left;
     }
     lines::write(rt, &room, put);
 }
@@ -67,7 +62,7 @@ fn main(rt: HostRuntime) {
         &rt,
         b"calls: answers the library calls on standard input, a byte for the call and then its arguments; a line for each\nusage: calls < CALLS\n",
     );
-    if help.asked {
+    if help.is_some() {
         return;
     }
     run(&rt);

@@ -1,8 +1,8 @@
 // Call 11: the record that sets a client's margin on the currency desk.
-ghost use Rattle.std.specs.Prelude.{◌≡◌, ◌+◌, ◌*◌, ◌≤◌, length};
+ghost use Rattle.std.specs.Prelude.{◌≡◌, ◌+◌, ◌*◌, ◌≤◌, length, IfSome};
 
-use crate::call::{Told, none};
-use crate::taken::{LIST, length4};
+use crate::call::Told;
+use crate::taken::{LIST, length_at};
 use currency::{MOST, Made, Position, Record, Side};
 use numbers::{number2, number8};
 use text::{put_number, put_spaced};
@@ -23,10 +23,9 @@ fn side_of(byte: u8) -> Side {
 fn position(bytes: &[u8], at: usize) -> Position
     requires { at + 10 ≤ length bytes.now }
 {
-    let side = side_of(bytes[at + 1]);
     Position {
         product: bytes[at],
-        side,
+        side: side_of(bytes[at + 1]),
         notional: number8(bytes, at + 2),
     }
 }
@@ -35,12 +34,10 @@ fn position(bytes: &[u8], at: usize) -> Position
 fn sides_known(bytes: &[u8], n: usize) -> bool
     requires { (n ≤ 4096) × (17 + 10 * n ≤ length bytes.now) }
 {
-    let mut i: usize = 0;
-    while i < n {
+    for i in 0..n {
         if 3 < bytes[FROM + 10 * i + 1] {
             return false;
         }
-        i += 1;
     }
     true
 }
@@ -55,35 +52,24 @@ pub(crate) fn positions(bytes: &[u8], n: usize) -> [Position; 64]
         notional: 0,
     };
     let mut list = [empty; 64];
-    let mut i: usize = 0;
-    while i < MOST {
-        if i < n {
-            list[i] = position(bytes, FROM + 10 * i);
-        }
-        i += 1;
+    for i in 0..n.min(MOST) {
+        list[i] = position(bytes, FROM + 10 * i);
     }
     list
 }
 
-// How many positions there are, all of them there; more than any list has where that isn't so.
-pub(crate) fn count_of(bytes: &[u8]) -> usize
-    ensures { result ≤ 4096 → 17 + 10 * result ≤ length bytes.now }
+// How many positions there are, all of them there and each of a known side.
+pub(crate) fn count_of(bytes: &[u8]) -> Option<usize>
+    ensures { IfSome result (λ n. (n ≤ 4096) × (17 + 10 * n ≤ length bytes.now)) }
 {
-    let no = LIST + 1;
-    if bytes.len() < FROM {
-        return no;
-    }
-    let n = length4(bytes, 13);
-    if LIST < n {
-        return no;
-    }
+    let n = length_at(bytes, 13, LIST)?;
     if bytes.len() < FROM + 10 * n {
-        return no;
+        return None;
     }
     if !sides_known(bytes, n) {
-        return no;
+        return None;
     }
-    n
+    Some(n)
 }
 
 fn made_of(bytes: &[u8], n: usize) -> Made
@@ -102,17 +88,16 @@ fn put_record(room: &mut [u8], r: Record) -> usize
     requires { 178000 ≤ length room.old }
     ensures { result ≤ length room.new }
 {
-    let kinds = r.kinds;
     let list = [
         0,
-        r.serial as u64,
-        r.code as u64,
-        r.named as u64,
-        r.account as u64,
-        kinds.cash,
-        kinds.deposits,
-        kinds.guarantees,
-        kinds.securities,
+        u64::from(r.serial),
+        u64::from(r.code),
+        u64::from(r.named),
+        u64::from(r.account),
+        r.kinds.cash,
+        r.kinds.deposits,
+        r.kinds.guarantees,
+        r.kinds.securities,
         r.pledged,
         r.margin,
     ];
@@ -125,22 +110,18 @@ pub(crate) fn put_made(room: &mut [u8], made: Made) -> usize
 {
     match made {
         Made::Given(record) => put_record(room, record),
-        Made::Refused(refusal) => put_number(room, 0, refusal as u64, b'\n'),
+        Made::Refused(refusal) => put_number(room, 0, u64::from(refusal), b'\n'),
     }
 }
 
-pub(crate) fn margin(bytes: &[u8], room: &mut [u8]) -> Told
+pub(crate) fn margin(bytes: &[u8], room: &mut [u8]) -> Option<Told>
     requires { 178000 ≤ length room.old }
-    ensures { (result.size ≤ length bytes.now) × (result.text ≤ length room.new) }
+    ensures { IfSome result (λ t. (t.size ≤ length bytes.now) × (t.text ≤ length room.new)) }
 {
-    let n = count_of(bytes);
-    if LIST < n {
-        return none();
-    }
+    let n = count_of(bytes)?;
     let made = made_of(bytes, n);
-    Told {
-        is_call: true,
+    Some(Told {
         size: FROM + 10 * n,
         text: put_made(room, made),
-    }
+    })
 }

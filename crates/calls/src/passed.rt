@@ -1,7 +1,7 @@
 // Call 17: how much would have passed.
-ghost use Rattle.std.specs.Prelude.{◌≤◌, length};
+ghost use Rattle.std.specs.Prelude.{◌≤◌, length, IfSome};
 
-use crate::call::{Told, none};
+use crate::call::Told;
 use crate::taken::record;
 use most::{Record, Table};
 use text::put_spaced;
@@ -11,20 +11,19 @@ fn put_most(room: &mut [u8], table: Table, r: Record) -> usize
     ensures { result ≤ length room.new }
 {
     let largest = most::most(table, r);
-    let list = [largest.refusal as u64, largest.amount];
+    let list = [u64::from(largest.refusal), largest.amount];
     put_spaced(room, 0, &list)
 }
 
-pub(crate) fn most(bytes: &[u8], table: Table, room: &mut [u8]) -> Told
+pub(crate) fn most(bytes: &[u8], table: Table, room: &mut [u8]) -> Option<Told>
     requires { 178000 ≤ length room.old }
-    ensures { (result.size ≤ length bytes.now) × (result.text ≤ length room.new) }
+    ensures { IfSome result (λ t. (t.size ≤ length bytes.now) × (t.text ≤ length room.new)) }
 {
     if bytes.len() < 54 {
-        return none();
+        return None;
     }
-    Told {
-        is_call: true,
+    Some(Told {
         size: 54,
         text: put_most(room, table, record(bytes, 0)),
-    }
+    })
 }

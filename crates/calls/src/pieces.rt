@@ -1,9 +1,9 @@
 // Calls 6 and 7: a record read from a piece, and one written into a room.
-ghost use Rattle.std.specs.Prelude.{◌≤◌, length};
+ghost use Rattle.std.specs.Prelude.{◌≤◌, length, IfSome};
 
-use crate::call::{Told, none};
+use crate::call::Told;
 use crate::rooms;
-use crate::taken::{LIST, PIECE, length4, record};
+use crate::taken::{LIST, PIECE, length_at, record};
 use dayfile::{Read, Record, Wrote};
 use numbers::number8;
 use text::{put_number, put_spaced, put_text};
@@ -12,18 +12,17 @@ fn put_record(room: &mut [u8], r: Record, next: usize) -> usize
     requires { 178000 ≤ length room.old }
     ensures { result ≤ length room.new }
 {
-    let kinds = r.kinds;
     let list = [
         0,
         next as u64,
-        r.serial as u64,
-        r.code as u64,
-        r.account as u64,
-        r.named as u64,
-        kinds.cash,
-        kinds.deposits,
-        kinds.guarantees,
-        kinds.securities,
+        u64::from(r.serial),
+        u64::from(r.code),
+        u64::from(r.account),
+        u64::from(r.named),
+        r.kinds.cash,
+        r.kinds.deposits,
+        r.kinds.guarantees,
+        r.kinds.securities,
         r.pledged,
         r.margin,
     ];
@@ -42,11 +41,11 @@ fn put_bad_record(
     ensures { result ≤ length room.new }
 {
     let list = [
-        reason as u64,
+        u64::from(reason),
         next as u64,
-        serial as u64,
-        code as u64,
-        account as u64,
+        u64::from(serial),
+        u64::from(code),
+        u64::from(account),
     ];
     put_spaced(room, 0, &list)
 }
@@ -69,34 +68,26 @@ fn put_read(room: &mut [u8], read: Read) -> usize
     }
 }
 
-pub(crate) fn read_at(bytes: &[u8], room: &mut [u8]) -> Told
+pub(crate) fn read_at(bytes: &[u8], room: &mut [u8]) -> Option<Told>
     requires { 178000 ≤ length room.old }
-    ensures { (result.size ≤ length bytes.now) × (result.text ≤ length room.new) }
+    ensures { IfSome result (λ t. (t.size ≤ length bytes.now) × (t.text ≤ length room.new)) }
 {
-    if bytes.len() < 13 {
-        return none();
-    }
-    let n = length4(bytes, 1);
-    if PIECE < n {
-        return none();
-    }
-    let to = 5 + n;
+    let to = 5 + length_at(bytes, 1, PIECE)?;
     if bytes.len() < to + 8 {
-        return none();
+        return None;
     }
     let place = number8(bytes, to) as usize;
     let read = dayfile::read_at(&bytes[5..to], place);
-    Told {
-        is_call: true,
+    Some(Told {
         size: to + 8,
         text: put_read(room, read),
-    }
+    })
 }
 
 fn refusal_of(wrote: Wrote) -> u64 {
     match wrote {
         Wrote::Written(_) => 0,
-        Wrote::Refused(reason) => reason as u64,
+        Wrote::Refused(reason) => u64::from(reason),
     }
 }
 
@@ -111,30 +102,23 @@ fn put_written(room: &mut [u8], r: Record, n: usize) -> usize
     requires { (n ≤ 4096) × (178000 ≤ length room.old) }
     ensures { result ≤ length room.new }
 {
-    let mut bytes = rooms::bytes(n);
-    let wrote = dayfile::write(r, &mut bytes[0..n]);
-    let mut line = rooms::widened(bytes, n);
+    let mut bytes = rooms::lent(n, |i| (i % 256) as u8);
+    let wrote = dayfile::write(r, &mut bytes[..n]);
+    let mut line = rooms::widened(&bytes[..n]);
     line[0] = refusal_of(wrote);
     line[1] = length_of(wrote);
     let end = n + 2;
     rooms::put_line(room, 0, line, 0, end)
 }
 
-pub(crate) fn write(bytes: &[u8], room: &mut [u8]) -> Told
+pub(crate) fn write(bytes: &[u8], room: &mut [u8]) -> Option<Told>
     requires { 178000 ≤ length room.old }
-    ensures { (result.size ≤ length bytes.now) × (result.text ≤ length room.new) }
+    ensures { IfSome result (λ t. (t.size ≤ length bytes.now) × (t.text ≤ length room.new)) }
 {
-    if bytes.len() < 59 {
-        return none();
-    }
-    let n = length4(bytes, 55);
-    if LIST < n {
-        return none();
-    }
+    let n = length_at(bytes, 55, LIST)?;
     let r = record(bytes, 1);
-    Told {
-        is_call: true,
+    Some(Told {
         size: 59,
         text: put_written(room, r, n),
-    }
+    })
 }

@@ -12,73 +12,34 @@ pub(crate) fn numbers(n: usize) -> [u64; LINE]
     requires { n ≤ 4096 }
     ensures { length result ≡ 4355 }
 {
-    let mut line = [0u64; LINE];
-    let mut i: usize = 2;
-    while i < n + 2 {
-        line[i] = (i - 1) as u64;
-        i += 1;
+    let mut line = [0; LINE];
+    for i in 0..n {
+        line[i + 2] = i as u64 + 1;
     }
     line
 }
 
-pub(crate) fn bytes(n: usize) -> [u8; LIST]
-    requires { n ≤ 4096 }
+// A lent room of n bytes or words, each by its place from 1 on.
+pub(crate) fn lent<T: Copy, F: Fn(usize) -> T>(n: usize, of: F) -> [T; LIST]
+    requires callable { F.IsAlwaysCallable of }
+    requires short { n ≤ 4096 }
     ensures { length result ≡ 4096 }
 {
-    let mut room = [0u8; LIST];
-    let mut i: usize = 0;
-    while i < n {
-        room[i] = ((i + 1) % 256) as u8;
-        i += 1;
+    let mut room = [of(0); LIST];
+    for i in 0..n {
+        room[i] = of(i + 1);
     }
     room
 }
 
-pub(crate) fn words(n: usize) -> [u16; LIST]
-    requires { n ≤ 4096 }
-    ensures { length result ≡ 4096 }
-{
-    let mut room = [0u16; LIST];
-    let mut i: usize = 0;
-    while i < n {
-        room[i] = (i + 1) as u16;
-        i += 1;
-    }
-    room
-}
-
-fn wide(x: u8) -> u64 {
-    x as u64
-}
-
-// The first n bytes of a room as numbers of a line.
-pub(crate) fn widened(room: [u8; LIST], n: usize) -> [u64; LINE]
-    requires { n ≤ 4096 }
+// A room's bytes or words as numbers of a line.
+pub(crate) fn widened<T: Copy + Into<u64>>(room: &[T]) -> [u64; LINE]
+    requires { length room.now ≤ 4096 }
     ensures { length result ≡ 4355 }
 {
-    let mut line = [0u64; LINE];
-    let mut i: usize = 0;
-    while i < n {
-        line[i + 2] = wide(room[i]);
-        i += 1;
-    }
-    line
-}
-
-fn wide2(x: u16) -> u64 {
-    x as u64
-}
-
-// The first n words of a room as numbers of a line.
-pub(crate) fn widened_words(room: [u16; LIST], n: usize) -> [u64; LINE]
-    requires { n ≤ 4096 }
-    ensures { length result ≡ 4355 }
-{
-    let mut line = [0u64; LINE];
-    let mut i: usize = 0;
-    while i < n {
-        line[i + 2] = wide2(room[i]);
-        i += 1;
+    let mut line = [0; LINE];
+    for (i, x) in room.iter().enumerate() {
+        line[i + 2] = (*x).into();
     }
     line
 }
@@ -88,7 +49,7 @@ pub(crate) fn put_front(room: &mut [u8], line: [u64; LINE], n: usize) -> usize
     requires { (n ≤ 4098) × (86058 ≤ length room.old) }
     ensures { result ≤ 86058 }
 {
-    put_each(room, 0, &line[0..n], n)
+    put_each(room, 0, &line[..n], n)
 }
 
 // Puts the numbers of a line from one place up to another, and the line's end behind them.

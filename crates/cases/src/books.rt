@@ -3,14 +3,14 @@ use book::Table;
 
 // The table with the live account i, the last one, at the place of its number: all of its collateral is allocated cash.
 fn with(t: Table, i: u8, sort: u8, tm: u16, amount: u64, margin: u64) -> Table {
-    let at = i as usize;
+    let at = usize::from(i);
     let mut w = t;
-    w.count = i as u16 + 1;
-    w.sort[at] = sort;
-    w.live[at] = true;
-    w.tm[at] = tm;
-    w.numbers[at] = i as u16;
-    w.next = i as u32 + 1;
+    w.count = u16::from(i) + 1;
+    w.marks.sort[at] = sort;
+    w.marks.live[at] = true;
+    w.marks.tm[at] = tm;
+    w.numbers[at] = u16::from(i);
+    w.next = u32::from(i) + 1;
     w.amounts[at] = amount;
     w.amounts[1024 + at] = amount;
     w.amounts[2304 + at] = margin;
@@ -18,15 +18,15 @@ fn with(t: Table, i: u8, sort: u8, tm: u16, amount: u64, margin: u64) -> Table {
 }
 
 fn retired(t: Table, i: u8) -> Table {
-    let at = i as usize;
+    let at = usize::from(i);
     let mut w = t;
-    w.live[at] = false;
+    w.marks.live[at] = false;
     w
 }
 
 // The table with this need kept at place i.
 pub fn keeping(t: Table, i: u8, need: u64) -> Table {
-    let at = i as usize;
+    let at = usize::from(i);
     let mut w = t;
     w.needs[at] = need;
     w

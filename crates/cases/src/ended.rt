@@ -13,21 +13,14 @@ fn word(rt: &HostRuntime, closing: Closing) {
 
 // The closing word, the place and the counts.
 pub fn ended(rt: &HostRuntime, e: Ended) {
-    let closing = e.closing;
-    word(rt, closing);
+    word(rt, e.closing);
     number(rt, e.place as u64);
     number(rt, e.read);
     number(rt, e.done);
 }
 
-fn item(rt: &HostRuntime, n: u16) {
-    number(rt, n as u64);
-}
-
 pub fn list(rt: &HostRuntime, room: &[u16]) {
-    let mut i: usize = 0;
-    while i < room.len() {
-        item(rt, room[i]);
-        i += 1;
+    for n in room {
+        number(rt, u64::from(*n));
     }
 }

@@ -11,7 +11,7 @@ fn total(rt: &HostRuntime, t: Table, amount: Amount) {
 
 // An account of the old order with a number of its own in each amount; what is received goes by n.
 fn each(sort: u8, n: u8) -> Row {
-    let k = n as u64;
+    let k = u64::from(n);
     let received = Kinds {
         cash: k * 100,
         deposits: k * 200,
@@ -58,7 +58,7 @@ fn ten(rt: &HostRuntime, t: Table) {
 
 fn margins(rt: &HostRuntime, t: Table) {
     let s = book::amount_sum(t, Amount::Margin);
-    shown::told(rt, b": refusal ", s.refusal as u64);
+    shown::told(rt, b": refusal ", u64::from(s.refusal));
     shown::told(rt, b" total ", s.total);
     shown::end_line(rt);
 }
@@ -66,7 +66,7 @@ fn margins(rt: &HostRuntime, t: Table) {
 // The book with the need at place i kept as this.
 fn kept(rt: &HostRuntime, t: Table, i: u8, need: u64) {
     shown::told(rt, b"margins, need ", need);
-    shown::told(rt, b" kept at place ", i as u64);
+    shown::told(rt, b" kept at place ", u64::from(i));
     margins(rt, books::keeping(t, i, need));
 }
 

@@ -2,10 +2,6 @@
 use crate::shown;
 use dayfile::{Kinds, Record};
 
-fn only(yes: bool, x: u64) -> u64 {
-    if yes { x } else { 0 }
-}
-
 // The fault of a record whose amount of this bit is 1 and whose others are 0.
 fn fault(rt: &HostRuntime, code: u8, named: u8, bit: u8) {
     let r = Record {
@@ -14,15 +10,15 @@ fn fault(rt: &HostRuntime, code: u8, named: u8, bit: u8) {
         named,
         account: 9,
         kinds: Kinds {
-            cash: only(bit == 0, 1),
-            deposits: only(bit == 1, 1),
-            guarantees: only(bit == 2, 1),
-            securities: only(bit == 3, 1),
+            cash: u64::from(bit == 0),
+            deposits: u64::from(bit == 1),
+            guarantees: u64::from(bit == 2),
+            securities: u64::from(bit == 3),
         },
-        pledged: only(bit == 4, 1),
-        margin: only(bit == 5, 1),
+        pledged: u64::from(bit == 4),
+        margin: u64::from(bit == 5),
     };
-    shown::number(rt, dayfile::fault_of(r) as u64);
+    shown::number(rt, u64::from(dayfile::fault_of(r)));
 }
 
 // Retiring names no amount.

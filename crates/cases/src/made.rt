@@ -27,9 +27,7 @@ fn record(t: Table, code: u8, named: u8, account: u16, x: u64) -> Record {
 }
 
 fn carried(t: Table, code: u8, named: u8, account: u16, x: u64) -> Table {
-    let done = desk::carry_out(t, record(t, code, named, account, x));
-    let after = done.table;
-    after
+    desk::carry_out(t, record(t, code, named, account, x)).table
 }
 
 // Received and allocated.
@@ -64,7 +62,7 @@ pub fn busy() -> Table {
 // The same with another need kept at a place.
 pub fn wrong(place: u8, need: u64) -> Table {
     let mut t = busy();
-    let at = place as usize;
+    let at = usize::from(place);
     t.needs[at] = need;
     t
 }

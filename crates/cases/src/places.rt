@@ -7,9 +7,9 @@ fn found(rt: &HostRuntime, f: Found) {
         Found::End => shown::say(rt, b" end"),
         Found::Cut => shown::say(rt, b" cut"),
         Found::Whole(record, next) => {
-            shown::pair(rt, b" code", record.code as u64);
-            shown::pair(rt, b", serial", record.serial as u64);
-            shown::pair(rt, b", account", record.account as u64);
+            shown::pair(rt, b" code", u64::from(record.code));
+            shown::pair(rt, b", serial", u64::from(record.serial));
+            shown::pair(rt, b", account", u64::from(record.account));
             shown::pair(rt, b", cash", record.kinds.cash);
             shown::pair(rt, b"; next", next as u64);
         }

@@ -10,9 +10,9 @@ fn answer(rt: &HostRuntime, read: Read) {
         Read::End => say(rt, b" end"),
         Read::Cut => say(rt, b" 2"),
         Read::Good(record, _) => {
-            pair(rt, b" good, serial", record.serial as u64);
-            pair(rt, b", code", record.code as u64);
-            pair(rt, b", account", record.account as u64);
+            pair(rt, b" good, serial", u64::from(record.serial));
+            pair(rt, b", code", u64::from(record.code));
+            pair(rt, b", account", u64::from(record.account));
         }
         Read::Bad {
             reason,
@@ -21,35 +21,31 @@ fn answer(rt: &HostRuntime, read: Read) {
             account,
             next: _,
         } => {
-            pair(rt, b" refusal", reason as u64);
-            pair(rt, b", serial", serial as u64);
-            pair(rt, b", code", code as u64);
-            pair(rt, b", account", account as u64);
+            pair(rt, b" refusal", u64::from(reason));
+            pair(rt, b", serial", u64::from(serial));
+            pair(rt, b", code", u64::from(code));
+            pair(rt, b", account", u64::from(account));
         }
     }
 }
 
 // A turn at a place.
 fn line(rt: &HostRuntime, at: usize, t: Turn) {
-    let seen = t.seen;
-    let given = t.given;
     pair(rt, b"at", at as u64);
     say(rt, b" sees");
-    answer(rt, seen);
+    answer(rt, t.seen);
     say(rt, b"; gives");
-    answer(rt, given);
+    answer(rt, t.given);
     pair(rt, b"; then at", t.place as u64);
     say(rt, b"\n");
 }
 
 fn turns(rt: &HostRuntime, piece: &[u8], place: usize, n: u8) {
     let mut at = place;
-    let mut i: u8 = 0;
-    while i < n {
+    for _ in 0..n {
         let t = turning::take_turn(piece, at);
         line(rt, at, t);
         at = t.place;
-        i += 1;
     }
 }
 

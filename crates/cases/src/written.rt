@@ -4,21 +4,13 @@ ghost use Rattle.std.specs.Prelude.{◌≤◌, ◌<◌, length};
 use crate::shown::{say, told};
 use bookfile::{Held, SIZE, Table};
 
-fn told_byte(rt: &HostRuntime, text: &[u8], n: u8) {
-    told(rt, text, n as u64);
-}
-
-fn told_word(rt: &HostRuntime, text: &[u8], n: u16) {
-    told(rt, text, n as u64);
-}
-
 // A book that isn't sound, with words in its last place.
 fn some_book() -> Table {
     let mut t = book::fresh();
     t.count = 65_535;
     t.serial = 258;
-    t.sort[255] = 200;
-    t.live[255] = true;
+    t.marks.sort[255] = 200;
+    t.marks.live[255] = true;
     t.modes[255] = true;
     t.needs[255] = 72_623_859_790_382_856;
     t.amounts[2559] = 18_446_744_073_709_551_615;
@@ -34,10 +26,10 @@ fn room_line(rt: &HostRuntime, t: Table, n: usize)
     let mut room = [255u8; 24_333];
     let answer = bookfile::write(t, &mut room[..n]);
     told(rt, b"into ", n as u64);
-    told_byte(rt, b": ", answer);
-    told_byte(rt, b"; bytes ", room[0]);
-    told_byte(rt, b" ", room[24_331]);
-    told_byte(rt, b" ", room[24_332]);
+    told(rt, b": ", u64::from(answer));
+    told(rt, b"; bytes ", u64::from(room[0]));
+    told(rt, b" ", u64::from(room[24_331]));
+    told(rt, b" ", u64::from(room[24_332]));
     say(rt, b"\n");
 }
 
@@ -48,12 +40,12 @@ fn held_line(rt: &HostRuntime, held: Held) {
     } else {
         say(rt, b"none");
     }
-    told_word(rt, b"; count ", t.count);
-    told_word(rt, b", serial ", t.serial);
-    told(rt, b", next ", t.next as u64);
-    told_word(rt, b", at 254 number ", t.numbers[254]);
-    told_word(rt, b", at 255 number ", t.numbers[255]);
-    told_byte(rt, b", sort ", t.sort[255]);
+    told(rt, b"; count ", u64::from(t.count));
+    told(rt, b", serial ", u64::from(t.serial));
+    told(rt, b", next ", u64::from(t.next));
+    told(rt, b", at 254 number ", u64::from(t.numbers[254]));
+    told(rt, b", at 255 number ", u64::from(t.numbers[255]));
+    told(rt, b", sort ", u64::from(t.marks.sort[255]));
     told(rt, b", need ", t.needs[255]);
     told(rt, b", margin ", t.amounts[2559]);
     say(rt, b"\n");
@@ -74,7 +66,7 @@ fn byte_line(rt: &HostRuntime, file: &mut [u8], place: usize, byte: u8)
     let was = file[place];
     file[place] = byte;
     told(rt, b"byte ", place as u64);
-    told_byte(rt, b" as ", byte);
+    told(rt, b" as ", u64::from(byte));
     say(rt, b": ");
     held_line(rt, bookfile::read(&file[..]));
     file[place] = was;
@@ -95,10 +87,8 @@ fn place_in_two(n: usize) -> usize
 // The same book in version 1.
 fn older(file: [u8; 24_332]) -> [u8; 23_816] {
     let mut old = [0u8; 23_816];
-    let mut n: usize = 0;
-    while n < 23_816 {
-        old[n] = file[place_in_two(n)];
-        n += 1;
+    for (n, byte) in old.iter_mut().enumerate() {
+        *byte = file[place_in_two(n)];
     }
     old[3] = 1;
     old

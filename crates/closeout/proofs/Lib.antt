@@ -12,5 +12,4 @@ pub mod DeemedUnder
 pub mod Turns
 pub mod Pass
 pub mod Answers
-pub mod HeldRows
 pub mod Carried

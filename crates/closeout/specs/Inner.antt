@@ -5,9 +5,7 @@ use Rattle.rows.specs.declared.Account.{Account}
 use Rattle.rows.specs.declared.Book.{Book}
 use Rattle.rows.specs.View.{View, free_of}
 use Rattle.rows.specs.Rows.{ceiling}
-use Rattle.table.specs.Words.{Marks, book_from}
 use Rattle.book.specs.Facts.{Sound}
-use Rattle.book.specs.Placed.{place_numbers}
 use Rattle.closeout.specs.declared.pays.Paid.{Paid}
 use Rattle.closeout.specs.declared.pays.Both.{Both}
 use Rattle.closeout.specs.declared.pays.Purses.{Purses}
@@ -99,10 +97,6 @@ put_at room at amounts = take at room ++ amounts ++ drop (at + 4) room
 -- account i's loss is good, where it is known who is live
 abbrev pub good_in : List Bool → List ℕ → ℕ → Bool
 good_in live losses i = leb (loss_at losses i) ceiling && (get_or live i false || eqb (loss_at losses i) 0)
-
--- a book by its rows and kept needs: neither its serial nor its modes nor its numbers are looked at, and here each number is its place
-abbrev pub held_book : ℕ → Marks → List ℕ → List ℕ → Book
-held_book count m w needs = book_from count 0 m w [] needs count (place_numbers count)
 
 -- the checks have passed
 pub record Checked (b : Book) (losses room : List ℕ) : Type 0 where

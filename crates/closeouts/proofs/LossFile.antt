@@ -34,11 +34,6 @@ first-places file list n e l h =
     sym (list-is (loss_in file) n 0 (take n list) (length-take-le n list l) (λ i m. get_or-take n list i 0 m ∙ h i m))
     ∙ ap (list_to (loss_in file)) e
 
--- no bytes have no losses
-pub none_came : (l : Losses) → l.count ≡ 0 → Came l
-unfolding losses_of loss_count pick list_to
-none_came l e = record { file = []; bytes = λ i. omega arith; is = ap (λ (n : ℕ). take n l.list) e }
-
 -- k times eight bytes are k losses, up to 256
 count-of-all : (k : ℕ) → k ≤ 256 → loss_count (8 * k) ≡ k
 unfolding loss_count
@@ -87,3 +82,8 @@ pub losses-read-back : (losses : List ℕ) → Fits losses → length losses ≤
 losses-read-back losses fit h =
     let n : length losses ≡ loss_count (length (loss_file losses)) = sym (ap loss_count (length-loss_file losses) ∙ count-of-all (length losses) h) in
     sym (first-places (loss_file losses) losses (length losses) n (omega arith) (loss-at losses fit)) ∙ take-length losses
+
+-- no bytes have no losses
+pub none_came : (l : Losses) → l.count ≡ 0 → Came l
+unfolding losses_of loss_count pick list_to
+none_came l e = record { file = []; bytes = λ i. omega arith; is = ap (λ (n : ℕ). take n l.list) e }

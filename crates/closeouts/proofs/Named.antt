@@ -1,5 +1,5 @@
 -- The accounts that a text names, at the front of two arrays.
-use mathlib.Core.Bool.{Bool, true, false, not, ◌&&◌, false≢true}
+use mathlib.Core.Bool.{Bool, true, false, ◌&&◌}
 use mathlib.Core.List.{List, [], ◌∷◌, ◌++◌}
 use mathlib.Core.Path.{◌≡◌, refl, sym, ap, ◌∙◌}
 use Prim.Native.Nat.{ℕ, zero, suc, ◌+◌, ◌-◌, ◌≤◌, ◌<◌}
@@ -8,9 +8,8 @@ use native.Mathlib.Decide.{ℕ_discrete}
 use native.Mathlib.Numerals.{add-one}
 use borrow.Author.Tests.{eq-eqb, ne_eqb, lt-ltb, le-ltb, le-leb, lt-leb}
 use lib.Dec.{eqb, ltb}
-use lib.ListN.{length, take, drop, get_or, set, length-set, get_or-eq_default}
+use lib.ListN.{length, take, drop, get_or, set, get_or-eq_default}
 use lib.Seq.{length-take-le, get_or-take, take-suc-set}
-use Rattle.sums.specs.Choice.{pick}
 use Rattle.sums.specs.Sum.{any, all, least}
 use Rattle.sums.proofs.Choices.{pick_yes, pick_no, pick_first, pick_second}
 use Rattle.sums.proofs.Least.{least-is}
@@ -22,8 +21,9 @@ use Rattle.words.specs.Texts.{lines_of, line_length}
 use Rattle.words.proofs.LinesAt.{line-here, no_line}
 use Rattle.closeouts.specs.declared.loss_lines.Loss.{Loss}
 use Rattle.closeouts.specs.declared.loss_lines.Loss.TheVariants.{Nothing, Of, Bad}
-use Rattle.closeouts.specs.declared.loss_lines.Put.{Put}
-use Rattle.closeouts.specs.Inner.{Puts}
+use Rattle.std.specs.Prelude.{Option, None, Some, is_some, Result, Ok, Err, ⊤}
+use Rattle.closeouts.specs.declared.losses.Losses.{Losses}
+use Rattle.closeouts.specs.Inner.{PlaceAmong, named_then, Puts}
 use Rattle.closeouts.specs.LossLines.{names, fails, loss_said, account_said, amount_said, named_by, losses, wrong, told_by, told_from, told_of, loss_for}
 
 -- ---- the place of a number
@@ -62,20 +62,24 @@ place-in-front numbers count n h = rw (length-take-le count numbers h) (least-eq
 
 -- ---- the losses of rows
 
-module _ (numbers amounts : List ℕ) (count n p : ℕ) (wide : count ≤ length numbers) (long : count ≤ length amounts) (e : p ≡ place_among numbers count n) where
-  at_place : loss_for (take count numbers) (take count amounts) n ≡ get_or (take count amounts) p 0
+module _ (numbers amounts : List ℕ) (count n : ℕ) (few : count ≤ 256) (long : length amounts ≡ 256) where
+  pub loss-named : (p : ℕ) → place_among (take count numbers) (length (take count numbers)) n ≡ p → p < length (take count numbers) → length (take count numbers) ≡ count
+      → get_or amounts p 0 ≡ loss_for (take count numbers) (take count amounts) n
   unfolding loss_for
-  at_place = ap (λ (i : ℕ). get_or (take count amounts) i 0) (place-in-front numbers count n wide ∙ sym e)
+  loss-named p e l q = sym (ap (λ (i : ℕ). get_or (take count amounts) i 0) e ∙ get_or-take count amounts p 0 (omega (arith, l, q)))
 
-  pub loss-named : p < count → get_or amounts p 0 ≡ loss_for (take count numbers) (take count amounts) n
-  loss-named l = sym (at_place ∙ get_or-take count amounts p 0 l)
+  pub loss-not-named : place_among (take count numbers) (length (take count numbers)) n ≡ length (take count numbers) → length (take count numbers) ≡ count
+      → 0 ≡ loss_for (take count numbers) (take count amounts) n
+  unfolding loss_for
+  loss-not-named e q = sym (get_or-eq_default (take count amounts) 0 (omega (arith, e, q, length-take-le count amounts (omega (arith, few, long)))))
 
-  pub loss-not-named : count ≤ p → 0 ≡ loss_for (take count numbers) (take count amounts) n
-  loss-not-named l = sym (at_place ∙ get_or-eq_default (take count amounts) 0 {n = p} (omega (arith, length-take-le count amounts long)))
+found : (numbers : List ℕ) (count n : ℕ) (place : Option ℕ) → PlaceAmong numbers count n place → is_some place ≡ ltb (place_among numbers count n) count
+found numbers count n None e = sym (le-ltb (place_among numbers count n) count (omega arith))
+found numbers count n (Some p) e = sym (lt-ltb (place_among numbers count n) count (omega arith))
 
-pub held_more : (rows : List ℕ) (n : ℕ) (numbers : List ℕ) (i p : ℕ) (ok : Bool) → ok ≡ all i (λ j. ltb (place_among rows n (get_or numbers j 0)) n) → p ≡ place_among rows n (get_or numbers i 0)
-    → (ok && ltb p n) ≡ all (i + 1) (λ j. ltb (place_among rows n (get_or numbers j 0)) n)
-held_more rows n numbers i p ok e f = rw (e, f) (sym (all-step i (λ j. ltb (place_among rows n (get_or numbers j 0)) n)))
+pub held_more : (rows : List ℕ) (n : ℕ) (numbers : List ℕ) (i : ℕ) (place : Option ℕ) (ok : Bool) → ok ≡ all i (λ j. ltb (place_among rows n (get_or numbers j 0)) n)
+    → PlaceAmong rows n (get_or numbers i 0) place → (ok && is_some place) ≡ all (i + 1) (λ j. ltb (place_among rows n (get_or numbers j 0)) n)
+held_more rows n numbers i place ok e f = rw (e, found rows n (get_or numbers i 0) place f) (sym (all-step i (λ j. ltb (place_among rows n (get_or numbers j 0)) n)))
 
 -- ---- what one line says
 
@@ -112,50 +116,26 @@ module _ (line : List ℕ) where
 
 -- ---- a line more
 
-module _ (numbers amounts : List ℕ) (count : ℕ) (few : count ≤ 256) (wide : length numbers ≡ 256) (long : length amounts ≡ 256) where
-  pub puts-nothing : {p : Put} → p ≡ record { good = true; fault = 0; count = count } → Puts numbers amounts count Nothing numbers amounts p
-  unfolding named_by pick
-  puts-nothing e = rw e (record { is = refl; few = few; wide = wide; long = long })
+module _ (numbers amounts : List ℕ) (account amount : ℕ) (place : Option ℕ) (e : PlaceAmong numbers (length numbers) account place) {t : Bool} (here : t ≡ is_some place) where
+  same : ltb (place_among numbers (length numbers) account) (length numbers) ≡ t
+  same = sym (here ∙ found numbers (length numbers) account place e)
 
-  pub puts-bad : {p : Put} {n : ℕ} → p ≡ record { good = false; fault = n; count = count } → Puts numbers amounts count (Bad n) numbers amounts p
-  unfolding named_by pick
-  puts-bad e = rw e (record { is = refl; few = few; wide = wide; long = long })
+  pub names-twice : t ≡ true → named_by numbers amounts (Of account amount) ≡ fails 5
+  unfolding named_by
+  names-twice l = pick_yes _ _ _ (same ∙ l)
 
-  module _ (account amount i : ℕ) (e : i ≡ place_among numbers count account) where
-    fits : length (take count numbers) ≡ count
-    fits = length-take-le count numbers (omega arith)
-
-    same : ltb (place_among (take count numbers) (length (take count numbers)) account) (length (take count numbers)) ≡ ltb i count
-    same = rw (place-in-front numbers count account (omega arith), fits, e)
-
-    pub puts-twice : {p : Put} → i < count → p ≡ record { good = false; fault = 5; count = count } → Puts numbers amounts count (Of account amount) numbers amounts p
+  module _ (l : t ≡ false) where
+    pub names_none : length numbers ≡ 256 → named_by numbers amounts (Of account amount) ≡ fails 6
     unfolding named_by
-    puts-twice l q = rw q (record { is = pick_yes _ _ _ (same ∙ lt-ltb i count l) ∙ sym (pick_no false _ _ refl); few = few; wide = wide; long = long })
+    names_none z = pick_no _ _ _ (same ∙ l) ∙ pick_yes _ _ _ (le-leb 256 (length numbers) (omega arith))
 
-    module _ (l : count ≤ i) where
-      pub puts_none : {p : Put} → count ≡ 256 → p ≡ record { good = false; fault = 6; count = count } → Puts numbers amounts count (Of account amount) numbers amounts p
-      unfolding named_by
-      puts_none z q =
-          rw q (record {
-            is = pick_no _ _ _ (same ∙ le-ltb i count l) ∙ pick_yes _ _ _ (le-leb 256 (length (take count numbers)) (omega (arith, fits))) ∙ sym (pick_no false _ _ refl);
-            few = few;
-            wide = wide;
-            long = long;
-          })
+    pub names-more : length numbers < 256 → named_by numbers amounts (Of account amount) ≡ names (numbers ++ (account ∷ [])) (amounts ++ (amount ∷ []))
+    unfolding named_by
+    names-more z = pick_no _ _ _ (same ∙ l) ∙ pick_no _ _ _ (lt-leb 256 (length numbers) z)
 
-      pub puts-loss : {p : Put} → (count ≡ 256 → ⊥) → p ≡ record { good = true; fault = 0; count = count + 1 }
-          → Puts numbers amounts count (Of account amount) (set numbers count account) (set amounts count amount) p
-      unfolding named_by
-      puts-loss z q =
-          let few' : count < 256 = omega arith in
-          let a : take (count + 1) (set numbers count account) ≡ take count numbers ++ (account ∷ []) = ap (λ (k : ℕ). take k (set numbers count account)) (add-one count) ∙ take-suc-set numbers count account (omega arith) in
-          let b : take (count + 1) (set amounts count amount) ≡ take count amounts ++ (amount ∷ []) = ap (λ (k : ℕ). take k (set amounts count amount)) (add-one count) ∙ take-suc-set amounts count amount (omega arith) in
-          rw q (record {
-            is = pick_no _ _ _ (same ∙ le-ltb i count l) ∙ pick_no _ _ _ (lt-leb 256 (length (take count numbers)) (omega (arith, fits))) ∙ sym (pick_yes true _ _ refl ∙ rw (a, b));
-            few = omega arith;
-            wide = length-set numbers count account ∙ wide;
-            long = length-set amounts count amount ∙ long;
-          })
+-- the front of an array, after one element more
+pub front-more : (xs : List ℕ) (count x : ℕ) → count < length xs → take (count + 1) (set xs count x) ≡ take count xs ++ (x ∷ [])
+front-more xs count x l = ap (λ (k : ℕ). take k (set xs count x)) (add-one count) ∙ take-suc-set xs count x l
 
 -- ---- all lines
 
@@ -175,32 +155,23 @@ module _ (line : ℕ) (ns ms : List ℕ) (xs : List (List ℕ)) where
 
 -- ---- at a place of a text
 
-flip : (t : Bool) → not t ≡ true → t ≡ false
-flip true e = absurd (false≢true e)
-flip false e = refl
-
-flop : (t : Bool) → not t ≡ false → t ≡ true
-flop true e = refl
-flop false e = absurd (false≢true (sym e))
-
-module _ (text : List ℕ) (place : ℕ) (line count : ℕ) (numbers amounts : List ℕ) where
-  pub text-over : length text ≤ place → told_from line (take count numbers) (take count amounts) (lines_of (drop place text)) ≡ told_of text
-      → pick true (losses (take count numbers) (take count amounts)) (wrong line 0) ≡ told_of text
-  unfolding pick
+module _ (text : List ℕ) (place : ℕ) (line : ℕ) (l : Losses) where
+  pub text-over : length text ≤ place → told_from line (take l.count l.numbers) (take l.count l.list) (lines_of (drop place text)) ≡ told_of text
+      → losses (take l.count l.numbers) (take l.count l.list) ≡ told_of text
   text-over h i = sym (no_more line _ _ _ (no_line text place h)) ∙ i
 
-  module _ (end : ℕ) {loss : Loss} {p : Put} {numbers' amounts' : List ℕ} (h : place < length text) (e : end ≡ place + line_length (drop place text))
-      (i : told_from line (take count numbers) (take count amounts) (lines_of (drop place text)) ≡ told_of text)
-      (o : loss ≡ loss_said (take (end - place) (drop place text))) (s : Puts numbers amounts count loss numbers' amounts' p) where
-    here : named_by (take count numbers) (take count amounts) (loss_said (take (end - place) (drop place text)))
-        ≡ pick p.good (names (take p.count numbers') (take p.count amounts')) (fails p.fault)
-    here = ap (named_by (take count numbers) (take count amounts)) (sym o) ∙ s.is
+  module _ (end : ℕ) {loss : Loss} {l' : Losses} (h : place < length text) (e : end ≡ place + line_length (drop place text))
+      (i : told_from line (take l.count l.numbers) (take l.count l.list) (lines_of (drop place text)) ≡ told_of text)
+      (o : loss ≡ loss_said (take (end - place) (drop place text))) where
+    here : (p : Result ⊤ ℕ) → Puts l loss l' p
+        → named_by (take l.count l.numbers) (take l.count l.list) (loss_said (take (end - place) (drop place text))) ≡ named_then l' p
+    here p s = ap (named_by (take l.count l.numbers) (take l.count l.list)) (sym o) ∙ s.is
 
-    pub text-fails : not p.good ≡ true → pick false (losses (take p.count numbers') (take p.count amounts')) (wrong line p.fault) ≡ told_of text
-    unfolding pick
-    text-fails f = sym (line-fails line _ _ _ _ _ (line-here text place end h e) p.fault (here ∙ pick_no _ _ _ (flip p.good f))) ∙ i
+    pub text-fails : (fault : ℕ) → Puts l loss l' (Err fault) → wrong line fault ≡ told_of text
+    text-fails fault s = sym (line-fails line _ _ _ _ _ (line-here text place end h e) fault (here (Err fault) s)) ∙ i
 
-    pub text-goes : not p.good ≡ false → told_from (line + 1) (take p.count numbers') (take p.count amounts') (lines_of (drop end text)) ≡ told_of text
-    text-goes f =
-        ap (λ (k : ℕ). told_from k (take p.count numbers') (take p.count amounts') (lines_of (drop end text))) (add-one line)
-        ∙ sym (line-names line _ _ _ _ _ (line-here text place end h e) _ _ (here ∙ pick_yes _ _ _ (flop p.good f))) ∙ i
+    pub text-goes : (u : ⊤) → Puts l loss l' (Ok u)
+        → told_from (line + 1) (take l'.count l'.numbers) (take l'.count l'.list) (lines_of (drop end text)) ≡ told_of text
+    text-goes u s =
+        ap (λ (k : ℕ). told_from k (take l'.count l'.numbers) (take l'.count l'.list) (lines_of (drop end text))) (add-one line)
+        ∙ sym (line-names line _ _ _ _ _ (line-here text place end h e) _ _ (here (Ok u) s)) ∙ i

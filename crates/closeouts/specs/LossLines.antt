@@ -1,5 +1,5 @@
 -- What a text of losses says, a line `NUMBER AMOUNT` for each account that has one (docs/API.md), and the losses of the rows held by it.
-use Rattle.std.specs.Prelude.{Bool, true, false, not, ◌&&◌, List, [], ◌∷◌, ◌++◌, ◌≡◌, ℕ, suc, eqb, ltb, leb, length, take, get_or}
+use Rattle.std.specs.Prelude.{Bool, true, false, not, ◌&&◌, List, [], ◌∷◌, ◌++◌, ◌≡◌, ℕ, suc, eqb, ltb, leb, length, take, get_or, Result, Ok, Err}
 use Rattle.sums.specs.Choice.{pick}
 use Rattle.sums.specs.Sum.{all}
 use Rattle.sums.specs.Listed.{list_to}
@@ -14,7 +14,7 @@ use Rattle.report.specs.Reports.{accounts, refused_word, word_line}
 use Rattle.report.specs.Holdings.{bytes_in}
 use Rattle.closeouts.specs.declared.loss_lines.Loss.{Loss}
 use Rattle.closeouts.specs.declared.loss_lines.Loss.TheVariants.{Nothing, Of, Bad}
-use Rattle.closeouts.specs.declared.loss_lines.Said.{Said}
+use Rattle.closeouts.specs.declared.loss_lines.Wrong.{Wrong}
 use Rattle.closeouts.specs.declared.losses.Losses.{Losses}
 use Rattle.closeouts.specs.Losses.{Came}
 use Rattle.closeouts.specs.Texts.{text_of}
@@ -72,8 +72,9 @@ abbrev pub told_of : List ℕ → Told
 told_of text = told_from 1 [] [] (lines_of text)
 
 -- the same as a call's answer
-abbrev pub answered : Said → Told
-answered s = pick s.good (losses (take s.count s.numbers) (take s.count s.amounts)) (wrong s.line s.fault)
+abbrev pub answered : Result Losses Wrong → Told
+answered (Ok l) = losses (take l.count l.numbers) (take l.count l.list)
+answered (Err w) = wrong w.line w.fault
 
 -- the loss of the account with a number: 0 where it isn't named
 unfoldable pub loss_for : List ℕ → List ℕ → ℕ → ℕ

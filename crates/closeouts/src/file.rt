@@ -1,10 +1,10 @@
 // The file of losses that a word names.
-ghost use Rattle.std.specs.Prelude.{true, ◌≡◌, ◌≤◌};
+ghost use Rattle.std.specs.Prelude.{◌≡◌, ◌≤◌, IfSome, is_some};
 ghost use Rattle.closeouts.specs.Losses.{Came};
 ghost use Rattle.closeouts.specs.LossLines.{told_of, says_losses, SaidBy, LinesCame, CameAs};
 
-use crate::loss_lines::read_lines;
-use crate::losses::{Losses, list, unreadable};
+use crate::loss_lines::{Wrong, read_lines};
+use crate::losses::{Losses, list};
 use crate::told;
 use streams::files::read_named;
 use streams::words;
@@ -16,61 +16,53 @@ const ROOM: usize = 2049;
 // The most bytes of a text.
 const TEXT: usize = 65_536;
 
-fn from_bytes(rt: &HostRuntime) -> Losses
-    ensures count_bound { result.count ≤ 256 }
-    ensures came { Came result }
+fn from_bytes(rt: &HostRuntime) -> Option<Losses>
+    ensures count_bound { IfSome result (λ l. l.count ≤ 256) }
+    ensures came { IfSome result Came }
 {
     let mut bytes = [0u8; ROOM];
     let read = read_named(rt, b"closeouts", b"read the file of losses", 1, &mut bytes);
     if read.failed {
-        return unreadable();
+        return None;
     }
-    let n = read.count;
-    list(&bytes[..n])
+    Some(list(&bytes[..read.count]))
 }
 
 // A line that says nothing is told.
-fn from_text(rt: &HostRuntime, text: &[u8]) -> Losses
-    ensures count_bound { result.count ≤ 256 }
-    ensures said_by { result.readable ≡ true → SaidBy result (told_of text.now) }
-    ensures readable_value { result.readable ≡ says_losses (told_of text.now) }
+fn from_text(rt: &HostRuntime, text: &[u8]) -> Option<Losses>
+    ensures count_bound { IfSome result (λ l. l.count ≤ 256) }
+    ensures said_by { IfSome result (λ l. SaidBy l (told_of text.now)) }
+    ensures readable { is_some result ≡ says_losses (told_of text.now) }
 {
-    let said = read_lines(text);
-    if said.good {
-        let numbers = said.numbers;
-        let list = said.amounts;
-        return Losses {
-            readable: true,
-            numbers,
-            list,
-            count: said.count,
-        };
+    match read_lines(text) {
+        Ok(losses) => Some(losses),
+        Err(Wrong { line, fault }) => {
+            told::fault(rt, line, fault);
+            None
+        }
     }
-    told::fault(rt, said.line, said.fault);
-    unreadable()
 }
 
-fn from_lines(rt: &HostRuntime) -> Losses
-    ensures count_bound { result.count ≤ 256 }
-    ensures lines_came { result.readable ≡ true → LinesCame result }
+fn from_lines(rt: &HostRuntime) -> Option<Losses>
+    ensures count_bound { IfSome result (λ l. l.count ≤ 256) }
+    ensures lines_came { IfSome result LinesCame }
 {
     let mut text = [0u8; TEXT + 1];
     let read = read_named(rt, b"closeouts", b"read the file of losses", 2, &mut text);
     if read.failed {
-        return unreadable();
+        return None;
     }
-    let n = read.count;
-    if TEXT < n {
+    if TEXT < read.count {
         told::too_long(rt);
-        return unreadable();
+        return None;
     }
-    from_text(rt, &text[..n])
+    from_text(rt, &text[..read.count])
 }
 
 // Of the first word, or of the second behind `--lines`.
-pub(crate) fn from_argument(rt: &HostRuntime, lines: bool) -> Losses
-    ensures count_bound { result.count ≤ 256 }
-    ensures came_as { result.readable ≡ true → CameAs lines result }
+pub(crate) fn from_argument(rt: &HostRuntime, lines: bool) -> Option<Losses>
+    ensures count_bound { IfSome result (λ l. l.count ≤ 256) }
+    ensures came_as { IfSome result (CameAs lines) }
 {
     if lines {
         if is_there(words::count(rt), 2) {
@@ -82,5 +74,5 @@ pub(crate) fn from_argument(rt: &HostRuntime, lines: bool) -> Losses
         }
     }
     told::none_named(rt);
-    unreadable()
+    None
 }

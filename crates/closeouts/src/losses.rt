@@ -1,17 +1,29 @@
 // The losses that a file's bytes say: eight bytes for each account, high byte first.
-ghost use Rattle.std.specs.Prelude.{false, ◌≡◌, ◌≤◌, take};
+ghost use Rattle.std.specs.Prelude.{◌≡◌, ◌≤◌, take};
 ghost use Rattle.numbers.specs.Bytes.{Bytes};
 ghost use Rattle.closeouts.specs.Losses.{loss_count, losses_of};
 
 use numbers::number8;
 
-// The losses, with the accounts' numbers where a text names them; or that their file can't be read.
+// The losses, with the accounts' numbers where a text names them.
 #[derive(Clone, Copy)]
 pub(crate) struct Losses {
-    pub(crate) readable: bool,
     pub(crate) numbers: [u16; 256],
     pub(crate) list: [u64; 256],
     pub(crate) count: usize,
+}
+
+impl Losses {
+    // None yet.
+    pub(crate) fn none() -> Losses
+        ensures { result.count ≡ 0 }
+    {
+        Losses {
+            numbers: [0; 256],
+            list: [0; 256],
+            count: 0,
+        }
+    }
 }
 
 // A length that is no multiple of eight gives no losses, which suit no book.
@@ -26,19 +38,6 @@ fn count_of(length: usize) -> usize
     }
 }
 
-// No losses, of a file that can't be read.
-pub(crate) fn unreadable() -> Losses
-    ensures readable_value { result.readable ≡ false }
-    ensures count_value { result.count ≡ 0 }
-{
-    Losses {
-        readable: false,
-        numbers: [0; 256],
-        list: [0; 256],
-        count: 0,
-    }
-}
-
 // That each element is a byte, the type says and a definition over lists can't.
 pub(crate) fn list(bytes: &[u8]) -> Losses
     ensures count_bound { result.count ≤ 256 }
@@ -47,13 +46,10 @@ pub(crate) fn list(bytes: &[u8]) -> Losses
 {
     let count = count_of(bytes.len());
     let mut list = [0u64; 256];
-    let mut i: usize = 0;
-    while i < count {
+    for i in 0..count {
         list[i] = number8(bytes, 8 * i);
-        i += 1;
     }
     Losses {
-        readable: true,
         numbers: [0; 256],
         list,
         count,

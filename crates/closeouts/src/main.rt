@@ -10,7 +10,7 @@ ghost use Rattle.closeouts.specs.Texts.{text_of};
 ghost use Rattle.closeouts.specs.LossLines.{text_of_lines};
 
 use feed::Table;
-use matching::{all_held, row_losses};
+use losses::Losses;
 use streams::standard::{too_many_words, write_output};
 use streams::words;
 use streams::words::is_same;
@@ -25,8 +25,7 @@ mod told;
 fn accounts(t: Table) -> usize
     ensures { result ≡ Reports·accounts t.count }
 {
-    let n = t.count as usize;
-    if n < 256 { n } else { 256 }
+    usize::from(t.count).min(256)
 }
 
 fn zeros() -> [u64; 1024]
@@ -43,11 +42,10 @@ fn close_out_text(t: Table, losses: &[u64], room: &mut [u8; 65536]) -> usize
     let mut amounts = zeros();
     let wanted = 4 * accounts(t);
     let closed = closeout::close_out(t, losses, &mut amounts[..wanted]);
-    let numbers = t.numbers;
     report::close_out_text(
         closed.refusal,
         closed.total,
-        &numbers,
+        &t.numbers,
         losses,
         &amounts[..wanted],
         room,
@@ -55,44 +53,31 @@ fn close_out_text(t: Table, losses: &[u64], room: &mut [u8; 65536]) -> usize
 }
 
 // The same by the losses that a text names; `refused 7` in their place where no row held has one of its numbers.
-fn lines_text(
-    t: Table,
-    named: [u16; 256],
-    said: [u64; 256],
-    count: usize,
-    room: &mut [u8; 65536],
-) -> usize
-    requires { count ≤ 256 }
-    ensures value { result ≡ length (text_of_lines (turned_back t) (take count named) (take count said)) }
-    ensures room_after { room.new ≡ at_start (text_of_lines (turned_back t) (take count named) (take count said)) room.old }
+fn lines_text(t: Table, said: &Losses, room: &mut [u8; 65536]) -> usize
+    requires { said.now.count ≤ 256 }
+    ensures value { result ≡ length (text_of_lines (turned_back t) (take said.now.count said.now.numbers) (take said.now.count said.now.list)) }
+    ensures room_after { room.new ≡ at_start (text_of_lines (turned_back t) (take said.now.count said.now.numbers) (take said.now.count said.now.list)) room.old }
 {
-    let numbers = named;
-    let amounts = said;
-    let rows = t.numbers;
     let n = accounts(t);
-    let held = all_held(&rows, n, &numbers, count);
+    let held = said.all_held(&t.numbers[..n]);
     if book::is_sound(t) & !held {
-        let none = [0u64; 1];
-        return report::close_out_text(7, 0, &rows, &amounts[..0], &none[..0], room);
+        return report::close_out_text(7, 0, &t.numbers, &[], &[], room);
     }
-    let losses = row_losses(&rows, n, &numbers, &amounts, count);
+    let losses = said.row_losses(&t.numbers[..n]);
     close_out_text(t, &losses[..n], room)
 }
 
-fn close_out_lines(rt: &HostRuntime, t: Table, named: [u16; 256], said: [u64; 256], count: usize)
-    requires { count ≤ 256 }
+fn close_out_lines(rt: &HostRuntime, t: Table, said: &Losses)
+    requires { said.now.count ≤ 256 }
 {
     let mut room = [0u8; 65536];
-    let n = lines_text(t, named, said, count, &mut room);
+    let n = lines_text(t, said, &mut room);
     write_output(rt, b"closeouts", &room[..n]);
 }
 
-fn close_out(rt: &HostRuntime, t: Table, list: [u64; 256], count: usize)
-    requires { count ≤ 256 }
-{
-    let losses = list;
+fn close_out(rt: &HostRuntime, t: Table, losses: &[u64]) {
     let mut room = [0u8; 65536];
-    let n = close_out_text(t, &losses[..count], &mut room);
+    let n = close_out_text(t, losses, &mut room);
     write_output(rt, b"closeouts", &room[..n]);
 }
 
@@ -104,10 +89,9 @@ fn asks_for_lines(rt: &HostRuntime) -> bool {
 }
 
 fn run(rt: &HostRuntime, lines: bool, from: usize) {
-    let losses = file::from_argument(rt, lines);
-    if !losses.readable {
+    let Some(losses) = file::from_argument(rt, lines) else {
         return;
-    }
+    };
     let start = feed::books::from_word(rt, b"closeouts", from);
     if start.failed {
         return;
@@ -116,18 +100,14 @@ fn run(rt: &HostRuntime, lines: bool, from: usize) {
     if day.failed {
         return;
     }
-    let word = day.closing;
-    let table = day.table;
-    let numbers = losses.numbers;
-    let list = losses.list;
-    let closed = report::closing(rt, b"closeouts", word, day.read, day.done);
+    let closed = report::closing(rt, b"closeouts", day.closing, day.read, day.done);
     if closed.failed {
         return;
     }
     if lines {
-        close_out_lines(rt, table, numbers, list, losses.count);
+        close_out_lines(rt, day.table, &losses);
     } else {
-        close_out(rt, table, list, losses.count);
+        close_out(rt, day.table, &losses.list[..losses.count]);
     }
 }
 
@@ -136,7 +116,7 @@ fn main(rt: HostRuntime) {
         &rt,
         b"closeouts: carries out the day file on standard input over a fresh book, or over the one in the file FROM (- for a fresh one); the closing line, then who pays the losses in the file LOSSES, a line for each account; with --lines LOSSES is a text, a line NUMBER AMOUNT for each account that has a loss\nusage: closeouts [--lines] LOSSES [FROM] < DAYFILE\n",
     );
-    if help.asked {
+    if help.is_some() {
         return;
     }
     let lines = asks_for_lines(&rt);

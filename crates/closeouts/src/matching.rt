@@ -6,46 +6,42 @@ ghost use Rattle.rows.specs.Rows.{place_among};
 ghost use Rattle.closeouts.specs.LossLines.{loss_for};
 
 use crate::loss_lines::first_place;
+use crate::losses::Losses;
 
-fn loss_for(numbers: &[u16; 256], amounts: &[u64; 256], count: usize, n: u16) -> u64
-    requires { (count ≤ 256) × (length numbers.now ≡ 256) × (length amounts.now ≡ 256) }
-    ensures { result ≡ loss_for (take count numbers.now) (take count amounts.now) n }
-{
-    let p = first_place(numbers, count, n);
-    if p < count { amounts[p] } else { 0 }
-}
-
-// A loss for each of the first n rows.
-pub(crate) fn row_losses(
-    rows: &[u16; 256],
-    n: usize,
-    numbers: &[u16; 256],
-    amounts: &[u64; 256],
-    count: usize,
-) -> [u64; 256]
-    requires { (n ≤ 256) × (count ≤ 256) × (length numbers.now ≡ 256) × (length amounts.now ≡ 256) }
-    ensures { take n result ≡ list_to (λ i. loss_for (take count numbers.now) (take count amounts.now)
-        (get_or rows.now i 0)) n }
-{
-    let mut list = [0u64; 256];
-    let mut i: usize = 0;
-    while i < n {
-        list[i] = loss_for(numbers, amounts, count, rows[i]);
-        i += 1;
+impl Losses {
+    fn loss_for(&self, n: u16) -> u64
+        requires { self.now.count ≤ 256 }
+        ensures { result ≡ loss_for (take self.now.count self.now.numbers) (take self.now.count self.now.list) n }
+    {
+        match first_place(&self.numbers[..self.count], n) {
+            Some(p) => self.list[p],
+            None => 0,
+        }
     }
-    list
-}
 
-// Each number named is that of one of the first n rows.
-pub(crate) fn all_held(rows: &[u16; 256], n: usize, numbers: &[u16; 256], count: usize) -> bool
-    requires { (n ≤ 256) × (count ≤ 256) }
-    ensures { result ≡ all count (λ i. ltb (place_among rows.now n (get_or numbers.now i 0)) n) }
-{
-    let mut ok = true;
-    let mut i: usize = 0;
-    while i < count {
-        ok = ok & (first_place(rows, n, numbers[i]) < n);
-        i += 1;
+    // A loss for each row, by the rows' numbers.
+    pub(crate) fn row_losses(&self, rows: &[u16]) -> [u64; 256]
+        requires { (length rows.now ≤ 256) × (self.now.count ≤ 256) }
+        ensures { take (length rows.now) result ≡ list_to (λ i. loss_for (take self.now.count self.now.numbers)
+            (take self.now.count self.now.list) (get_or rows.now i 0)) (length rows.now) }
+    {
+        let mut list = [0u64; 256];
+        for i in 0..rows.len() {
+            list[i] = self.loss_for(rows[i]);
+        }
+        list
     }
-    ok
+
+    // Each number named is a row's.
+    pub(crate) fn all_held(&self, rows: &[u16]) -> bool
+        requires { self.now.count ≤ 256 }
+        ensures { result ≡ all self.now.count (λ i. ltb (place_among rows.now (length rows.now)
+            (get_or self.now.numbers i 0)) (length rows.now)) }
+    {
+        let mut ok = true;
+        for i in 0..self.count {
+            ok = ok & first_place(rows, self.numbers[i]).is_some();
+        }
+        ok
+    }
 }

@@ -15,7 +15,8 @@ use Rattle.rows.specs.Rows.{ceiling}
 use Rattle.rows.specs.View.{blocked_of}
 use Rattle.dayfile.specs.declared.Record.{Record}
 use Rattle.rules.proofs.Amending.{by-receive, by-hand-back, by-allocate, by-release, by-pledge, by-unpledge, by-margin, by-set-pledged, by-set-margin, by-retire}
-use Rattle.table.specs.Words.{Marks, row_in}
+use Rattle.table.specs.declared.Marks.{Marks}
+use Rattle.table.specs.Words.{row_in}
 use Rattle.codes.specs.Own.{beside_in, need_passes_in, leaves_below, release_lines, unpledge_lines, margin_lines, Answered, Receives, HandsBack, Allocates, Releases, Pledges, Unpledges, SetsMargin, SetsPledged, RevisesMargin, Retires}
 use Rattle.codes.specs.Asking.{names_kinds, names_one, names_margin, one_amount}
 use Rattle.codes.proofs.Asking.{one-cases}

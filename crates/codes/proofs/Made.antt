@@ -14,7 +14,8 @@ use Rattle.rows.specs.declared.Row.{Row}
 use Rattle.rows.specs.declared.Account.{Account}
 use Rattle.rows.specs.Rows.{ceiling, less_kinds, account_of, with_received, with_allocated, with_pledged, with_margin}
 use Rattle.rows.specs.Facts.{InRange}
-use Rattle.table.specs.Words.{Marks, row_in}
+use Rattle.table.specs.declared.Marks.{Marks}
+use Rattle.table.specs.Words.{row_in}
 use Rattle.table.specs.Facts.{Sized}
 use Rattle.table.specs.Inner.{put_kinds, Anew}
 use Rattle.table.proofs.RowsPut.{received-put, allocated-put, pledged-put, margin-put}

@@ -13,7 +13,8 @@ use Rattle.rows.specs.declared.Row.{Row}
 use Rattle.rows.specs.Rows.{ceiling, plus_kinds, less_kinds, with_received, with_allocated}
 use Rattle.rows.specs.Ranges.{ceilings, kinds_capped, kinds_within}
 use Rattle.rows.specs.Facts.{InRange, KindsWithin}
-use Rattle.table.specs.Words.{Marks, word_at, row_in}
+use Rattle.table.specs.declared.Marks.{Marks}
+use Rattle.table.specs.Words.{word_at, row_in}
 use Rattle.table.specs.Facts.{Sized}
 use Rattle.table.specs.Inner.{Anew}
 use Rattle.table.proofs.InPlace.{amount-put}

@@ -12,7 +12,7 @@ use Rattle.codes.specs.declared.asked.Headed.{Headed}
 use Rattle.codes.specs.declared.asked.Headed.TheVariants.{End as NoHead, Cut as TooFew, Whole as Begins}
 use Rattle.codes.specs.declared.asked.Asked.{Asked}
 use Rattle.codes.specs.declared.asked.Asked.TheVariants.{Refused, Bare, One, Only, Four}
-use Rattle.table.specs.Words.{Marks}
+use Rattle.table.specs.declared.Marks.{Marks}
 use Rattle.codes.specs.declared.one_kind.Kind.{Kind}
 use Rattle.codes.specs.declared.one_kind.Kind.TheVariants.{Cash, Deposits, Guarantees, Securities}
 use Rattle.codes.specs.Own.{early_number, Answered}

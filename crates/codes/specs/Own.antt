@@ -16,7 +16,8 @@ use Rattle.rules.specs.declared.Beside.{Beside}
 use Rattle.rules.specs.Refusals.{none_left, row_left, before8, from8}
 use Rattle.rules.specs.Effects.{amended}
 use Rattle.rules.specs.Inner.{top_margin, beside_by}
-use Rattle.table.specs.Words.{Marks, row_in, word_at}
+use Rattle.table.specs.declared.Marks.{Marks}
+use Rattle.table.specs.Words.{row_in, word_at}
 use Rattle.table.specs.Facts.{Sized}
 use Rattle.table.specs.Inner.{Anew}
 use Rattle.codes.specs.declared.settling.DeemedUnderAfter.{DeemedUnderAfter}

@@ -1,11 +1,11 @@
 // What each code decides on the table's words in place, by the lines of the table of refusals, and the words that it puts. A verdict reads kept needs (K3) and changes none.
+// Refusals stay the documents' numbers, 0 for none: `early_number` gives them so.
 #![tactic(auto)]
 
 ghost use Rattle.std.specs.Prelude.{◌≡◌, true, ◌≤◌};
 ghost use Rattle.rows.specs.Rows.{ceiling};
 ghost use Rattle.rows.specs.Facts.{KindsWithin};
 ghost use Rattle.rows.specs.Ranges.{ceilings};
-ghost use Rattle.table.specs.Words.{marks_from};
 ghost use Rattle.codes.specs.Own.{alive_in, early_number, deemed_under_in, Held};
 ghost use Rattle.codes.specs.OneKind.{only_kind};
 ghost use Rattle.codes.specs.Asking.{names_kinds, names_one, AnswersKinds, AnswersOne};
@@ -16,6 +16,7 @@ use own::{
     allocate, hand_back, pledge, receive, release, revise_margin, set_margin, set_pledged, unpledge,
 };
 use rows::Kinds;
+use table::Marks;
 
 pub mod asked;
 pub mod one_kind;
@@ -50,9 +51,7 @@ fn early(live: &[bool; 256], count: u16, serial: u16, r: Record) -> u8
 
 // The codes that name kinds, 4 to 7; `on` is the account's mode before the record, which K5 asks for.
 pub fn amend_kinds(
-    sort: &[u8; 256],
-    live: &[bool; 256],
-    tm: &[u16; 256],
+    marks: &Marks,
     w: &mut [u64; 2560],
     needs: &[u64; 256],
     on: bool,
@@ -60,24 +59,20 @@ pub fn amend_kinds(
     code: u8,
     k: Kinds,
 ) -> u8
-    requires { Held (marks_from sort.now live.now tm.now) w.old (deemed_under_in w.old needs.now) i × KindsWithin k ceilings
-        × (names_kinds code ≡ true) }
-    ensures { AnswersKinds (marks_from sort.now live.now tm.now) w.old
-        (deemed_under_in w.old needs.now) on i code k result w.new }
+    requires { Held marks.now w.old (deemed_under_in w.old needs.now) i × KindsWithin k ceilings × (names_kinds code ≡ true) }
+    ensures { AnswersKinds marks.now w.old (deemed_under_in w.old needs.now) on i code k result w.new }
 {
     match code {
-        4 => receive(sort, live, tm, w, i, k),
-        5 => hand_back(sort, live, tm, w, i, k),
-        6 => allocate(sort, live, tm, w, i, k),
-        _ => release(sort, live, tm, w, needs, on, i, k),
+        4 => receive(marks, w, i, k),
+        5 => hand_back(marks, w, i, k),
+        6 => allocate(marks, w, i, k),
+        _ => release(marks, w, needs, on, i, k),
     }
 }
 
 // The same where one kind alone is named.
 pub fn amend_only(
-    sort: &[u8; 256],
-    live: &[bool; 256],
-    tm: &[u16; 256],
+    marks: &Marks,
     w: &mut [u64; 2560],
     needs: &[u64; 256],
     on: bool,
@@ -86,24 +81,20 @@ pub fn amend_only(
     kind: Kind,
     x: u64,
 ) -> u8
-    requires { Held (marks_from sort.now live.now tm.now) w.old (deemed_under_in w.old needs.now) i
-        × KindsWithin (only_kind kind x) ceilings × (names_kinds code ≡ true) }
-    ensures { AnswersKinds (marks_from sort.now live.now tm.now) w.old
-        (deemed_under_in w.old needs.now) on i code (only_kind kind x) result w.new }
+    requires { Held marks.now w.old (deemed_under_in w.old needs.now) i × KindsWithin (only_kind kind x) ceilings × (names_kinds code ≡ true) }
+    ensures { AnswersKinds marks.now w.old (deemed_under_in w.old needs.now) on i code (only_kind kind x) result w.new }
 {
     match code {
-        4 => receive_kind(sort, live, tm, w, i, kind, x),
-        5 => hand_back_kind(sort, live, tm, w, i, kind, x),
-        6 => allocate_kind(sort, live, tm, w, i, kind, x),
-        _ => release_kind(sort, live, tm, w, needs, on, i, kind, x),
+        4 => receive_kind(marks, w, i, kind, x),
+        5 => hand_back_kind(marks, w, i, kind, x),
+        6 => allocate_kind(marks, w, i, kind, x),
+        _ => release_kind(marks, w, needs, on, i, kind, x),
     }
 }
 
 // The codes that name one amount, 8, 9, 10, 12 and 13; likewise.
 pub fn amend_one(
-    sort: &[u8; 256],
-    live: &[bool; 256],
-    tm: &[u16; 256],
+    marks: &Marks,
     w: &mut [u64; 2560],
     needs: &[u64; 256],
     on: bool,
@@ -111,15 +102,14 @@ pub fn amend_one(
     code: u8,
     y: u64,
 ) -> u8
-    requires { Held (marks_from sort.now live.now tm.now) w.old (deemed_under_in w.old needs.now) i × (y ≤ ceiling) × (names_one code ≡ true) }
-    ensures { AnswersOne (marks_from sort.now live.now tm.now) w.old
-        (deemed_under_in w.old needs.now) on i code y result w.new }
+    requires { Held marks.now w.old (deemed_under_in w.old needs.now) i × (y ≤ ceiling) × (names_one code ≡ true) }
+    ensures { AnswersOne marks.now w.old (deemed_under_in w.old needs.now) on i code y result w.new }
 {
     match code {
-        8 => pledge(sort, live, tm, w, i, y),
-        9 => unpledge(sort, live, tm, w, needs, on, i, y),
-        10 => set_margin(sort, live, tm, w, needs, i, y),
-        12 => set_pledged(sort, live, tm, w, i, y),
-        _ => revise_margin(sort, live, tm, w, i, y),
+        8 => pledge(marks, w, i, y),
+        9 => unpledge(marks, w, needs, on, i, y),
+        10 => set_margin(marks, w, needs, i, y),
+        12 => set_pledged(marks, w, i, y),
+        _ => revise_margin(marks, w, i, y),
     }
 }

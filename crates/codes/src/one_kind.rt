@@ -1,8 +1,9 @@
 // Codes 4 to 7 where one kind alone is named: that kind's words are read and put, and no other.
+// Refusals stay the documents' numbers, 0 for none: `sums.Table.first` gives them so.
 ghost use Rattle.std.specs.Prelude.{◌≡◌, ◌+◌, ◌*◌, ◌≤◌, ◌<◌, set};
 ghost use Rattle.rows.specs.Rows.{ceiling};
 ghost use Rattle.rows.specs.Facts.{InRange};
-ghost use Rattle.table.specs.Words.{marks_from, row_in};
+ghost use Rattle.table.specs.Words.{row_in};
 ghost use Rattle.table.specs.Facts.{Sized};
 ghost use Rattle.codes.specs.Own.{deemed_under_in, Held, Receives, HandsBack, Allocates, Releases};
 ghost use Rattle.codes.specs.OneKind.{kind_in, with_kind, only_kind, number_of};
@@ -11,6 +12,7 @@ use crate::own::taking;
 use rows::deemed::less;
 use rows::words::{with_allocated, with_received};
 use rows::{CEILING, Kinds};
+use table::Marks;
 use table::places::{row_at, word_at};
 
 #[derive(Clone, Copy)]
@@ -66,114 +68,70 @@ fn with_kind(k: Kinds, kind: Kind, x: u64) -> Kinds
 }
 
 // One received amount put anew: in the row, which is lent to its setter, and from it in its place.
-fn put_received(
-    sort: &[u8; 256],
-    live: &[bool; 256],
-    tm: &[u16; 256],
-    w: &mut [u64; 2560],
-    i: usize,
-    kind: Kind,
-    x: u64,
-)
+fn put_received(marks: &Marks, w: &mut [u64; 2560], i: usize, kind: Kind, x: u64)
     requires { i < 256 }
     ensures { w.new ≡ set w.old (256 * number_of kind + i) x }
 {
-    let row = row_at(sort, live, tm, w, i);
+    let row = row_at(marks, w, i);
     let new = with_received(row, with_kind(row.received, kind, x));
     let at = 256 * number_of(kind) + i;
     w[at] = kind_in(new.received, kind);
 }
 
-fn put_allocated(
-    sort: &[u8; 256],
-    live: &[bool; 256],
-    tm: &[u16; 256],
-    w: &mut [u64; 2560],
-    i: usize,
-    kind: Kind,
-    x: u64,
-)
+fn put_allocated(marks: &Marks, w: &mut [u64; 2560], i: usize, kind: Kind, x: u64)
     requires { i < 256 }
     ensures { w.new ≡ set w.old (256 * (4 + number_of kind) + i) x }
 {
-    let row = row_at(sort, live, tm, w, i);
+    let row = row_at(marks, w, i);
     let new = with_allocated(row, with_kind(row.allocated, kind, x));
     let at = 256 * (4 + number_of(kind)) + i;
     w[at] = kind_in(new.allocated, kind);
 }
 
 // 4
-pub(crate) fn receive_kind(
-    sort: &[u8; 256],
-    live: &[bool; 256],
-    tm: &[u16; 256],
-    w: &mut [u64; 2560],
-    i: usize,
-    kind: Kind,
-    x: u64,
-) -> u8
-    requires { Sized (marks_from sort.now live.now tm.now) w.old × (i < 256)
-        × InRange (row_in (marks_from sort.now live.now tm.now) w.old i) × (x ≤ ceiling) }
-    ensures { Receives (marks_from sort.now live.now tm.now) w.old i (only_kind kind x) result w.new }
+pub(crate) fn receive_kind(marks: &Marks, w: &mut [u64; 2560], i: usize, kind: Kind, x: u64) -> u8
+    requires { Sized marks.now w.old × (i < 256) × InRange (row_in marks.now w.old i) × (x ≤ ceiling) }
+    ensures { Receives marks.now w.old i (only_kind kind x) result w.new }
 {
     let sum = word_at(w, number_of(kind), i) + x;
     if CEILING < sum {
         return 10;
     }
-    put_received(sort, live, tm, w, i, kind, sum);
+    put_received(marks, w, i, kind, sum);
     0
 }
 
 // 5
-pub(crate) fn hand_back_kind(
-    sort: &[u8; 256],
-    live: &[bool; 256],
-    tm: &[u16; 256],
-    w: &mut [u64; 2560],
-    i: usize,
-    kind: Kind,
-    x: u64,
-) -> u8
-    requires { Sized (marks_from sort.now live.now tm.now) w.old × (i < 256) }
-    ensures { HandsBack (marks_from sort.now live.now tm.now) w.old i (only_kind kind x) result w.new }
+pub(crate) fn hand_back_kind(marks: &Marks, w: &mut [u64; 2560], i: usize, kind: Kind, x: u64) -> u8
+    requires { Sized marks.now w.old × (i < 256) }
+    ensures { HandsBack marks.now w.old i (only_kind kind x) result w.new }
 {
     let number = number_of(kind);
     let had = word_at(w, number, i);
     if less(had, word_at(w, 4 + number, i)) < x {
         return 11;
     }
-    put_received(sort, live, tm, w, i, kind, less(had, x));
+    put_received(marks, w, i, kind, less(had, x));
     0
 }
 
 // 6
-pub(crate) fn allocate_kind(
-    sort: &[u8; 256],
-    live: &[bool; 256],
-    tm: &[u16; 256],
-    w: &mut [u64; 2560],
-    i: usize,
-    kind: Kind,
-    x: u64,
-) -> u8
-    requires { Sized (marks_from sort.now live.now tm.now) w.old × (i < 256)
-        × InRange (row_in (marks_from sort.now live.now tm.now) w.old i) × (x ≤ ceiling) }
-    ensures { Allocates (marks_from sort.now live.now tm.now) w.old i (only_kind kind x) result w.new }
+pub(crate) fn allocate_kind(marks: &Marks, w: &mut [u64; 2560], i: usize, kind: Kind, x: u64) -> u8
+    requires { Sized marks.now w.old × (i < 256) × InRange (row_in marks.now w.old i) × (x ≤ ceiling) }
+    ensures { Allocates marks.now w.old i (only_kind kind x) result w.new }
 {
     let number = number_of(kind);
     let had = word_at(w, 4 + number, i);
     if less(word_at(w, number, i), had) < x {
         return 11;
     }
-    put_allocated(sort, live, tm, w, i, kind, had + x);
+    put_allocated(marks, w, i, kind, had + x);
     0
 }
 
 // 7
 pub(crate) fn release_kind(
-    sort: &[u8; 256],
-    live: &[bool; 256],
-    tm: &[u16; 256],
+    marks: &Marks,
     w: &mut [u64; 2560],
     needs: &[u64; 256],
     on: bool,
@@ -181,11 +139,10 @@ pub(crate) fn release_kind(
     kind: Kind,
     x: u64,
 ) -> u8
-    requires { Held (marks_from sort.now live.now tm.now) w.old (deemed_under_in w.old needs.now) i }
-    ensures { Releases (marks_from sort.now live.now tm.now) w.old
-        (deemed_under_in w.old needs.now) on i (only_kind kind x) result w.new }
+    requires { Held marks.now w.old (deemed_under_in w.old needs.now) i }
+    ensures { Releases marks.now w.old (deemed_under_in w.old needs.now) on i (only_kind kind x) result w.new }
 {
-    let row = row_at(sort, live, tm, w, i);
+    let row = row_at(marks, w, i);
     let had = kind_in(row.allocated, kind);
     if had < x {
         return 11;
@@ -195,6 +152,6 @@ pub(crate) fn release_kind(
     if n != 0 {
         return n;
     }
-    put_allocated(sort, live, tm, w, i, kind, less(had, x));
+    put_allocated(marks, w, i, kind, less(had, x));
     0
 }

@@ -2,12 +2,12 @@
 ghost use Rattle.std.specs.Prelude.{◌≡◌, ◌+◌, ◌≤◌, ◌<◌, ltb};
 ghost use Rattle.rows.specs.Rows.{ceiling};
 ghost use Rattle.rules.specs.Inner.{top_margin};
-ghost use Rattle.table.specs.Words.{marks_from};
 ghost use Rattle.codes.specs.Own.{deemed_under_at, deemed_under_in, deemed_under_after, deemed_under_after_in, Held};
 
 use rows::Account;
 use rows::deemed::{deemed_under_cm, deemed_under_tm, less};
 use rows::needs::{account_of, only_if};
+use table::Marks;
 use table::places::{row_at, word_at};
 
 // Under the TM, and under the CM.
@@ -46,22 +46,18 @@ pub fn deemed_under_after(
 
 // The same for the account at place i, its TM's being read from its place.
 pub(crate) fn deemed_under_after_at(
-    sort: &[u8; 256],
-    live: &[bool; 256],
-    tm: &[u16; 256],
+    marks: &Marks,
     w: &[u64; 2560],
     needs: &[u64; 256],
     i: usize,
     old: Account,
     new: Account,
 ) -> DeemedUnderAfter
-    requires { Held (marks_from sort.now live.now tm.now) w.now (deemed_under_in w.now needs.now) i × (old.tm < 256)
-        × (old.margin ≤ ceiling) × (new.margin ≤ ceiling) }
-    ensures { result ≡ deemed_under_after_in (marks_from sort.now live.now tm.now) w.now
-        (deemed_under_in w.now needs.now) i old new }
+    requires { Held marks.now w.now (deemed_under_in w.now needs.now) i × (old.tm < 256) × (old.margin ≤ ceiling) × (new.margin ≤ ceiling) }
+    ensures { result ≡ deemed_under_after_in marks.now w.now (deemed_under_in w.now needs.now) i old new }
 {
     let t = old.tm as usize;
-    let its = account_of(row_at(sort, live, tm, w, t));
+    let its = account_of(row_at(marks, w, t));
     let own = deemed_under_at(w, needs, i);
     let clients = deemed_under_at(w, needs, t);
     let all = deemed_under_at(w, needs, 0);

@@ -1,5 +1,6 @@
 // A position's fault and its charge, and those of a client's positions.
-ghost use Rattle.std.specs.Prelude.{◌≡◌, ◌≤◌, ◌<◌, take};
+// Refusals stay the documents' numbers, 0 for none: `first_fault` gives them so.
+ghost use Rattle.std.specs.Prelude.{◌≡◌, ◌≤◌, ◌<◌, length};
 ghost use Rattle.currency.specs.Charges.{is_option, fault_of, parts_of, carried_by, rounded_up, charge_of, first_fault, charges};
 
 use crate::rates::{NONE, PRODUCTS, rate};
@@ -73,31 +74,26 @@ fn charge(position: Position) -> u64
 }
 
 // The fault of the first position at fault, or 0.
-pub(crate) fn first_fault(positions: [Position; 64], number: usize) -> u8
-    requires { number ≤ 64 }
-    ensures { result ≡ first_fault (take number positions) }
+pub(crate) fn first_fault(positions: &[Position]) -> u8
+    ensures { result ≡ first_fault positions.now }
 {
-    let mut i: usize = 0;
-    while i < number {
-        let fault = fault_of(positions[i]);
+    for position in positions {
+        let fault = fault_of(*position);
         if fault != 0 {
             return fault;
         }
-        i += 1;
     }
     0
 }
 
 // What the positions are charged together.
-pub(crate) fn charged(positions: [Position; 64], number: usize) -> u64
-    requires { (number ≤ 64) × (first_fault (take number positions) ≡ 0) }
-    ensures { result ≡ charges (take number positions) }
+pub(crate) fn charged(positions: &[Position]) -> u64
+    requires { (length positions.now ≤ 64) × (first_fault positions.now ≡ 0) }
+    ensures { result ≡ charges positions.now }
 {
-    let mut sum: u64 = 0;
-    let mut i: usize = 0;
-    while i < number {
-        sum += charge(positions[i]);
-        i += 1;
+    let mut sum = 0;
+    for position in positions {
+        sum += charge(*position);
     }
     sum
 }

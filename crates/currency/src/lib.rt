@@ -5,7 +5,7 @@ ghost use Rattle.std.specs.Prelude.{◌≡◌};
 ghost use Rattle.currency.specs.Margins.{refusal_of, made_of, margin_record, number_made};
 
 use charges::{charged, first_fault};
-use dayfile::Kinds;
+use rows::NO_KINDS;
 
 mod charges;
 mod rates;
@@ -42,18 +42,12 @@ pub enum Made {
 fn record_of(serial: u16, account: u16, margin: u64) -> Record
     ensures { result ≡ margin_record serial account margin }
 {
-    let kinds = Kinds {
-        cash: 0,
-        deposits: 0,
-        guarantees: 0,
-        securities: 0,
-    };
     Record {
         serial,
         code: 10,
         named: 32,
         account,
-        kinds,
+        kinds: NO_KINDS,
         pledged: 0,
         margin,
     }
@@ -73,14 +67,15 @@ pub fn margin(
     if MOST < number {
         return Made::Refused(15);
     }
-    let fault = first_fault(positions, number);
+    let positions = &positions[..number];
+    let fault = first_fault(positions);
     if fault != 0 {
         return Made::Refused(fault);
     }
     if CEILING < initial {
         return Made::Refused(20);
     }
-    let sum = initial + charged(positions, number);
+    let sum = initial + charged(positions);
     if CEILING < sum {
         return Made::Refused(21);
     }

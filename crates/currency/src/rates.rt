@@ -7,7 +7,7 @@ use crate::Side;
 // How many products there are.
 pub(crate) const PRODUCTS: u8 = 10;
 
-// The mark for none.
+// The mark for none, a number and no Option: `currency.Rates.none` has it in the table of rates.
 pub(crate) const NONE: u64 = 65_535;
 
 // Per 100,000 of notional: futures, then short options, then the product's name.

@@ -20,7 +20,7 @@ fn main(rt: HostRuntime) {
         &rt,
         b"day: carries out the day file on standard input over a fresh book, or over the one in the file FROM (- for a fresh one); a line for each record, then the closing word, records read and records carried out; the book after it goes into the file TO\nusage: day [FROM [TO]] < DAYFILE\n",
     );
-    if help.asked {
+    if help.is_some() {
         return;
     }
     if streams::standard::too_many_words(&rt, b"day", 2) {
@@ -34,9 +34,8 @@ fn main(rt: HostRuntime) {
     if day.failed {
         return;
     }
-    let word = day.closing;
-    if !put_to(&rt, word, day.table) {
+    if !put_to(&rt, day.closing, day.table) {
         return;
     }
-    report::closing(&rt, b"day", word, day.read, day.done);
+    report::closing(&rt, b"day", day.closing, day.read, day.done);
 }

@@ -1,11 +1,13 @@
 // A record's length, and its fault.
+// Refusals stay the documents' numbers, 0 for none: `fault_of` gives them so.
 ghost use Rattle.std.specs.Prelude.{true, ◌&&◌, ◌≡◌, ◌<◌, leb, eqb};
 ghost use Rattle.dayfile.specs.Records.{known_code, suits, least_pledged, good_amount, good_amounts, fault_of};
 ghost use Rattle.dayfile.specs.Reading.{size_of};
 ghost use Rattle.dayfile.specs.Taking.{mark_of};
 
 use crate::Record;
-use rows::{CEILING, Kinds};
+use rows::CEILING;
+use rows::ranges::kinds_zero;
 
 // The length in bytes of a record with this second mark byte.
 pub fn size(named: u8) -> usize
@@ -79,12 +81,6 @@ fn good_pledged(code: u8, bit: u8, x: u64) -> bool
     good_amount(bit, x)
 }
 
-fn no_kinds(k: Kinds) -> bool
-    ensures { result ≡ (eqb k.cash 0 && eqb k.deposits 0 && eqb k.guarantees 0 && eqb k.securities 0) }
-{
-    (k.cash == 0) & (k.deposits == 0) & (k.guarantees == 0) & (k.securities == 0)
-}
-
 // Of amounts that the second mark byte, which suits the code, can't name, only that they are 0 is asked.
 fn good_amounts(record: Record) -> bool
     requires { (known_code «record».code ≡ true) × (suits «record».code «record».named ≡ true) }
@@ -100,7 +96,7 @@ fn good_amounts(record: Record) -> bool
             & (record.pledged == 0)
             & (record.margin == 0);
     }
-    no_kinds(k)
+    kinds_zero(record.kinds)
         & good_pledged(record.code, named / 16 % 2, record.pledged)
         & good_set(named / 32 % 2, record.margin)
 }

@@ -14,6 +14,7 @@ pub struct Reader<'a> {
 }
 
 // What was read, with the place after it.
+// Not a pair: `took_at` is this record.
 #[derive(Clone, Copy)]
 struct Took {
     read: Read,

@@ -18,6 +18,7 @@ fn amount_near(piece: &[u8], place: usize, bit: u8) -> u64
 }
 
 // Where each of a record's six amounts stands, or would stand.
+// Not an array: `places_from` is this record, and no place is asked for by a number.
 #[derive(Clone, Copy)]
 struct Places {
     p0: usize,
@@ -71,6 +72,7 @@ fn record_at(piece: &[u8], place: usize, code: u8, named: u8) -> Record
 }
 
 // The same where the longest record would end within the piece.
+// Not one with record_at over a parameter: six calls of a closure would stand for six of a function.
 fn record_near(piece: &[u8], place: usize, code: u8, named: u8) -> Record
     requires { place + 68 ≤ length piece.now }
     ensures { result ≡ record_of code named (drop place piece.now) }

@@ -13,7 +13,7 @@ ghost use Rattle.table.specs.Words.{turned, turned_back};
 use dayfile::Found;
 pub use dayfile::Record;
 pub use rows::Kinds;
-use steps::At;
+use steps::Lent;
 use steps::entry::{enter, leave};
 pub use table::Table;
 
@@ -78,40 +78,22 @@ fn step_at(t: Table, r: Record) -> Carried
     requires { Sound (turned_back t) }
     ensures { result ≡ over_done (step_of (turned_back t) r) }
 {
-    let mut sort = t.sort;
-    let mut live = t.live;
-    let mut tm = t.tm;
-    let mut amounts = t.amounts;
-    let mut needs = t.needs;
-    let mut numbers = t.numbers;
+    let marks = t.marks;
+    let words = t.amounts;
     let was = t.modes;
-    table::sizes(sort, live, tm, amounts);
-    table::modes::size(was);
-    table::needs::size(needs);
-    let entered = enter(&sort, &tm, &amounts, &was, t.count);
-    let mut kept = entered.kept;
-    let mut modes = entered.modes;
-    let mut excess = entered.excess;
-    let at = At {
-        count: t.count,
-        serial: t.serial,
-        next: t.next,
-        waiting: true,
+    let needs = t.needs;
+    let numbers = t.numbers;
+    let mut l = Lent {
+        marks,
+        words,
+        kept: [0; 256],
+        modes: was,
+        needs,
+        numbers,
+        excess: [0; 256],
     };
-    let gone = steps::step(
-        &mut sort,
-        &mut live,
-        &mut tm,
-        &mut amounts,
-        &mut kept,
-        &mut modes,
-        &mut needs,
-        &mut numbers,
-        &mut excess,
-        &was,
-        at,
-        r,
-    );
+    let at = enter(&mut l, t.count, t.serial, t.next);
+    let gone = steps::step(&mut l, &was, at, r);
     let outcome = outcome_of(gone.refusal, gone.given);
     let answer = Answer {
         serial: r.serial,
@@ -119,8 +101,7 @@ fn step_at(t: Table, r: Record) -> Carried
         account: r.account,
         outcome,
     };
-    let after = steps::on(at, gone);
-    let table = leave(after, sort, live, tm, amounts, was, modes, needs, numbers);
+    let table = leave(&l, &was, steps::on(at, gone));
     Carried { answer, table }
 }
 

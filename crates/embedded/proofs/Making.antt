@@ -4,7 +4,8 @@ use mathlib.Core.List.{List}
 use mathlib.Core.Path.{◌≡◌, refl, sym, ap, ◌∙◌}
 use Prim.Native.Nat.{ℕ, ◌≤◌}
 use native.Mathlib.Omega.{arith}
-use borrow.Author.Tests.{eq-eqb, eqb-true, le-leb}
+use Rattle.std.specs.Prelude.{◌↔◌, IsTrue, EachIndex}
+use borrow.Author.Tests.{eq-eqb, eqb-true, le-leb, leb-true}
 use lib.Count.{ones}
 use lib.Dec.{eqb, leb}
 use lib.IntN.{ℤ}
@@ -13,6 +14,7 @@ use Rattle.sums.specs.Choice.{pick}
 use Rattle.sums.specs.Listed.{list_to}
 use Rattle.sums.specs.Sum.{all}
 use Rattle.sums.proofs.Choices.{and_split}
+use Rattle.sums.proofs.Sums.{all-at, all_from}
 use Rattle.dayfile.specs.declared.Record.{Record}
 use Rattle.dayfile.specs.Reading.{size_of}
 use Rattle.dayfile.specs.Records.{fault_of}
@@ -28,6 +30,15 @@ use Rattle.exposure.specs.Lists.{figure_at}
 use Rattle.exposure.proofs.JoinGiven.{joined}
 use Rattle.embedded.specs.Margins.{position_at, are_positions, made_in}
 use Rattle.lent.proofs.Filled.{filled}
+
+-- that each side is at most 3, as the definition tests it
+pub all_known : (sides : List ℕ) (t : Bool) → (IsTrue t ↔ EachIndex sides (λ k. get_or sides k 0 ≤ 3)) → t ≡ all (length sides) (λ i. leb (get_or sides i 0) 3)
+all_known sides true h = sym (all_from (length sides) (λ i. leb (get_or sides i 0) 3) (λ i l. le-leb _ _ (h.0 refl i l)))
+all_known sides false h = by (all (length sides) (λ i. leb (get_or sides i 0) 3)) refl
+  where
+    by : (s : Bool) → all (length sides) (λ i. leb (get_or sides i 0) 3) ≡ s → false ≡ s
+    by true e = h.1 (λ i l. leb-true _ _ (all-at (length sides) (λ j. leb (get_or sides j 0) 3) e i l))
+    by false e = refl
 
 module _ (products sides notionals : List ℕ) where
   pub right : {t : Bool} → length sides ≡ length products → length notionals ≡ length products → length products ≤ 64

@@ -10,21 +10,22 @@ use lent::{book_in, unfit};
 fn one_if(yes: bool) -> u64
     ensures { result ≡ yes_no yes }
 {
-    if yes { 1 } else { 0 }
+    u64::from(yes)
 }
 
 fn put_figures(figures: &mut [u64], f: Figures)
     requires { length figures.old ≡ 7 }
     ensures { figures.new ≡ listed f }
 {
-    let mode = one_if(f.mode);
-    figures[0] = f.collateral;
-    figures[1] = f.need;
-    figures[2] = f.blocked;
-    figures[3] = f.deemed;
-    figures[4] = f.free;
-    figures[5] = mode;
-    figures[6] = f.shortfall;
+    figures.copy_from_slice(&[
+        f.collateral,
+        f.need,
+        f.blocked,
+        f.deemed,
+        f.free,
+        one_if(f.mode),
+        f.shortfall,
+    ]);
 }
 
 // An account's seven figures, put where there are none of the refusals 1, 15, 7.

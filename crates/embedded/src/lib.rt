@@ -1,4 +1,5 @@
 // The book's calls for a program's own process, exported for C (include/loft.h): each over a book's bytes, as the public call answers.
+// Refusals stay numbers: C is given them.
 #![tactic(auto)]
 
 mod asked;

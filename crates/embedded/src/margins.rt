@@ -1,37 +1,27 @@
 // The record that sets an account's margin.
-ghost use Rattle.std.specs.Prelude.{◌≡◌, ◌≤◌, leb, length, get_or};
-ghost use Rattle.sums.specs.Sum.{all};
+ghost use Rattle.std.specs.Prelude.{◌≡◌, ◌≤◌, ◌↔◌, length, slice_index, IsTrue, EachIndex};
 ghost use Rattle.sums.specs.Listed.{list_to};
 ghost use Rattle.exposure.specs.Lists.{figure_at};
 ghost use Rattle.embedded.specs.Margins.{side_of, position_at, are_positions, are_many, made_in, margin_refusal, margin_room};
 
 use currency::{MOST, Made, Position, Side};
 
+#[tactic(auto, unfolding(sums::specs::Choice::pick))]
 fn side_of(n: u8) -> Side
     ensures { result ≡ side_of n }
 {
-    if n == 0 {
-        return Side::Futures;
+    match n {
+        0 => Side::Futures,
+        1 => Side::Short,
+        2 => Side::Long,
+        _ => Side::Spread,
     }
-    if n == 1 {
-        return Side::Short;
-    }
-    if n == 2 {
-        return Side::Long;
-    }
-    Side::Spread
 }
 
 fn sides_known(sides: &[u8]) -> bool
-    ensures { result ≡ all (length sides.now) (λ i. leb (get_or sides.now i 0) 3) }
+    ensures { IsTrue result ↔ EachIndex sides.now (λ k. slice_index sides.now k ≤ 3) }
 {
-    let mut known = true;
-    let mut i: usize = 0;
-    while i < sides.len() {
-        known = known & (sides[i] <= 3);
-        i += 1;
-    }
-    known
+    sides.iter().all(|side| *side <= 3)
 }
 
 fn are_positions(products: &[u8], sides: &[u8], notionals: &[u64]) -> bool
@@ -86,10 +76,8 @@ fn positions(products: &[u8], sides: &[u8], notionals: &[u64]) -> [Position; 64]
         notional: 0,
     };
     let mut list = [empty; 64];
-    let mut i: usize = 0;
-    while i < 64 {
-        list[i] = position_at(products, sides, notionals, i);
-        i += 1;
+    for (i, place) in list.iter_mut().enumerate() {
+        *place = position_at(products, sides, notionals, i);
     }
     list
 }

@@ -52,10 +52,8 @@ pub(crate) fn refusal_in(outcome: Outcome) -> u8
     ensures { result ≡ refusal_in outcome }
 {
     match outcome {
-        Outcome::CarriedOut => 0,
-        Outcome::Opened(_) => 0,
         Outcome::Refused(n) => n,
-        Outcome::End => 0,
+        _ => 0,
     }
 }
 
@@ -63,23 +61,21 @@ fn given_in(outcome: Outcome) -> u16
     ensures { result ≡ given_in outcome }
 {
     match outcome {
-        Outcome::CarriedOut => 0,
         Outcome::Opened(n) => n,
-        Outcome::Refused(_) => 0,
-        Outcome::End => 0,
+        _ => 0,
     }
 }
 
+#[tactic(auto, unfolding(records::specs::LineNumbers::numbers_of_line))]
 pub(crate) fn put_answer(answer: &mut [u16], a: Answer)
     requires { length answer.old ≡ 5 }
     ensures { answer.new ≡ numbers_of_line a }
 {
-    let outcome = a.outcome;
-    let refusal = refusal_in(outcome);
-    let given = given_in(outcome);
-    answer[0] = a.serial;
-    answer[1] = a.code as u16;
-    answer[2] = a.account;
-    answer[3] = refusal as u16;
-    answer[4] = given;
+    answer.copy_from_slice(&[
+        a.serial,
+        u16::from(a.code),
+        a.account,
+        u16::from(refusal_in(a.outcome)),
+        given_in(a.outcome),
+    ]);
 }

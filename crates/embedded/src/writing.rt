@@ -39,17 +39,19 @@ fn put_record(numbers: &mut [u64], next: usize, r: Record)
     requires { length numbers.old ≡ 11 }
     ensures { numbers.new ≡ eleven_of next r }
 {
-    numbers[0] = next as u64;
-    numbers[1] = r.serial as u64;
-    numbers[2] = r.code as u64;
-    numbers[3] = r.account as u64;
-    numbers[4] = r.named as u64;
-    numbers[5] = r.kinds.cash;
-    numbers[6] = r.kinds.deposits;
-    numbers[7] = r.kinds.guarantees;
-    numbers[8] = r.kinds.securities;
-    numbers[9] = r.pledged;
-    numbers[10] = r.margin;
+    numbers.copy_from_slice(&[
+        next as u64,
+        u64::from(r.serial),
+        u64::from(r.code),
+        u64::from(r.account),
+        u64::from(r.named),
+        r.kinds.cash,
+        r.kinds.deposits,
+        r.kinds.guarantees,
+        r.kinds.securities,
+        r.pledged,
+        r.margin,
+    ]);
 }
 
 // The record at a place. With 4 to 6 its head is told, behind the place after it.

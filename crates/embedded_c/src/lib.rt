@@ -1,4 +1,5 @@
 // The book's calls exported for C (include/loft.h): each answers as the call of `embedded` of its name, and says the same.
+// Refusals stay numbers: C is given them.
 #![tactic(auto)]
 
 ghost use Rattle.std.specs.Prelude.{◌≡◌};

@@ -1,4 +1,5 @@
 // The records of a piece carried out on a book's bytes.
+// Refusals stay numbers: C is given them.
 #![tactic(auto)]
 
 ghost use Rattle.std.specs.Prelude.{◌≡◌, [], ◌∷◌, length};

@@ -1,4 +1,5 @@
 // The day's call exported for C (include/loft.h): it answers as the call of `embedded_day` of its name, and says the same.
+// Refusals stay numbers: C is given them.
 #![tactic(auto)]
 
 ghost use Rattle.std.specs.Prelude.{◌≡◌};

@@ -6,7 +6,7 @@ fn main(rt: HostRuntime) {
         &rt,
         b"explain: carries out the day file on standard input over a fresh book, or over the one in the file FROM (- for a fresh one), and keeps no book; the lines of day, and behind the line of each refused record with one amount the refusal or 0 and the largest amount that would have passed\nusage: explain [FROM] < DAYFILE\n",
     );
-    if help.asked {
+    if help.is_some() {
         return;
     }
     if streams::standard::too_many_words(&rt, b"explain", 1) {
@@ -20,6 +20,5 @@ fn main(rt: HostRuntime) {
     if day.failed {
         return;
     }
-    let word = day.closing;
-    report::closing(&rt, b"explain", word, day.read, day.done);
+    report::closing(&rt, b"explain", day.closing, day.read, day.done);
 }

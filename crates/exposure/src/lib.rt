@@ -15,7 +15,7 @@ pub mod lists;
 
 pub use currency::{Made, Position};
 
-// What is payable, or the refusal with an amount of 0.
+// What is payable, or the refusal with an amount of 0: both numbers, as `exposure.Exposures.exposure_of` and a list of clients (`number_in_room`) give them.
 #[derive(Clone, Copy)]
 pub struct Exposure {
     pub refusal: u8,

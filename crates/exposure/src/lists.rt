@@ -1,4 +1,5 @@
 // The figures of many clients, one client's behind the other's.
+// Refusals stay the documents' numbers, 0 for none: `list_refusal` gives them so.
 ghost use Rattle.std.specs.Prelude.{◌≡◌, ◌+◌, ◌*◌, ◌≤◌, length};
 ghost use Rattle.sums.specs.Listed.{list_to};
 ghost use Rattle.exposure.specs.Lists.{figures_from, width_of, clients_in, client_of, number_in_room, list_refusal, list_room};
@@ -6,6 +7,7 @@ ghost use Rattle.exposure.specs.Lists.{figures_from, width_of, clients_in, clien
 use crate::{Exposure, end_of_day, intraday};
 
 // How many figures a client has: two, or four at the end of day.
+// An enum and no const size: a caller picks it as it runs, and the two go to two calls, `intraday` and `end_of_day`.
 #[derive(Clone, Copy)]
 pub enum Form {
     Intraday,
@@ -67,12 +69,10 @@ fn put_all(form: Form, figures: &[i64], n: usize, room: &mut [u64])
     requires { (n ≡ clients_in form (length figures.now)) × (length room.old ≡ 2 * n) }
     ensures { room.new ≡ list_to (number_in_room form figures.now) (2 * n) }
 {
-    let mut i: usize = 0;
-    while i < n {
+    for i in 0..n {
         let exposure = client(form, figures, i);
         room[2 * i] = exposure.refusal as u64;
         room[2 * i + 1] = exposure.amount;
-        i += 1;
     }
 }
 

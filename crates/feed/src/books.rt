@@ -18,6 +18,7 @@ use table::Table;
 const ROOM: usize = 24_333;
 
 // The book that a day starts from, whether a file was named, and whether that is none or can't be read.
+// No Option or Result: a table is there in each case, and `-` and a bad file are told apart (`books.CameFrom`).
 #[derive(Clone, Copy)]
 pub struct From {
     pub named: bool,
@@ -26,6 +27,7 @@ pub struct From {
 }
 
 // Whether a file was named for the book after a day, whether it couldn't be written, and how many bytes went there.
+// No Result: `went_to` and `nowhere` say all three fields, 0 beside a failure.
 #[derive(Clone, Copy)]
 pub struct To {
     pub named: bool,

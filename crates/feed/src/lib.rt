@@ -10,7 +10,7 @@ ghost use Rattle.feed.specs.Inner.{told_text, CameWith};
 
 use pieces::SPACE;
 pub use records::Closing;
-use steps::At;
+use steps::Lent;
 use steps::entry::{enter, leave};
 pub use streams::Moved;
 pub use table::Table;
@@ -75,26 +75,21 @@ fn in_turns(rt: &HostRuntime, program: &[u8], printing: bool, explained: bool, t
     let mut text = [0u8; ROOM];
     let mut words = [0u64; 1000];
     text::texts::fill(&mut words);
-    let mut sort = t.sort;
-    let mut live = t.live;
-    let mut tm = t.tm;
-    let mut amounts = t.amounts;
-    let mut needs = t.needs;
-    let mut accounts = t.numbers;
+    let marks = t.marks;
+    let amounts = t.amounts;
     let was = t.modes;
-    table::sizes(sort, live, tm, amounts);
-    table::modes::size(was);
-    table::needs::size(needs);
-    let entered = enter(&sort, &tm, &amounts, &was, t.count);
-    let mut kept = entered.kept;
-    let mut modes = entered.modes;
-    let mut excess = entered.excess;
-    let mut at = At {
-        count: t.count,
-        serial: t.serial,
-        next: t.next,
-        waiting: true,
+    let needs = t.needs;
+    let numbers = t.numbers;
+    let mut l = Lent {
+        marks,
+        words: amounts,
+        kept: [0; 256],
+        modes: was,
+        needs,
+        numbers,
+        excess: [0; 256],
     };
+    let mut at = enter(&mut l, t.count, t.serial, t.next);
     let mut rest: usize = 0;
     let mut read: u64 = 0;
     let mut done: u64 = 0;
@@ -104,15 +99,7 @@ fn in_turns(rt: &HostRuntime, program: &[u8], printing: bool, explained: bool, t
         let got = pieces::refill_input(rt, program, &mut space, rest, ended);
         let held = rest + got.count;
         let told = turn::carry_on(
-            &mut sort,
-            &mut live,
-            &mut tm,
-            &mut amounts,
-            &mut kept,
-            &mut modes,
-            &mut needs,
-            &mut accounts,
-            &mut excess,
+            &mut l,
             &was,
             at,
             &space[..held],
@@ -140,7 +127,7 @@ fn in_turns(rt: &HostRuntime, program: &[u8], printing: bool, explained: bool, t
         }
         rest = pieces::to_front(&mut space, went.place, held);
     };
-    let table = leave(at, sort, live, tm, amounts, was, modes, needs, accounts);
+    let table = leave(&l, &was, at);
     Day {
         table,
         closing,

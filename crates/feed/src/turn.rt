@@ -1,7 +1,6 @@
 // One turn of the day file: the records of the bytes held, and where that is asked for their lines, handed over for printing.
 ghost use Rattle.std.specs.Prelude.{false, ◌≡◌, ◌+◌, ◌≤◌, ◌<◌, min, ltb, length};
 ghost use Rattle.sums.specs.Choice.{pick};
-ghost use Rattle.steps.specs.Lent.{lent, before, after};
 ghost use Rattle.steps.specs.Steps.{book_in, Going};
 ghost use Rattle.records.specs.Runs.{run_of};
 ghost use Rattle.records.specs.Inner.{ran_in};
@@ -11,7 +10,7 @@ ghost use Rattle.telling.specs.Explained.{line_told};
 ghost use Rattle.feed.specs.Inner.{stops_at, turn_takes, turn_text};
 
 use records::{Closing, go};
-use steps::At;
+use steps::{At, Lent};
 use streams::Moved;
 use streams::standard::write_output;
 use telling::{Told, tell};
@@ -28,17 +27,9 @@ pub(crate) fn stops(word: Closing, short: bool, full: bool) -> bool
     }
 }
 
-// `accounts` are the rows' numbers. A turn ends where its lines fill the room.
+// A turn ends where its lines fill the room.
 pub(crate) fn carry_on(
-    sort: &mut [u8; 256],
-    live: &mut [bool; 256],
-    tm: &mut [u16; 256],
-    w: &mut [u64; 2560],
-    kept: &mut [u64; 256],
-    modes: &mut [bool; 256],
-    needs: &mut [u64; 256],
-    accounts: &mut [u16; 256],
-    excess: &mut [u64; 256],
+    l: &mut Lent,
     was: &[bool; 256],
     at: At,
     held: &[u8],
@@ -48,26 +39,18 @@ pub(crate) fn carry_on(
     words: &[u64; 1000],
     text: &mut [u8],
 ) -> Told
-    requires { Going at was.now (lent sort live tm w kept modes needs accounts excess)
-        × Texts words.now × (147 ≤ length text.old) × (left ≤ 1_000_000) }
-    ensures excess_value { ran_in result.went was.now (after sort live tm w kept modes needs accounts excess)
-        ≡ run_of held.now (min left (turn_takes result.went.closing result.went.read))
-        (book_in at was.now (before sort live tm w kept modes needs accounts excess)) 0 0 0 }
-    ensures going { Going result.went.at was.now (after sort live tm w kept modes needs accounts excess) }
+    requires { Going at was.now l.old × Texts words.now × (147 ≤ length text.old) × (left ≤ 1_000_000) }
+    ensures excess_value { ran_in result.went was.now l.new
+        ≡ run_of held.now (min left (turn_takes result.went.closing result.went.read)) (book_in at was.now l.old) 0 0 0 }
+    ensures going { Going result.went.at was.now l.new }
     ensures puts { Puts text.old 0 (turn_text printing explained held.now (min left (turn_takes result.went.closing result.went.read))
-        (book_in at was.now (before sort live tm w kept modes needs accounts excess))) text.new result.text }
+        (book_in at was.now l.old)) text.new result.text }
 {
     if printing {
-        return tell(
-            sort, live, tm, w, kept, modes, needs, accounts, excess, was, at, held, left,
-            explained, words, text,
-        );
+        return tell(l, was, at, held, left, explained, words, text);
     }
     let mut none = [0u16; 1];
-    let went = go(
-        sort, live, tm, w, kept, modes, needs, accounts, excess, was, at, held, left, &mut none,
-        false,
-    );
+    let went = go(l, was, at, held, left, &mut none, false);
     Told { went, text: 0 }
 }
 

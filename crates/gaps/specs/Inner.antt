@@ -3,7 +3,8 @@ use Rattle.std.specs.Prelude.{Bool, false, List, [], ◌∷◌, ◌++◌, ◌≡
 use Rattle.sums.specs.Choice.{pick}
 use Rattle.rows.specs.declared.Book.{Book}
 use Rattle.rows.specs.Rows.{no_row, places, row_at, mode_at, need_at, number_at}
-use Rattle.table.specs.Words.{Marks, row_in, rows_of, book_from}
+use Rattle.table.specs.declared.Marks.{Marks}
+use Rattle.table.specs.Words.{row_in, rows_of}
 use Rattle.table.specs.Facts.{Sized}
 use Rattle.gaps.specs.Gaps.{place_after, kept_to, with_tm}
 
@@ -20,10 +21,6 @@ pub record RowSlid (m : Marks) (w to : List ℕ) (k i : ℕ) (x : Bool) (n : Mar
   pub size : Sized n u
   pub kept : x ≡ get_or m.live i false
   pub rows : rows_of n u ≡ slid x (rows_of m w) k i (with_tm (row_in m w i) (get_or to (get_or m.tm i 0) 0)) no_row
-
--- the book of the arrays that are closed up: its serial and its next number stay as they are
-abbrev pub held_book : ℕ → Marks → List ℕ → List Bool → List ℕ → List ℕ → Book
-held_book count m w modes needs numbers = book_from count 0 m w modes needs 0 numbers
 
 -- what closing up asks of a book, and a sound one has
 pub record Closable (b : Book) : Type 0 where

@@ -7,7 +7,7 @@ fn main(rt: HostRuntime) {
         &rt,
         b"holdings: carries out the day file on standard input over a fresh book, or over the one in the file FROM (- for a fresh one); the closing line, then the next serial and number, and what the book has of each account, a line for each account\nusage: holdings [FROM] < DAYFILE\n",
     );
-    if help.asked {
+    if help.is_some() {
         return;
     }
     if streams::standard::too_many_words(&rt, b"holdings", 1) {
@@ -21,8 +21,7 @@ fn main(rt: HostRuntime) {
     if day.failed {
         return;
     }
-    let word = day.closing;
-    let closed = report::closing(&rt, b"holdings", word, day.read, day.done);
+    let closed = report::closing(&rt, b"holdings", day.closing, day.read, day.done);
     if closed.failed {
         return;
     }

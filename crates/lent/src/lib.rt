@@ -1,4 +1,5 @@
 // The book that bytes lent by a program in another language are.
+// Refusals stay numbers: C is given them.
 #![tactic(auto)]
 
 ghost use Rattle.std.specs.Prelude.{true, false, ◌≡◌, length};

@@ -1,7 +1,7 @@
 // The lines that the program prints: one for each record, and the closing one.
 #![tactic(auto)]
 
-ghost use Rattle.std.specs.Prelude.{◌≡◌, min, length};
+ghost use Rattle.std.specs.Prelude.{◌≡◌, length};
 ghost use Rattle.lines.specs.Lines.{closing_line_of};
 ghost use Rattle.sums.specs.Room.{at_start};
 ghost use Rattle.table.specs.Words.{turned_back};
@@ -25,17 +25,11 @@ pub struct Lined {
     pub text: usize,
 }
 
-fn least(a: u64, b: u64) -> u64
-    ensures { result ≡ min a b }
-{
-    if a < b { a } else { b }
-}
-
 // How many records one call carries out at most.
 fn limit(most: u64, room: &[u8]) -> u64
     ensures { result ≡ limit_of most room.now }
 {
-    least(most, least(room.len() as u64 / 32, 2048))
+    most.min((room.len() as u64 / 32).min(2048))
 }
 
 // The records of a piece from its start, up to a stated number, with each one's line put into the room.
@@ -48,12 +42,10 @@ pub fn lines(t: Table, piece: &[u8], most: u64, room: &mut [u8]) -> Lined
     let mut words = [0u64; 1000];
     texts::fill(&mut words);
     let text = put_lines(&words, room, &numbers, ran.read as usize);
-    let table = ran.table;
-    let closing = ran.closing;
     Lined {
-        table,
+        table: ran.table,
         place: ran.place,
-        closing,
+        closing: ran.closing,
         read: ran.read,
         done: ran.done,
         text,
@@ -66,13 +58,10 @@ pub fn lines_of_numbers(numbers: &[u16], count: usize, room: &mut [u8]) -> usize
     ensures room_after { room.new ≡ at_start (lines_to numbers.now (fitting count numbers.now room.old))
         room.old }
 {
-    let k = least(
-        count as u64,
-        least(numbers.len() as u64 / 5, room.len() as u64 / 32),
-    );
+    let k = count.min((numbers.len() / 5).min(room.len() / 32));
     let mut words = [0u64; 1000];
     texts::fill(&mut words);
-    put_lines(&words, room, numbers, k as usize)
+    put_lines(&words, room, numbers, k)
 }
 
 // The line after the records' lines: how long it is, and the line in the room.

@@ -3,6 +3,8 @@ use mathlib.Core.List.{List, [], ◌∷◌}
 use mathlib.Core.Path.{◌≡◌, refl}
 use Prim.Native.Nat.{ℕ}
 use lib.IntN.{pos, neg_ℤ}
+use Rattle.std.specs.Prelude.{Some}
+use Rattle.std.specs.Option.{option_map}
 use Rattle.sums.specs.Choice.{pick}
 use Rattle.sums.specs.Table.{first}
 use Rattle.text.specs.Numbers.{digits, decimal, spaced}
@@ -19,7 +21,7 @@ use Rattle.margins.specs.Products.{all_capitals_or_digits, names_product}
 use Rattle.margins.specs.Sides.{side_of}
 use Rattle.margins.specs.Figures.{figure_of, told, figures_behind}
 use Rattle.margins.specs.Lines.{holding, position_of, of_words, line_says}
-use Rattle.margins.specs.Positions.{positions_in, first_of, told_in, figures_in, first_bad, held_by, held_in}
+use Rattle.margins.specs.Positions.{positions_in, first_of, figures_in, first_bad, held_by, held_in}
 use Rattle.margins.specs.Asked.{asked_for, asked_by_words}
 use Rattle.margins.specs.Printed.{line_made, printed_for}
 
@@ -28,9 +30,9 @@ abbrev line : List ℕ
 line = 85 ∷ 83 ∷ 68 ∷ 73 ∷ 78 ∷ 82 ∷ 32 ∷ 102 ∷ 117 ∷ 116 ∷ 117 ∷ 114 ∷ 101 ∷ 115 ∷ 32 ∷ 49 ∷ 48 ∷ 48 ∷ 48 ∷ 48 ∷ 48 ∷ 48 ∷ 49 ∷ 10 ∷ []
 
 -- `0 50001`
-pub paper : printed_for (asked_by_words 4 (55 ∷ []) (51 ∷ []) (48 ∷ []) []) (held_in line)
-    ≡ 48 ∷ 32 ∷ 53 ∷ 48 ∷ 48 ∷ 48 ∷ 49 ∷ 10 ∷ []
-unfolding printed_for line_made held_in held_by asked_by_words asked_for parted_by line_says of_words position_of holding side_of place_in same_bytes names_product all_capitals_or_digits decimal_of said positions_in first_of told_in figures_in first_bad figures_behind figure_of told joined_of joined_sum refusal_of sum_of charges charge_of first_fault fault_of first rate_of rates spaced decimal digits pick
+pub paper : option_map (λ asked. printed_for asked (held_in line)) (asked_by_words 4 (55 ∷ []) (51 ∷ []) (48 ∷ []) [])
+    ≡ Some (48 ∷ 32 ∷ 53 ∷ 48 ∷ 48 ∷ 48 ∷ 49 ∷ 10 ∷ [])
+unfolding printed_for line_made held_in held_by asked_by_words asked_for parted_by line_says of_words position_of holding side_of place_in same_bytes names_product all_capitals_or_digits decimal_of said positions_in first_of figures_in first_bad figures_behind figure_of told joined_of joined_sum refusal_of sum_of charges charge_of first_fault fault_of first rate_of rates spaced decimal digits pick
 paper = refl
 
 -- `GOLD futures 1`: an unknown product
@@ -53,6 +55,6 @@ unfolding parted_by line_says of_words position_of holding side_of place_in same
 last-space = refl
 
 -- `figures 1 2` twice, with an empty line between: line 3 is told
-pub figures-again : (held_in (102 ∷ 105 ∷ 103 ∷ 117 ∷ 114 ∷ 101 ∷ 115 ∷ 32 ∷ 49 ∷ 32 ∷ 50 ∷ 10 ∷ 10 ∷ 102 ∷ 105 ∷ 103 ∷ 117 ∷ 114 ∷ 101 ∷ 115 ∷ 32 ∷ 49 ∷ 32 ∷ 50 ∷ 10 ∷ [])).bad ≡ 3
+pub figures-again : (held_in (102 ∷ 105 ∷ 103 ∷ 117 ∷ 114 ∷ 101 ∷ 115 ∷ 32 ∷ 49 ∷ 32 ∷ 50 ∷ 10 ∷ 10 ∷ 102 ∷ 105 ∷ 103 ∷ 117 ∷ 114 ∷ 101 ∷ 115 ∷ 32 ∷ 49 ∷ 32 ∷ 50 ∷ 10 ∷ [])).bad ≡ Some 3
 unfolding held_in held_by first_bad parted_by line_says of_words position_of holding side_of place_in same_bytes names_product all_capitals_or_digits decimal_of said figures_behind figure_of told pick
 figures-again = refl

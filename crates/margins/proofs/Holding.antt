@@ -3,16 +3,17 @@ use mathlib.Core.Bool.{Bool, true, false}
 use mathlib.Core.List.{List, [], ◌∷◌, ◌++◌, map, append_assoc, append-nil}
 use mathlib.Core.Logic.{⊎_elim}
 use mathlib.Core.Path.{◌≡◌, refl, sym, ap, ◌∙◌}
+use Rattle.std.specs.Prelude.{Option, None, Some, is_some}
+use Rattle.std.specs.Option.{option_or}
 use Prim.Native.Nat.{ℕ, zero, suc, ◌+◌, ◌-◌, ◌≤◌, ◌<◌}
 use native.Mathlib.Nat.{eq-or-lt_of_le}
 use native.Mathlib.Numerals.{add-one}
 use native.Mathlib.Omega.{arith}
-use borrow.Author.Tests.{ltb-false, ne_eqb}
-use lib.Dec.{eqb, ltb}
+use borrow.Author.Tests.{ltb-false}
+use lib.Dec.{ltb}
 use lib.ListN.{length, take, drop, set, length-append, length-drop, drop_of_length-le}
 use lib.Seq.{take_all, drop-drop, set_out}
 use Rattle.sums.specs.Choice.{pick}
-use Rattle.sums.proofs.Choices.{pick_yes, pick_no}
 use Rattle.text.specs.Numbers.{newline}
 use Rattle.currency.specs.declared.Position.{Position}
 use Rattle.margins.specs.declared.figures.Figures.{Figures}
@@ -21,7 +22,7 @@ use Rattle.margins.specs.declared.lines.Line.TheVariants.{Nothing, Holds, Told, 
 use Rattle.margins.specs.declared.positions.Held.{Held}
 use Rattle.margins.specs.Words.{parted_by}
 use Rattle.margins.specs.Lines.{line_says}
-use Rattle.margins.specs.Positions.{positions_in, first_of, told_in, zero_figures, figures_in, first_bad, held_by, said_in, held_in}
+use Rattle.margins.specs.Positions.{positions_in, first_of, figures_in, first_bad, held_by, said_in, held_in}
 use Rattle.margins.specs.Inner.{in_front, with_position, with_line}
 use Rattle.margins.proofs.Parting.{in-front-most, parted-whole, parted-first}
 
@@ -30,8 +31,8 @@ unfoldable pub held_on : Held → ℕ → List Line → Held
 held_on h n [] = h
 held_on h n (l ∷ rest) = held_on (with_line h l n) (suc n) rest
 
-abbrev held_with : List Position → Figures → Bool → ℕ → Held
-held_with ps f t b = record { positions = first_of 64 ps; number = length ps; figures = f; told = t; bad = b }
+abbrev held_with : List Position → Option Figures → Option ℕ → Held
+held_with ps f b = record { positions = first_of 64 ps; number = length ps; figures = f; bad = b }
 
 one_more : (k : ℕ) (ps : List Position) (p : Position) → set (first_of k ps) (length ps) p ≡ first_of k (ps ++ (p ∷ []))
 unfolding first_of
@@ -50,55 +51,52 @@ unfolding pick
 put-more ps p true e = one_more 64 ps p
 put-more ps p false e = sym (set_out (first_of 64 ps) (length ps) p (omega (arith, length-first 64 ps, ltb-false (length ps) 64 e))) ∙ one_more 64 ps p
 
-position-more : (ps : List Position) (f : Figures) (t : Bool) (b : ℕ) (p : Position) → with_position (held_with ps f t b) p ≡ held_with (ps ++ (p ∷ [])) f t b
-position-more ps f t b p =
+position-more : (ps : List Position) (f : Option Figures) (b : Option ℕ) (p : Position) → with_position (held_with ps f b) p ≡ held_with (ps ++ (p ∷ [])) f b
+position-more ps f b p =
     let n : length ps + 1 ≡ length (ps ++ (p ∷ [])) = sym (length-append ps (p ∷ [])) in
     cc (put-more ps p (ltb (length ps) 64) refl, n)
 
-never-0 : (b m : ℕ) → pick (eqb b 0) (suc m) b ≡ 0 → ⊥
-never-0 zero m e = absurd (omega (arith, pick_yes (eqb 0 0) (suc m) 0 refl))
-never-0 (suc b) m e = absurd (omega (arith, pick_no (eqb (suc b) 0) (suc m) (suc b) (ne_eqb (suc b) 0 (λ h. omega arith))))
-
 -- the first bad line stays
-stays : (b m x : ℕ) → pick (eqb (pick (eqb b 0) (suc m) b) 0) x (pick (eqb b 0) (suc m) b) ≡ pick (eqb b 0) (suc m) b
-stays b m x = pick_no _ _ _ (ne_eqb _ 0 (never-0 b m))
+stays : (b : Option ℕ) (n : ℕ) (x : Option ℕ) → option_or (option_or b (Some n)) x ≡ option_or b (Some n)
+stays None n x = refl
+stays (Some k) n x = refl
 
-no_more : (b : ℕ) → pick (eqb b 0) 0 b ≡ b
-no_more zero = pick_yes (eqb 0 0) 0 0 refl
-no_more (suc b) = pick_no (eqb (suc b) 0) 0 (suc b) (ne_eqb (suc b) 0 (λ h. omega arith))
+no_more : (b : Option ℕ) → option_or b None ≡ b
+no_more None = refl
+no_more (Some k) = refl
 
 -- figures were told before
-on-told : (lines : List Line) (ps : List Position) (f : Figures) (b m : ℕ)
-    → held_on (held_with ps f true b) (suc m) lines ≡ held_with (ps ++ positions_in lines) f true (pick (eqb b 0) (first_bad true (suc m) lines) b)
+on-told : (lines : List Line) (ps : List Position) (f : Figures) (b : Option ℕ) (n : ℕ)
+    → held_on (held_with ps (Some f) b) n lines ≡ held_with (ps ++ positions_in lines) (Some f) (option_or b (first_bad true n lines))
 unfolding held_on positions_in first_bad pick
-on-told [] ps f b m = cc (append-nil ps, no_more b)
-on-told (Nothing ∷ rest) ps f b m = on-told rest ps f b (suc m)
-on-told (Holds p ∷ rest) ps f b m =
-    ap (λ h. held_on h (suc (suc m)) rest) (position-more ps f true b p)
-    ∙ on-told rest (ps ++ (p ∷ [])) f b (suc m)
-    ∙ ap (λ qs. held_with qs f true (pick (eqb b 0) (first_bad true (suc (suc m)) rest) b)) (append_assoc ps (p ∷ []) (positions_in rest))
-on-told (Told g ∷ rest) ps f b m =
-    on-told rest ps f (pick (eqb b 0) (suc m) b) (suc m) ∙ ap (held_with (ps ++ positions_in rest) f true) (stays b m (first_bad true (suc (suc m)) rest))
-on-told (Bad ∷ rest) ps f b m =
-    on-told rest ps f (pick (eqb b 0) (suc m) b) (suc m) ∙ ap (held_with (ps ++ positions_in rest) f true) (stays b m (first_bad true (suc (suc m)) rest))
+on-told [] ps f b n = cc (append-nil ps, no_more b)
+on-told (Nothing ∷ rest) ps f b n = on-told rest ps f b (suc n)
+on-told (Holds p ∷ rest) ps f b n =
+    ap (λ h. held_on h (suc n) rest) (position-more ps (Some f) b p)
+    ∙ on-told rest (ps ++ (p ∷ [])) f b (suc n)
+    ∙ ap (λ qs. held_with qs (Some f) (option_or b (first_bad true (suc n) rest))) (append_assoc ps (p ∷ []) (positions_in rest))
+on-told (Told g ∷ rest) ps f b n =
+    on-told rest ps f (option_or b (Some n)) (suc n) ∙ ap (held_with (ps ++ positions_in rest) (Some f)) (stays b n (first_bad true (suc n) rest))
+on-told (Bad ∷ rest) ps f b n =
+    on-told rest ps f (option_or b (Some n)) (suc n) ∙ ap (held_with (ps ++ positions_in rest) (Some f)) (stays b n (first_bad true (suc n) rest))
 
-on : (lines : List Line) (ps : List Position) (b m : ℕ)
-    → held_on (held_with ps zero_figures false b) (suc m) lines ≡ held_with (ps ++ positions_in lines) (figures_in lines) (told_in lines) (pick (eqb b 0) (first_bad false (suc m) lines) b)
-unfolding held_on positions_in figures_in told_in first_bad pick
-on [] ps b m = cc (append-nil ps, no_more b)
-on (Nothing ∷ rest) ps b m = on rest ps b (suc m)
-on (Holds p ∷ rest) ps b m =
-    ap (λ h. held_on h (suc (suc m)) rest) (position-more ps zero_figures false b p)
-    ∙ on rest (ps ++ (p ∷ [])) b (suc m)
-    ∙ ap (λ qs. held_with qs (figures_in rest) (told_in rest) (pick (eqb b 0) (first_bad false (suc (suc m)) rest) b)) (append_assoc ps (p ∷ []) (positions_in rest))
-on (Told g ∷ rest) ps b m = on-told rest ps g b (suc m)
-on (Bad ∷ rest) ps b m =
-    on rest ps (pick (eqb b 0) (suc m) b) (suc m)
-    ∙ ap (held_with (ps ++ positions_in rest) (figures_in rest) (told_in rest)) (stays b m (first_bad false (suc (suc m)) rest))
+on : (lines : List Line) (ps : List Position) (b : Option ℕ) (n : ℕ)
+    → held_on (held_with ps None b) n lines ≡ held_with (ps ++ positions_in lines) (figures_in lines) (option_or b (first_bad false n lines))
+unfolding held_on positions_in figures_in first_bad pick
+on [] ps b n = cc (append-nil ps, no_more b)
+on (Nothing ∷ rest) ps b n = on rest ps b (suc n)
+on (Holds p ∷ rest) ps b n =
+    ap (λ h. held_on h (suc n) rest) (position-more ps None b p)
+    ∙ on rest (ps ++ (p ∷ [])) b (suc n)
+    ∙ ap (λ qs. held_with qs (figures_in rest) (option_or b (first_bad false (suc n) rest))) (append_assoc ps (p ∷ []) (positions_in rest))
+on (Told g ∷ rest) ps b n = on-told rest ps g b (suc n)
+on (Bad ∷ rest) ps b n =
+    on rest ps (option_or b (Some n)) (suc n)
+    ∙ ap (held_with (ps ++ positions_in rest) (figures_in rest)) (stays b n (first_bad false (suc n) rest))
 
 pub from-none : (text : List ℕ) → held_on (held_by []) 1 (said_in text) ≡ held_in text
-unfolding held_by held_in positions_in figures_in told_in first_bad
-from-none text = on (said_in text) [] 0 0 ∙ ap (held_with (positions_in (said_in text)) (figures_in (said_in text)) (told_in (said_in text))) (pick_yes (eqb 0 0) (first_bad false 1 (said_in text)) 0 refl)
+unfolding held_by held_in positions_in figures_in first_bad
+from-none text = on (said_in text) [] None 1
 
 -- an empty line behind the end says nothing
 pub at-end : (h : Held) (n : ℕ) (text : List ℕ) (at : ℕ) → length text ≤ at → held_on h n (said_in (drop at text)) ≡ h
@@ -140,7 +138,7 @@ told-most false h g a b = b
 most-by : (h : Held) (l : Line) (n : ℕ) → (with_line h l n).number ≤ h.number + 1
 most-by h Nothing n = omega arith
 most-by h (Holds p) n = omega arith
-most-by h (Told f) n = told-most h.told _ _ (omega arith) (omega arith)
+most-by h (Told f) n = told-most (is_some h.figures) _ _ (omega arith) (omega arith)
 most-by h Bad n = omega arith
 
 -- a line holds one position at most

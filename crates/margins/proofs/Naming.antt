@@ -1,24 +1,17 @@
--- Whether a word may name a product, byte by byte.
-use mathlib.Core.Bool.{true, false, ◌&&◌}
-use mathlib.Core.List.{List, ◌∷◌}
-use mathlib.Core.Path.{◌≡◌, sym, ap, ◌∙◌}
-use Prim.Native.Nat.{ℕ, ◌+◌, ◌≤◌, ◌<◌}
-use native.Mathlib.Numerals.{add-one}
-use lib.ListN.{length, drop, get_or, drop_of_length-le}
-use lib.Seq.{drop-cons}
-use Rattle.margins.specs.Products.{capital_or_digit, all_capitals_or_digits}
+-- Whether a word may name a product.
+use Rattle.std.proofs.Common.{◌≡◌, ℕ, ◌&&◌, ltb, List, [], ◌∷◌, length, refl, ap, not, nat_eq, arith, lt-ltb, eq-eqb, ne_eqb}
+use Rattle.std.specs.List.{list_all}
+use Rattle.margins.specs.Products.{capital_or_digit, all_capitals_or_digits, names_product}
 
-pub all_named : (word : List ℕ) (i : ℕ) → length word ≤ i → all_capitals_or_digits (drop i word) ≡ true
+all-named : (word : List ℕ) → list_all capital_or_digit word ≡ all_capitals_or_digits word
 unfolding all_capitals_or_digits
-all_named word i h = ap all_capitals_or_digits (drop_of_length-le word {i = i} h)
+all-named [] = refl
+all-named (b ∷ rest) = ap (λ t. capital_or_digit b && t) (all-named rest)
 
-module _ (word : List ℕ) (i : ℕ) (within : i < length word) where
-  next : all_capitals_or_digits (drop i word) ≡ (capital_or_digit (get_or word i 0) && all_capitals_or_digits (drop (i + 1) word))
-  unfolding all_capitals_or_digits
-  next = ap all_capitals_or_digits (drop-cons word i 0 within ∙ ap (λ k. get_or word i 0 ∷ drop k word) (sym (add-one i)))
+not_empty : (word : List ℕ) → not (nat_eq (length word) 0) ≡ ltb 0 (length word)
+not_empty [] = ap not (eq-eqb 0 0 refl)
+not_empty (b ∷ rest) = rw (ne_eqb (length (b ∷ rest)) 0 (λ e. omega arith), lt-ltb 0 (length (b ∷ rest)) (omega arith))
 
-  pub another-byte : capital_or_digit (get_or word i 0) ≡ false → all_capitals_or_digits (drop i word) ≡ false
-  another-byte e = next ∙ ap (λ t. t && all_capitals_or_digits (drop (i + 1) word)) e
-
-  pub goes_on : capital_or_digit (get_or word i 0) ≡ true → all_capitals_or_digits (drop i word) ≡ all_capitals_or_digits (drop (i + 1) word)
-  goes_on e = next ∙ ap (λ t. t && all_capitals_or_digits (drop (i + 1) word)) e
+pub names : (word : List ℕ) → (list_all capital_or_digit word && not (nat_eq (length word) 0)) ≡ names_product word
+unfolding names_product
+names word = rw (all-named word, not_empty word)

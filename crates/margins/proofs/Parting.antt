@@ -1,16 +1,18 @@
 -- A text's parts: the first one goes up to the first mark.
 use mathlib.Core.Bool.{Bool, true, false}
 use mathlib.Core.List.{List, [], ◌∷◌}
-use mathlib.Core.Path.{◌≡◌, refl, sym, ap, ◌∙◌}
+use mathlib.Core.Path.{◌≡◌, refl, ap, ◌∙◌}
+use Rattle.std.specs.Prelude.{position, cond, not, None, Some}
+use Rattle.std.specs.List.{position_or_len}
+use Rattle.std.specs.Option.{unwrap_or}
 use Prim.Native.Nat.{ℕ, suc, ◌+◌, ◌-◌, ◌≤◌, ◌<◌}
 use native.Mathlib.Numerals.{add-one}
 use native.Mathlib.Omega.{arith}
-use borrow.Author.Tests.{eq-eqb, ne_eqb}
-use lib.Dec.{eqb}
-use lib.ListN.{length, take, drop, get_or, drop_of_length-le, length-drop}
-use lib.Seq.{drop-cons, take_all}
+use borrow.Author.Tests.{ltb-false}
+use lib.Dec.{eqb, ltb}
+use lib.ListN.{length, take, drop, length-drop}
+use lib.Seq.{take_all}
 use Rattle.sums.specs.Choice.{pick}
-use Rattle.sums.proofs.Choices.{pick_yes, pick_no}
 use Rattle.margins.specs.Words.{in_first, parted_by}
 use Rattle.margins.specs.Inner.{in_front}
 
@@ -62,20 +64,25 @@ module _ (mark : ℕ) where
   parted-some [] = omega arith
   parted-some (b ∷ rest) = some-by (eqb b mark) b (parted_by mark rest) (parted-some rest)
 
-  pub none-in-front : (l : List ℕ) (i : ℕ) → length l ≤ i → in_front mark (drop i l) ≡ 0
+  passed : (t : Bool) {k n : ℕ} → k ≡ n → cond (not t) (1 + k) 0 ≡ pick t 0 (suc n)
+  unfolding pick
+  passed true e = refl
+  passed false e = omega arith
+
+  passed-front : (l : List ℕ) → position_or_len (λ b. eqb b mark) l ≡ in_front mark l
   unfolding in_front
-  none-in-front l i h = ap (in_front mark) (drop_of_length-le l {i = i} h)
+  passed-front [] = refl
+  passed-front (b ∷ rest) = passed (eqb b mark) (passed-front rest)
 
-  module _ (l : List ℕ) (i : ℕ) (within : i < length l) where
-    next : in_front mark (drop i l) ≡ pick (eqb (get_or l i 0) mark) 0 (suc (in_front mark (drop (i + 1) l)))
-    unfolding in_front
-    next = ap (in_front mark) (drop-cons l i 0 within ∙ ap (λ k. get_or l i 0 ∷ drop k l) (sym (add-one i)))
+  at_mark : (t : Bool) (k n : ℕ) → k ≤ n → ltb k n ≡ t → unwrap_or (cond t (Some k) None) n ≡ k
+  at_mark true k n h e = refl
+  at_mark false k n h e = omega (arith, ltb-false k n e)
 
-    pub mark-here : get_or l i 0 ≡ mark → in_front mark (drop i l) ≡ 0
-    mark-here e = next ∙ pick_yes _ _ _ (eq-eqb _ mark e)
-
-    pub no-mark-here : (get_or l i 0 ≡ mark → ⊥) → in_front mark (drop i l) ≡ suc (in_front mark (drop (i + 1) l))
-    no-mark-here h = next ∙ pick_no _ _ _ (ne_eqb _ mark h)
+  -- the first mark's place, or all
+  pub first-mark : (l : List ℕ) → unwrap_or (position (λ b. eqb b mark) l) (length l) ≡ in_front mark l
+  first-mark l =
+      let k = position_or_len (λ b. eqb b mark) l in
+      at_mark (ltb k (length l)) k (length l) (omega (arith, passed-front l, in-front-most l)) refl ∙ passed-front l
 
 -- what stands behind a mark at k, as a part of the text
 pub behind : (l : List ℕ) (k : ℕ) → take (length l - (k + 1)) (drop (k + 1) l) ≡ drop (suc k) l

@@ -2,6 +2,7 @@
 use mathlib.Core.Bool.{true}
 use mathlib.Core.List.{List, [], ◌++◌}
 use mathlib.Core.Path.{◌≡◌, refl, sym, ap, ◌∙◌}
+use Rattle.std.specs.Prelude.{None, Some}
 use Prim.Native.Nat.{ℕ, zero, suc, ◌+◌, ◌≤◌}
 use native.Mathlib.Omega.{arith}
 use lib.ListN.{length, drop}
@@ -62,15 +63,15 @@ unfolding told_made pick
 told-refused n made e h = refused-by n [] refused_text h ∙ ap (λ k. unless_refused k [] refused_text) e
 
 module _ (a : Asked) (h : Held) where
-  pub none-printed : (h.bad ≡ 0 → ⊥) → [] ≡ printed_for a h
+  pub none-printed : (line : ℕ) → h.bad ≡ Some line → [] ≡ printed_for a h
   unfolding printed_for
-  none-printed e = refused-by h.bad _ (λ line. []) e
+  none-printed line e = rw e refl
 
-  pub bad-told : (h.bad ≡ 0 → ⊥) → bad_text h.bad ≡ told_for a h
+  pub bad-told : (line : ℕ) → h.bad ≡ Some line → bad_text line ≡ told_for a h
   unfolding told_for
-  bad-told e = refused-by h.bad _ bad_text e
+  bad-told line e = rw e refl
 
-  module _ (made : Made) (good : h.bad ≡ 0) (call : made ≡ made_for a h) where
+  module _ (made : Made) (good : h.bad ≡ None) (call : made ≡ made_for a h) where
     pub made-printed : pick a.«record» (record_made made) (line_made made) ≡ printed_for a h
     unfolding printed_for
     made-printed = rw (good, call)

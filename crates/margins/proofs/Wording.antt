@@ -13,12 +13,8 @@ use lib.ListN.{length, take, drop, get_or}
 use Rattle.sums.specs.Choice.{pick}
 use Rattle.sums.proofs.Choices.{pick_yes, pick_no}
 use Rattle.text.specs.Numbers.{space}
-use Rattle.text.specs.declared.decimals.Decimal.{Decimal}
-use Rattle.text.specs.declared.decimals.Decimal.TheVariants.{No as NoNumber}
-use Rattle.margins.specs.declared.sides.Word.{Word}
-use Rattle.margins.specs.declared.sides.Word.TheVariants.{Is as ASide, No as NoSide}
-use Rattle.margins.specs.declared.figures.Figure.{Figure}
-use Rattle.margins.specs.declared.figures.Figure.TheVariants.{Is, No}
+use Rattle.std.specs.Prelude.{ℤ, Option, None, Some}
+use Rattle.currency.specs.declared.Side.{Side}
 use Rattle.margins.specs.declared.lines.Line.{Line}
 use Rattle.margins.specs.declared.lines.Line.TheVariants.{Nothing, Bad}
 use Rattle.text.specs.Decimals.{digit_in, with_digit, said, decimal_of}
@@ -52,7 +48,7 @@ either : (l : List ℕ) → One l ⊎ Spaced l
 either l = eq-or-lt_of_le (in-front-most space l)
 
 -- s is whether the byte is no digit, t whether it is the space
-said-by : (s t : Bool) {k n : ℕ} {d : Decimal} → (t ≡ true → s ≡ true) → pick t 0 (suc k) < suc n → (k < n → d ≡ NoNumber) → pick s NoNumber d ≡ NoNumber
+said-by : (s t : Bool) {k n : ℕ} {d : Option ℕ} → (t ≡ true → s ≡ true) → pick t 0 (suc k) < suc n → (k < n → d ≡ None) → pick s None d ≡ None
 unfolding pick
 said-by true t h e more = refl
 said-by false true h e more = absurd (false≢true (h refl))
@@ -62,18 +58,18 @@ space-no-digit : (b : ℕ) → eqb b space ≡ true → eqb (digit_in b) 10 ≡ 
 unfolding pick
 space-no-digit b e = rw (eqb-true b space e)
 
-no-said : (n : ℕ) (l : List ℕ) → Spaced l → said n l ≡ NoNumber
+no-said : (n : ℕ) (l : List ℕ) → Spaced l → said n l ≡ None
 unfolding said in_front
 no-said n [] h = absurd (omega arith)
 no-said n (b ∷ rest) h = said-by (eqb (digit_in b) 10) (eqb b space) (space-no-digit b) h (no-said (with_digit n (digit_in b)) rest)
 
-no_number : (l : List ℕ) → Spaced l → decimal_of l ≡ NoNumber
+no_number : (l : List ℕ) → Spaced l → decimal_of l ≡ None
 unfolding decimal_of
 no_number [] h = absurd (omega arith)
 no_number (b ∷ rest) h = no-said 0 (b ∷ rest) h
 
-figure-by : (m t : Bool) (b : ℕ) (rest : List ℕ) {k : ℕ} → (t ≡ true → m ≡ false) → pick t 0 (suc k) < suc (length rest) → (k < length rest → decimal_of rest ≡ NoNumber)
-    → decimal_of (b ∷ rest) ≡ NoNumber → pick m (on_side below_zero (decimal_of rest)) (on_side above_zero (decimal_of (b ∷ rest))) ≡ No
+figure-by : (m t : Bool) (b : ℕ) (rest : List ℕ) {k : ℕ} → (t ≡ true → m ≡ false) → pick t 0 (suc k) < suc (length rest) → (k < length rest → decimal_of rest ≡ None)
+    → decimal_of (b ∷ rest) ≡ None → pick m (on_side below_zero (decimal_of rest)) (on_side above_zero (decimal_of (b ∷ rest))) ≡ None
 unfolding pick
 figure-by true true b rest h e behind whole = absurd (false≢true (sym (h refl)))
 figure-by true false b rest h e behind whole = ap (on_side below_zero) (behind (omega arith))
@@ -82,16 +78,16 @@ figure-by false t b rest h e behind whole = ap (on_side above_zero) whole
 space-no-minus : (b : ℕ) → eqb b space ≡ true → eqb b minus ≡ false
 space-no-minus b e = rw (eqb-true b space e)
 
-no-figure : (l : List ℕ) → Spaced l → figure_of l ≡ No
+no-figure : (l : List ℕ) → Spaced l → figure_of l ≡ None
 unfolding figure_of in_front
 no-figure [] h = absurd (omega arith)
 no-figure (b ∷ rest) h = figure-by (eqb b minus) (eqb b space) b rest (space-no-minus b) h (no_number rest) (no_number (b ∷ rest) h)
 
 -- positions
-held_none : (product : ℕ) (side : Word) → holding product side NoNumber ≡ Bad
+held_none : (product : ℕ) (side : Option Side) → holding product side None ≡ Bad
 unfolding holding
-held_none product (ASide s) = refl
-held_none product NoSide = refl
+held_none product (Some s) = refl
+held_none product None = refl
 
 either-bad : (t : Bool) → pick t Bad Bad ≡ Bad
 unfolding pick
@@ -129,17 +125,17 @@ module _ (a l : List ℕ) (n : ℕ) (front : n ≡ in_front space l) where
   pub no-product : {t : Bool} → n < length l → t ≡ names_product a → t ≡ false → Bad ≡ position_of (a ∷ words_of l)
   no-product h e f = sym (pick_no (names_product a) _ _ (sym e ∙ f)) ∙ a-side h
 
-  pub one-position : {t : Bool} {p : ℕ} {s : Word} {d : Decimal} → n < length l → t ≡ names_product a → t ≡ true → p ≡ product_of a → s ≡ side_of (take n l)
+  pub one-position : {t : Bool} {p : ℕ} {s : Option Side} {d : Option ℕ} → n < length l → t ≡ names_product a → t ≡ true → p ≡ product_of a → s ≡ side_of (take n l)
       → d ≡ decimal_of (rest_from n l) → holding p s d ≡ position_of (a ∷ words_of l)
   one-position h e f ep es ed = cc (ep, es, ed, pick_yes (names_product a) (holding (product_of a) (side_of (take n l)) (decimal_of (rest_from n l))) Bad (sym e ∙ f), a-side h)
 
 -- figures
-told_none : (a b c : Figure) → told a b c No ≡ Bad
+told_none : (a b c : Option ℤ) → told a b c None ≡ Bad
 unfolding told
-told_none No b c = refl
-told_none (Is p) No c = refl
-told_none (Is p) (Is q) No = refl
-told_none (Is p) (Is q) (Is r) = refl
+told_none None b c = refl
+told_none (Some p) None c = refl
+told_none (Some p) (Some q) None = refl
+told_none (Some p) (Some q) (Some r) = refl
 
 more-figures : (a b c d : List ℕ) (more : List (List ℕ)) → 0 < length more → figures_behind (a ∷ b ∷ c ∷ d ∷ more) ≡ Bad
 unfolding figures_behind
@@ -161,7 +157,7 @@ module _ (a b l : List ℕ) (n : ℕ) (front : n ≡ in_front space l) where
       ∙ sym (ap (λ ws. figures_behind (a ∷ b ∷ c ∷ ws)) (parted-first space d h) ∙ more-figures a b c (take (in_front space d) d) (words_of (drop (suc (in_front space d)) d)) (parted-some space (drop (suc (in_front space d)) d))))
       (either d)
 
-  pub four-figures : {f g h k : Figure} → n < length l → f ≡ figure_of a → g ≡ figure_of b → h ≡ figure_of (take n l) → k ≡ figure_of (rest_from n l)
+  pub four-figures : {f g h k : Option ℤ} → n < length l → f ≡ figure_of a → g ≡ figure_of b → h ≡ figure_of (take n l) → k ≡ figure_of (rest_from n l)
       → told f g h k ≡ figures_behind (a ∷ b ∷ words_of l)
   four-figures m ef eg eh ek = cc (ef, eg, eh, ek, last-figure (take n l) (rest_from n l), first_of l n front m)
 
@@ -170,8 +166,8 @@ module _ (l : List ℕ) (n : ℕ) (front : n ≡ in_front space l) where
   unfolding figures_behind
   one-figure h = sym (ap figures_behind (parted-whole space l (sym front ∙ h)))
 
-  pub two-figures : {f g : Figure} {m : ℕ} → n < length l → m ≡ in_front space (rest_from n l) → m ≡ length (rest_from n l) → f ≡ figure_of (take n l) → g ≡ figure_of (rest_from n l)
-      → told f g (Is (pos 0)) (Is (pos 0)) ≡ figures_behind (words_of l)
+  pub two-figures : {f g : Option ℤ} {m : ℕ} → n < length l → m ≡ in_front space (rest_from n l) → m ≡ length (rest_from n l) → f ≡ figure_of (take n l) → g ≡ figure_of (rest_from n l)
+      → told f g (Some (pos 0)) (Some (pos 0)) ≡ figures_behind (words_of l)
   unfolding figures_behind
   two-figures h e one ef eg =
       cc (ef, eg)
@@ -210,7 +206,7 @@ has_words [] h e = absurd (h refl)
 has_words (b ∷ rest) h e = sym (pick_no _ _ _ (ne_eqb b hash e))
 
 -- a figure's sign
-pub no_bytes : (w : List ℕ) → length w ≡ 0 → No ≡ figure_of w
+pub no_bytes : (w : List ℕ) → length w ≡ 0 → None ≡ figure_of w
 unfolding figure_of
 no_bytes [] h = refl
 no_bytes (b ∷ rest) h = absurd (omega arith)

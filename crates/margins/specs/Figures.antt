@@ -1,10 +1,6 @@
 -- The text form of `margins` (docs/API.md): "`figures PREMIUM LOSS` or `figures PREMIUM LOSS EXERCISE SETTLEMENT`".
-use Rattle.std.specs.Prelude.{List, [], ◌∷◌, ℕ, eqb, leb, ℤ, pos, negsuc, neg_ℤ}
+use Rattle.std.specs.Prelude.{List, [], ◌∷◌, ℕ, eqb, leb, ℤ, pos, negsuc, neg_ℤ, Option, None, Some}
 use Rattle.sums.specs.Choice.{pick}
-use Rattle.text.specs.declared.decimals.Decimal.{Decimal}
-use Rattle.text.specs.declared.decimals.Decimal.TheVariants.{Is as Number, No as NoNumber}
-use Rattle.margins.specs.declared.figures.Figure.{Figure}
-use Rattle.margins.specs.declared.figures.Figure.TheVariants.{Is, No}
 use Rattle.margins.specs.declared.lines.Line.{Line}
 use Rattle.margins.specs.declared.lines.Line.TheVariants.{Told, Bad}
 use Rattle.text.specs.Decimals.{decimal_of}
@@ -21,32 +17,32 @@ abbrev pub below_zero : ℕ → ℤ
 below_zero n = pick (leb n largest_signed) (neg_ℤ (pos n)) (negsuc largest_signed)
 
 -- a number on its side of 0
-abbrev pub on_side : (ℕ → ℤ) → Decimal → Figure
-on_side side (Number n) = Is (side n)
-on_side side NoNumber = No
+abbrev pub on_side : (ℕ → ℤ) → Option ℕ → Option ℤ
+on_side side (Some n) = Some (side n)
+on_side side None = None
 
 -- the byte of `-`
 abbrev pub minus : ℕ
 minus = 45
 
 -- "a decimal number with `-` in front if it is below 0"
-unfoldable pub figure_of : List ℕ → Figure
-figure_of [] = No
+unfoldable pub figure_of : List ℕ → Option ℤ
+figure_of [] = None
 figure_of (b ∷ rest) = pick (eqb b minus) (on_side below_zero (decimal_of rest)) (on_side above_zero (decimal_of (b ∷ rest)))
 
 -- each of the four is a figure
-unfoldable pub told : Figure → Figure → Figure → Figure → Line
-told No loss exercise settlement = Bad
-told (Is p) No exercise settlement = Bad
-told (Is p) (Is l) No settlement = Bad
-told (Is p) (Is l) (Is e) No = Bad
-told (Is p) (Is l) (Is e) (Is s) = Told (record { premium = p; loss = l; exercise = e; settlement = s })
+unfoldable pub told : Option ℤ → Option ℤ → Option ℤ → Option ℤ → Line
+told None loss exercise settlement = Bad
+told (Some p) None exercise settlement = Bad
+told (Some p) (Some l) None settlement = Bad
+told (Some p) (Some l) (Some e) None = Bad
+told (Some p) (Some l) (Some e) (Some s) = Told (record { premium = p; loss = l; exercise = e; settlement = s })
 
 -- what the words behind `figures` tell: two figures, with the other two 0, or four
 unfoldable pub figures_behind : List (List ℕ) → Line
 figures_behind [] = Bad
 figures_behind (a ∷ []) = Bad
-figures_behind (a ∷ b ∷ []) = told (figure_of a) (figure_of b) (Is (pos 0)) (Is (pos 0))
+figures_behind (a ∷ b ∷ []) = told (figure_of a) (figure_of b) (Some (pos 0)) (Some (pos 0))
 figures_behind (a ∷ b ∷ c ∷ []) = Bad
 figures_behind (a ∷ b ∷ c ∷ d ∷ []) = told (figure_of a) (figure_of b) (figure_of c) (figure_of d)
 figures_behind (a ∷ b ∷ c ∷ d ∷ e ∷ more) = Bad

@@ -1,5 +1,7 @@
 -- Only for internal functions.
-use Rattle.std.specs.Prelude.{true, List, [], ◌∷◌, ℕ, suc, ◌+◌, eqb, ltb, set}
+use Rattle.std.specs.Prelude.{List, [], ◌∷◌, ℕ, suc, ◌+◌, eqb, ltb, set}
+use Rattle.std.specs.Prelude.{Some, is_some}
+use Rattle.std.specs.Option.{option_or}
 use Rattle.sums.specs.Choice.{pick}
 use Rattle.currency.specs.declared.Position.{Position}
 use Rattle.margins.specs.declared.figures.Figures.{Figures}
@@ -18,19 +20,17 @@ with_position h p = record {
   positions = pick (ltb h.number 64) (set h.positions h.number p) h.positions;
   number = h.number + 1;
   figures = h.figures;
-  told = h.told;
   bad = h.bad;
 }
 
 -- the first line that is none counts
 abbrev pub with_bad : Held → ℕ → Held
-with_bad h n =
-    record { positions = h.positions; number = h.number; figures = h.figures; told = h.told; bad = pick (eqb h.bad 0) n h.bad }
+with_bad h n = record { positions = h.positions; number = h.number; figures = h.figures; bad = option_or h.bad (Some n) }
 
 abbrev pub with_figures : Held → Figures → ℕ → Held
 with_figures h f n =
-    pick h.told (with_bad h n)
-    (record { positions = h.positions; number = h.number; figures = f; told = true; bad = h.bad })
+    pick (is_some h.figures) (with_bad h n)
+    (record { positions = h.positions; number = h.number; figures = Some f; bad = h.bad })
 
 -- what is held after line n, which says this
 abbrev pub with_line : Held → Line → ℕ → Held

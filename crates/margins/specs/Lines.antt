@@ -1,10 +1,7 @@
 -- The text form of `margins` (docs/API.md): what a line says.
-use Rattle.std.specs.Prelude.{List, [], ◌∷◌, ℕ, eqb}
+use Rattle.std.specs.Prelude.{List, [], ◌∷◌, ℕ, eqb, Option, None, Some}
 use Rattle.sums.specs.Choice.{pick}
-use Rattle.text.specs.declared.decimals.Decimal.{Decimal}
-use Rattle.text.specs.declared.decimals.Decimal.TheVariants.{Is as Number, No as NoNumber}
-use Rattle.margins.specs.declared.sides.Word.{Word}
-use Rattle.margins.specs.declared.sides.Word.TheVariants.{Is, No}
+use Rattle.currency.specs.declared.Side.{Side}
 use Rattle.margins.specs.declared.lines.Line.{Line}
 use Rattle.margins.specs.declared.lines.Line.TheVariants.{Nothing, Holds, Bad}
 use Rattle.text.specs.Decimals.{decimal_of}
@@ -15,10 +12,10 @@ use Rattle.margins.specs.Sides.{side_of}
 use Rattle.margins.specs.Figures.{figures_behind}
 
 -- a product, a side and a notional, where the words are such
-unfoldable pub holding : ℕ → Word → Decimal → Line
-holding product No notional = Bad
-holding product (Is side) NoNumber = Bad
-holding product (Is side) (Number n) = Holds (record { product = product; side = side; notional = n })
+unfoldable pub holding : ℕ → Option Side → Option ℕ → Line
+holding product None notional = Bad
+holding product (Some side) None = Bad
+holding product (Some side) (Some n) = Holds (record { product = product; side = side; notional = n })
 
 -- "`PRODUCT SIDE NOTIONAL`"
 unfoldable pub position_of : List (List ℕ) → Line

@@ -1,5 +1,5 @@
 -- The text form of `margins` (docs/API.md): what the lines of the input hold together.
-use Rattle.std.specs.Prelude.{Bool, true, false, List, [], ◌∷◌, map, ℕ, zero, suc, pos, length}
+use Rattle.std.specs.Prelude.{Bool, true, false, List, [], ◌∷◌, map, ℕ, zero, suc, length, Option, None, Some}
 use Rattle.sums.specs.Choice.{pick}
 use Rattle.currency.specs.declared.Position.{Position}
 use Rattle.currency.specs.declared.Side.TheVariants.{Futures}
@@ -27,33 +27,22 @@ first_of zero positions = []
 first_of (suc n) [] = no_position ∷ first_of n []
 first_of (suc n) (p ∷ rest) = p ∷ first_of n rest
 
--- whether a line tells figures
-unfoldable pub told_in : List Line → Bool
-told_in [] = false
-told_in (Nothing ∷ rest) = told_in rest
-told_in (Holds p ∷ rest) = told_in rest
-told_in (Told f ∷ rest) = true
-told_in (Bad ∷ rest) = told_in rest
-
-abbrev pub zero_figures : Figures
-zero_figures = record { premium = pos 0; loss = pos 0; exercise = pos 0; settlement = pos 0 }
-
--- the figures that the first such line tells; 0 where none does
-unfoldable pub figures_in : List Line → Figures
-figures_in [] = zero_figures
+-- the figures that the first such line tells, where one does
+unfoldable pub figures_in : List Line → Option Figures
+figures_in [] = None
 figures_in (Nothing ∷ rest) = figures_in rest
 figures_in (Holds p ∷ rest) = figures_in rest
-figures_in (Told f ∷ rest) = f
+figures_in (Told f ∷ rest) = Some f
 figures_in (Bad ∷ rest) = figures_in rest
 
--- "At most one line is `figures ..`": the number of the first line that tells figures again or is of another form, or 0. The lines
+-- "At most one line is `figures ..`": the number of the first line that tells figures again or is of another form. The lines
 -- are counted from n, and `told` is whether figures were told before them
-unfoldable pub first_bad : Bool → ℕ → List Line → ℕ
-first_bad told n [] = 0
+unfoldable pub first_bad : Bool → ℕ → List Line → Option ℕ
+first_bad told n [] = None
 first_bad told n (Nothing ∷ rest) = first_bad told (suc n) rest
 first_bad told n (Holds p ∷ rest) = first_bad told (suc n) rest
-first_bad told n (Told f ∷ rest) = pick told n (first_bad true (suc n) rest)
-first_bad told n (Bad ∷ rest) = n
+first_bad told n (Told f ∷ rest) = pick told (Some n) (first_bad true (suc n) rest)
+first_bad told n (Bad ∷ rest) = Some n
 
 -- what lines hold: the first 64 positions and how many there are, the figures, and the first line that is none of these
 unfoldable pub held_by : List Line → Held
@@ -61,7 +50,6 @@ held_by lines = record {
   positions = first_of 64 (positions_in lines);
   number = length (positions_in lines);
   figures = figures_in lines;
-  told = told_in lines;
   bad = first_bad false 1 lines;
 }
 

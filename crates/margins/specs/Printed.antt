@@ -1,5 +1,6 @@
 -- What `margins` prints on standard output, and what it tells on standard error of what it read (docs/API.md).
-use Rattle.std.specs.Prelude.{Bool, List, [], ◌∷◌, ◌++◌, ℕ}
+use Rattle.std.specs.Prelude.{Bool, List, [], ◌∷◌, ◌++◌, ℕ, pos, Option, None, Some}
+use Rattle.std.specs.Option.{unwrap_or}
 use Rattle.sums.specs.Choice.{pick, unless_refused}
 use Rattle.text.specs.Numbers.{space, newline, followed, spaced}
 use Rattle.dayfile.specs.declared.Record.{Record}
@@ -10,6 +11,7 @@ use Rattle.currency.specs.declared.Made.TheVariants.{Given, Refused}
 use Rattle.currency.specs.Margins.{number_made, margin_made}
 use Rattle.exposure.specs.Joined.{joined_of}
 use Rattle.margins.specs.declared.asked.Asked.{Asked}
+use Rattle.margins.specs.declared.figures.Figures.{Figures}
 use Rattle.margins.specs.declared.positions.Held.{Held}
 
 -- "It prints the refusal or 0 and the margin, `0 50001`"
@@ -51,15 +53,26 @@ bad_text line = line_words ++ (followed line space ++ no_position_words)
 unfoldable pub told_made : Bool → Made → List ℕ
 told_made as_record made = pick as_record (unless_refused (refusal_made made) [] refused_text) []
 
+-- 0 where no line tells figures
+abbrev pub zero_figures : Figures
+zero_figures = record { premium = pos 0; loss = pos 0; exercise = pos 0; settlement = pos 0 }
+
 -- the call that is made
+abbrev pub made_with : Asked → Held → Figures → Made
+made_with a h f = joined_of a.serial a.account a.initial h.positions h.number f.premium f.loss f.exercise f.settlement
+
 abbrev pub made_for : Asked → Held → Made
-made_for a h =
-    joined_of a.serial a.account a.initial h.positions h.number h.figures.premium h.figures.loss h.figures.exercise h.figures.settlement
+made_for a h = made_with a h (unwrap_or h.figures zero_figures)
+
+-- what a bad line comes to, where there is one
+abbrev pub unless_bad : Option ℕ → List ℕ → (ℕ → List ℕ) → List ℕ
+unless_bad None good bad = good
+unless_bad (Some line) good bad = bad line
 
 -- standard output; "lines of another form .. are told on standard error, and nothing is printed"
 unfoldable pub printed_for : Asked → Held → List ℕ
-printed_for a h = unless_refused h.bad (pick a.«record» (record_made (made_for a h)) (line_made (made_for a h))) (λ line. [])
+printed_for a h = unless_bad h.bad (pick a.«record» (record_made (made_for a h)) (line_made (made_for a h))) (λ line. [])
 
 -- standard error
 unfoldable pub told_for : Asked → Held → List ℕ
-told_for a h = unless_refused h.bad (told_made a.«record» (made_for a h)) bad_text
+told_for a h = unless_bad h.bad (told_made a.«record» (made_for a h)) bad_text

@@ -1,9 +1,8 @@
 -- The text form of `margins` (docs/API.md): "the sides `futures`, `short`, `long`, `spread`".
-use Rattle.std.specs.Prelude.{List, [], ◌∷◌, ℕ}
+use Rattle.std.specs.Prelude.{List, [], ◌∷◌, ℕ, Option, None, Some}
 use Rattle.sums.specs.Choice.{pick}
+use Rattle.currency.specs.declared.Side.{Side}
 use Rattle.currency.specs.declared.Side.TheVariants.{Futures, Short, Long, Spread}
-use Rattle.margins.specs.declared.sides.Word.{Word}
-use Rattle.margins.specs.declared.sides.Word.TheVariants.{Is, No}
 use Rattle.streams.specs.Words.{same_bytes}
 
 abbrev pub futures_word : List ℕ
@@ -19,9 +18,9 @@ abbrev pub spread_word : List ℕ
 spread_word = 115 ∷ 112 ∷ 114 ∷ 101 ∷ 97 ∷ 100 ∷ []
 
 -- the side that a word is
-unfoldable pub side_of : List ℕ → Word
+unfoldable pub side_of : List ℕ → Option Side
 side_of word =
-    pick (same_bytes word futures_word) (Is Futures)
-    (pick (same_bytes word short_word) (Is Short)
-    (pick (same_bytes word long_word) (Is Long)
-    (pick (same_bytes word spread_word) (Is Spread) No)))
+    pick (same_bytes word futures_word) (Some Futures)
+    (pick (same_bytes word short_word) (Some Short)
+    (pick (same_bytes word long_word) (Some Long)
+    (pick (same_bytes word spread_word) (Some Spread) None)))

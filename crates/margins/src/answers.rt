@@ -4,6 +4,7 @@ ghost use Rattle.text.specs.Inner.{Puts};
 ghost use Rattle.margins.specs.Printed.{made_for, printed_for, told_for};
 
 use crate::asked::Asked;
+use crate::figures::NO_FIGURES;
 use crate::positions::Held;
 use crate::printed::put_made;
 use crate::told::{put_bad, put_told};
@@ -19,13 +20,12 @@ pub(crate) struct Said {
 fn made_for(asked: Asked, held: Held) -> Made
     ensures { result ≡ made_for asked held }
 {
-    let positions = held.positions;
-    let figures = held.figures;
+    let figures = held.figures.unwrap_or(NO_FIGURES);
     exposure::margin(
         asked.serial,
         asked.account,
         asked.initial,
-        positions,
+        held.positions,
         held.number,
         figures.premium,
         figures.loss,
@@ -39,8 +39,8 @@ pub(crate) fn answer(asked: Asked, held: Held, out: &mut [u8], err: &mut [u8]) -
     ensures puts { Puts out.old 0 (printed_for asked held) out.new result.printed }
     ensures puts_2 { Puts err.old 0 (told_for asked held) err.new result.told }
 {
-    if held.bad != 0 {
-        let told = put_bad(err, held.bad);
+    if let Some(line) = held.bad {
+        let told = put_bad(err, line);
         return Said { printed: 0, told };
     }
     let made = made_for(asked, held);

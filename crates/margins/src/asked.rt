@@ -1,82 +1,57 @@
 // The words: `SERIAL ACCOUNT INITIAL`, with `--record` in front where the record is asked for.
 ghost use Rattle.std.specs.Prelude.{◌≡◌};
-ghost use Rattle.margins.specs.Asked.{not_asked, asked_for, asked_by_words, Came};
+ghost use Rattle.margins.specs.Asked.{asked_for, asked_by_words, Came};
 
 use streams::words::{blank, count, is_same, put_or_none};
-use text::decimals::{Decimal, number_of};
+use text::decimals::number_of;
 
 #[derive(Clone, Copy)]
 pub(crate) struct Asked {
-    pub(crate) is_good: bool,
     pub(crate) record: bool,
     pub(crate) serial: u16,
     pub(crate) account: u16,
     pub(crate) initial: u64,
 }
 
-fn nothing() -> Asked
-    ensures { result ≡ not_asked }
-{
-    Asked {
-        is_good: false,
-        record: false,
-        serial: 0,
-        account: 0,
-        initial: 0,
-    }
-}
-
 #[tactic(auto, unfolding(crate::specs::Asked::asked_for, sums::specs::Choice::pick))]
-fn from_numbers(record: bool, serial: u64, account: u64, initial: u64) -> Asked
-    ensures { result ≡ asked_for «record» (Decimal.Is serial) (Decimal.Is account) (Decimal.Is initial) }
-{
-    if (65_535 < serial) | (65_535 < account) {
-        return nothing();
-    }
-    Asked {
-        is_good: true,
-        record,
-        serial: (serial % 65_536) as u16,
-        account: (account % 65_536) as u16,
-        initial,
-    }
-}
-
-#[tactic(auto, unfolding(crate::specs::Asked::asked_for))]
-fn from_three(record: bool, serial: Decimal, account: Decimal, initial: Decimal) -> Asked
+fn from_three(
+    record: bool,
+    serial: Option<u64>,
+    account: Option<u64>,
+    initial: Option<u64>,
+) -> Option<Asked>
     ensures { result ≡ asked_for «record» serial account initial }
 {
-    let Decimal::Is(serial) = serial else {
-        return nothing();
-    };
-    let Decimal::Is(account) = account else {
-        return nothing();
-    };
-    let Decimal::Is(initial) = initial else {
-        return nothing();
-    };
-    from_numbers(record, serial, account, initial)
+    let serial = serial?;
+    let account = account?;
+    let initial = initial?;
+    Some(Asked {
+        record,
+        serial: u16::try_from(serial).ok()?,
+        account: u16::try_from(account).ok()?,
+        initial,
+    })
 }
 
 // So many words, the program's own name among them; the first four behind the name.
 #[tactic(auto, unfolding(crate::specs::Asked::asked_by_words, sums::specs::Choice::pick))]
-fn from_four(count: usize, a: &[u8], b: &[u8], c: &[u8], d: &[u8]) -> Asked
+fn from_four(count: usize, a: &[u8], b: &[u8], c: &[u8], d: &[u8]) -> Option<Asked>
     ensures { result ≡ asked_by_words count a.now b.now c.now d.now }
 {
     if count == 4 {
         return from_three(false, number_of(a), number_of(b), number_of(c));
     }
     if count != 5 {
-        return nothing();
+        return None;
     }
     if !is_same(a, b"--record") {
-        return nothing();
+        return None;
     }
     from_three(true, number_of(b), number_of(c), number_of(d))
 }
 
 // A word that is missing, or too long for its room, counts as empty.
-pub(crate) fn from_words(rt: &HostRuntime) -> Asked
+pub(crate) fn from_words(rt: &HostRuntime) -> Option<Asked>
     ensures { Came result }
 {
     let mut a = blank();

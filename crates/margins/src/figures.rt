@@ -5,7 +5,7 @@ ghost use Rattle.margins.specs.Figures.{above_zero, below_zero, figure_of, told,
 
 use crate::lines::Line;
 use crate::words::up_to;
-use text::decimals::{Decimal, number_of};
+use text::decimals::number_of;
 
 // One client's figures, as `exposure` takes them.
 #[derive(Clone, Copy)]
@@ -16,70 +16,55 @@ pub(crate) struct Figures {
     pub(crate) settlement: i64,
 }
 
-#[derive(Clone, Copy)]
-enum Figure {
-    Is(i64),
-    No,
-}
-
-const LARGEST: u64 = 9_223_372_036_854_775_807;
+// Where no line tells them.
+pub(crate) const NO_FIGURES: Figures = Figures {
+    premium: 0,
+    loss: 0,
+    exercise: 0,
+    settlement: 0,
+};
 
 // One that does not fit the signed type counts as its largest or its least.
 #[tactic(auto, unfolding(sums::specs::Choice::pick))]
 fn above(n: u64) -> i64
     ensures { result ≡ above_zero n }
 {
-    if n <= LARGEST {
-        n as i64
-    } else {
-        9_223_372_036_854_775_807
-    }
+    i64::try_from(n).unwrap_or(i64::MAX)
 }
 
 #[tactic(auto, unfolding(sums::specs::Choice::pick))]
 fn below(n: u64) -> i64
     ensures { result ≡ below_zero n }
 {
-    if n <= LARGEST {
-        0 - n as i64
-    } else {
-        -9_223_372_036_854_775_808
+    match i64::try_from(n) {
+        Ok(n) => -n,
+        Err(_) => i64::MIN,
     }
 }
 
 #[tactic(auto, unfolding(crate::specs::Figures::figure_of, sums::specs::Choice::pick))]
-fn figure_of(word: &[u8]) -> Figure
+fn figure_of(word: &[u8]) -> Option<i64>
     ensures { result ≡ figure_of word.now }
 {
-    if word.len() == 0 {
-        return Figure::No;
+    match word {
+        [] => None,
+        [b'-', digits @ ..] => Some(below(number_of(digits)?)),
+        _ => Some(above(number_of(word)?)),
     }
-    if word[0] == b'-' {
-        let Decimal::Is(n) = number_of(&word[1..]) else {
-            return Figure::No;
-        };
-        return Figure::Is(below(n));
-    }
-    let Decimal::Is(n) = number_of(word) else {
-        return Figure::No;
-    };
-    Figure::Is(above(n))
 }
 
 #[tactic(auto, unfolding(crate::specs::Figures::told))]
-fn all_of(premium: Figure, loss: Figure, exercise: Figure, settlement: Figure) -> Line
+fn all_of(
+    premium: Option<i64>,
+    loss: Option<i64>,
+    exercise: Option<i64>,
+    settlement: Option<i64>,
+) -> Line
     ensures { result ≡ told premium loss exercise settlement }
 {
-    let Figure::Is(premium) = premium else {
-        return Line::Bad;
-    };
-    let Figure::Is(loss) = loss else {
-        return Line::Bad;
-    };
-    let Figure::Is(exercise) = exercise else {
-        return Line::Bad;
-    };
-    let Figure::Is(settlement) = settlement else {
+    let (Some(premium), Some(loss), Some(exercise), Some(settlement)) = (
+        premium, loss, exercise, settlement,
+    ) else {
         return Line::Bad;
     };
     Line::Told(Figures {
@@ -121,8 +106,8 @@ pub(crate) fn of_words(words: &[u8]) -> Line
         return all_of(
             figure_of(&words[..first]),
             figure_of(behind),
-            Figure::Is(0),
-            Figure::Is(0),
+            Some(0),
+            Some(0),
         );
     }
     let more = second + 1;

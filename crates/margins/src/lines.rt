@@ -6,11 +6,11 @@ ghost use Rattle.margins.specs.Lines.{holding, position_of, of_words, line_says}
 use crate::figures;
 use crate::figures::Figures;
 use crate::products::{names_product, product_of};
-use crate::sides::{Word, side_of};
+use crate::sides::side_of;
 use crate::words::up_to;
-use currency::Position;
+use currency::{Position, Side};
 use streams::words::is_same;
-use text::decimals::{Decimal, number_of};
+use text::decimals::number_of;
 
 // What a line says. An empty one, and one that begins with `#`, says nothing.
 #[derive(Clone, Copy)]
@@ -22,13 +22,10 @@ pub(crate) enum Line {
 }
 
 #[tactic(auto, unfolding(crate::specs::Lines::holding))]
-fn held(product: u8, side: Word, notional: Decimal) -> Line
+fn held(product: u8, side: Option<Side>, notional: Option<u64>) -> Line
     ensures { result ≡ holding product side notional }
 {
-    let Word::Is(side) = side else {
-        return Line::Bad;
-    };
-    let Decimal::Is(notional) = notional else {
+    let (Some(side), Some(notional)) = (side, notional) else {
         return Line::Bad;
     };
     Line::Holds(Position {

@@ -34,10 +34,8 @@ fn hand_over(rt: &HostRuntime, asked: Asked, text: &[u8]) -> Moved
     let mut out = [0u8; 70];
     let mut err = [0u8; 70];
     let said = answer(asked, held, &mut out, &mut err);
-    let told = said.told;
-    let printed = said.printed;
-    tell(rt, &err[..told]);
-    write_output(rt, b"margins", &out[..printed])
+    tell(rt, &err[..said.told]);
+    write_output(rt, b"margins", &out[..said.printed])
 }
 
 fn run(rt: &HostRuntime, asked: Asked) {
@@ -59,13 +57,11 @@ fn main(rt: HostRuntime) {
         &rt,
         b"margins: a client's initial margin, the extreme loss margin of its positions and what its figures come to, on standard input a line each, PRODUCT SIDE NOTIONAL, and at most once figures PREMIUM LOSS [EXERCISE SETTLEMENT]; prints the refusal or 0 and the margin, with --record the record that sets it\nusage: margins [--record] SERIAL ACCOUNT INITIAL < POSITIONS\n",
     );
-    if help.asked {
+    if help.is_some() {
         return;
     }
-    let asked = asked::from_words(&rt);
-    if !asked.is_good {
-        told::bad_words(&rt);
-        return;
+    match asked::from_words(&rt) {
+        Some(asked) => run(&rt, asked),
+        None => told::bad_words(&rt),
     }
-    run(&rt, asked);
 }

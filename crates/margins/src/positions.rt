@@ -9,18 +9,16 @@ use crate::lines::{Line, line_of};
 use crate::words::up_to;
 use currency::{MOST, Position, Side};
 
-// The first 64 positions, how many there are, the figures (0 where no line tells them) and whether a line did, and the number
-// of the line that is none of these, or 0.
+// The first 64 positions, how many there are, the figures that a line tells, and the number of the first line that is none of these.
 #[derive(Clone, Copy)]
 pub(crate) struct Held {
     pub(crate) positions: [Position; 64],
     pub(crate) number: usize,
-    pub(crate) figures: Figures,
-    pub(crate) told: bool,
-    pub(crate) bad: u64,
+    pub(crate) figures: Option<Figures>,
+    pub(crate) bad: Option<u64>,
 }
 
-#[tactic(auto, unfolding(crate::specs::Positions::first_of, crate::specs::Positions::positions_in, crate::specs::Positions::told_in, crate::specs::Positions::figures_in, crate::specs::Positions::first_bad, crate::specs::Positions::held_by))]
+#[tactic(auto, unfolding(crate::specs::Positions::first_of, crate::specs::Positions::positions_in, crate::specs::Positions::figures_in, crate::specs::Positions::first_bad, crate::specs::Positions::held_by))]
 fn none() -> Held
     ensures { result ≡ held_by [] }
 {
@@ -29,18 +27,11 @@ fn none() -> Held
         side: Side::Futures,
         notional: 0,
     };
-    let figures = Figures {
-        premium: 0,
-        loss: 0,
-        exercise: 0,
-        settlement: 0,
-    };
     Held {
         positions: [empty; 64],
         number: 0,
-        figures,
-        told: false,
-        bad: 0,
+        figures: None,
+        bad: None,
     }
 }
 
@@ -66,9 +57,7 @@ fn with_bad(held: Held, number: u64) -> Held
     ensures { result ≡ with_bad held number }
 {
     let mut bad = held;
-    if held.bad == 0 {
-        bad.bad = number;
-    }
+    bad.bad = held.bad.or(Some(number));
     bad
 }
 
@@ -77,12 +66,11 @@ fn with_bad(held: Held, number: u64) -> Held
 fn with_figures(held: Held, figures: Figures, number: u64) -> Held
     ensures { result ≡ with_figures held figures number }
 {
-    if held.told {
+    if held.figures.is_some() {
         return with_bad(held, number);
     }
     let mut more = held;
-    more.figures = figures;
-    more.told = true;
+    more.figures = Some(figures);
     more
 }
 
@@ -105,6 +93,7 @@ pub(crate) fn read(text: &[u8]) -> Held
     let mut held = none();
     let mut at: usize = 0;
     let mut lines: u64 = 0;
+    // A `while`: a turn goes on by its line's length.
     while at < text.len() {
         let rest = &text[at..];
         let n = up_to(rest, b'\n');

@@ -24,7 +24,7 @@ fn put_line(room: &mut [u8], made: Made) -> usize
 {
     match made {
         Made::Given(record) => put_pair(room, 0, record.margin),
-        Made::Refused(refusal) => put_pair(room, refusal as u64, 0),
+        Made::Refused(refusal) => put_pair(room, u64::from(refusal), 0),
     }
 }
 

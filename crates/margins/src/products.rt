@@ -1,5 +1,6 @@
 // The words of products.
 ghost use Rattle.std.specs.Prelude.{◌≡◌};
+ghost use Rattle.std.specs.List.{list_all};
 ghost use Rattle.margins.specs.Products.{product_of, capital_or_digit, names_product};
 
 use streams::words::is_same;
@@ -10,21 +11,20 @@ fn is_capital_or_digit(byte: u8) -> bool
     ((b'A' <= byte) & (byte <= b'Z')) | ((b'0' <= byte) & (byte <= b'9'))
 }
 
+fn is_all_capitals_or_digits(word: &[u8]) -> bool
+    ensures { result ≡ list_all capital_or_digit word.now }
+{
+    word.iter().all(|byte| is_capital_or_digit(*byte))
+}
+
 // Whether a word may name a product, known or not.
 pub(crate) fn names_product(word: &[u8]) -> bool
     ensures { result ≡ names_product word.now }
 {
-    let mut i: usize = 0;
-    while i < word.len() {
-        if !is_capital_or_digit(word[i]) {
-            return false;
-        }
-        i += 1;
-    }
-    0 < word.len()
+    is_all_capitals_or_digits(word) & !word.is_empty()
 }
 
-// A product's number, in the paper's order; 10 for any other.
+// A product's number, in the paper's order; 10 for any other, since `currency::Position` holds any number and `currency` refuses that one. Not a `match` on the bytes: it leaves a goal for each byte of each word.
 pub(crate) fn product_of(word: &[u8]) -> u8
     ensures { result ≡ product_of word.now }
 {

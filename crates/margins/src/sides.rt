@@ -5,27 +5,22 @@ ghost use Rattle.margins.specs.Sides.{side_of};
 use currency::Side;
 use streams::words::is_same;
 
-#[derive(Clone, Copy)]
-pub(crate) enum Word {
-    Is(Side),
-    No,
-}
-
+// Not a `match` on the bytes: it leaves a goal for each byte of each word.
 #[tactic(auto, unfolding(crate::specs::Sides::side_of, sums::specs::Choice::pick))]
-pub(crate) fn side_of(word: &[u8]) -> Word
+pub(crate) fn side_of(word: &[u8]) -> Option<Side>
     ensures { result ≡ side_of word.now }
 {
     if is_same(word, b"futures") {
-        return Word::Is(Side::Futures);
+        return Some(Side::Futures);
     }
     if is_same(word, b"short") {
-        return Word::Is(Side::Short);
+        return Some(Side::Short);
     }
     if is_same(word, b"long") {
-        return Word::Is(Side::Long);
+        return Some(Side::Long);
     }
     if is_same(word, b"spread") {
-        return Word::Is(Side::Spread);
+        return Some(Side::Spread);
     }
-    Word::No
+    None
 }

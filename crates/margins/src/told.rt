@@ -32,10 +32,10 @@ fn put_refused(room: &mut [u8], refusal: u8) -> usize
     ensures { Puts room.old 0 (refused_text refusal) room.new result }
 {
     let p = put_text(room, 0, b"margins: refused ");
-    put_number(room, p, refusal as u64, b'\n')
+    put_number(room, p, u64::from(refusal), b'\n')
 }
 
-// The refusal of what was made, or that of the day file's writer.
+// The refusal of what was made, or that of the day file's writer, which is 0 for none: `dayfile::fault_of` gives it so.
 #[tactic(auto, unfolding(crate::specs::Printed::refusal_made))]
 fn refusal_of(made: Made) -> u8
     ensures { result ≡ refusal_made made }

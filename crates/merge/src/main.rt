@@ -37,7 +37,7 @@ fn read(rt: &HostRuntime, word: usize, room: &mut [u8]) -> Moved
 // The file's name is the word of its number. 15 can't be: the room has both files' most bytes.
 fn tell(rt: &HostRuntime, merged: Merged) {
     let mut name = words::blank();
-    let n = words::put_or_none(rt, merged.file as usize, &mut name);
+    let n = words::put_or_none(rt, usize::from(merged.file), &mut name);
     let mut line = [0u8; 52];
     let k = text::put_refused(&mut line, 0, merged.refusal, merged.index, b'\n');
     standard::tell(rt, b"merge: ");
@@ -71,10 +71,13 @@ fn run(rt: &HostRuntime, a: &mut [u8; ROOM], b: &mut [u8; ROOM], room: &mut [u8;
     if from.failed {
         return;
     }
-    let n = in_a.count;
-    let m = in_b.count;
-    let table = from.table;
-    merge(rt, room, &a[..n], &b[..m], table.serial);
+    merge(
+        rt,
+        room,
+        &a[..in_a.count],
+        &b[..in_b.count],
+        from.table.serial,
+    );
 }
 
 fn main(rt: HostRuntime) {
@@ -82,7 +85,7 @@ fn main(rt: HostRuntime) {
         &rt,
         b"merge: makes one day file of two counters', the records of the file A and then those of the file B, numbered from the next serial of the book in the file FROM, or from 0; a file that can't be merged is told on standard error with its refusal and the record at fault, counted from 0, and nothing is written\nusage: merge A B [FROM] > MERGED\n",
     );
-    if help.asked {
+    if help.is_some() {
         return;
     }
     if streams::standard::too_many_words(&rt, b"merge", 3) {

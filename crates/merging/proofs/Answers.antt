@@ -1,5 +1,5 @@
 -- What a merging answers, case by case, and what its room then holds.
-use Rattle.std.proofs.Common.{◌≡◌, ℕ, zero, suc, ◌+◌, ◌<◌, ◌≤◌, Bool, true, false, leb, List, ◌++◌, length, take, drop, sym, refl, ap, ◌∙◌, arith, length-append, take_at, drop_at, le-leb, leb-true}
+use Rattle.std.proofs.Common.{◌≡◌, Option, None, Some, ℕ, zero, suc, ◌+◌, ◌<◌, ◌≤◌, Bool, true, false, leb, List, ◌++◌, length, take, drop, sym, refl, ap, ◌∙◌, arith, length-append, take_at, drop_at, le-leb, leb-true}
 use borrow.Author.Tests.{lt-leb}
 use Rattle.sums.specs.Choice.{pick, unless_refused}
 use Rattle.sums.specs.Room.{at_start}
@@ -7,9 +7,9 @@ use Rattle.sums.proofs.Choices.{pick_yes, pick_no, refused-by}
 use Rattle.numbers.specs.Bytes.{Bytes}
 use Rattle.dayfile.specs.Files.{file_of}
 use Rattle.merging.specs.declared.Merged.{Merged}
-use Rattle.merging.specs.declared.Looked.{Looked}
+use Rattle.merging.specs.declared.Fault.{Fault}
 use Rattle.merging.specs.Merging.{listed_in, renumbered, merged_file, not_merged, fault_in, written, merged_of, room_merged}
-use Rattle.merging.specs.Inner.{looked, renumbered_in}
+use Rattle.merging.specs.Inner.{Looked, looked, stopped, renumbered_in}
 use Rattle.merging.proofs.Joined.{both-file, joined}
 use Rattle.merging.proofs.Renumbering.{length-renumbered}
 
@@ -20,6 +20,26 @@ no-fault s e z = sym (ap (λ (q : Looked). q.refusal) e) ∙ z
 -- one that finds a fault
 pub fault-found : {x : Looked} (s : List ℕ) (file : ℕ) → x ≡ looked 0 (listed_in s) → not_merged x.refusal file x.records ≡ fault_in file (listed_in s)
 fault-found s file e = ap (λ (q : Looked). not_merged q.refusal file q.records) e ∙ ap (not_merged _ file) (omega arith)
+
+-- so where it is said to stop nowhere
+pub stops-nowhere : (s : List ℕ) → None ≡ stopped (looked 0 (listed_in s)) → (listed_in s).refusal ≡ 0
+stops-nowhere s e = by (listed_in s).refusal e
+  where
+    by : (n : ℕ) → ◌≡◌ {A = Option Fault} None (unless_refused n None (λ m. Some (record { index = 0 + length (listed_in s).records; refusal = m }))) → n ≡ 0
+    by zero q = refl
+    by (suc n) q = absurd (cc)
+
+-- and at a record
+pub stops-at : {x : Fault} (s : List ℕ) (file : ℕ) → Some x ≡ stopped (looked 0 (listed_in s)) → ((listed_in s).refusal ≡ 0 → ⊥) × (not_merged x.refusal file x.index ≡ fault_in file (listed_in s))
+stops-at {x} s file e = by (listed_in s).refusal refl e
+  where
+    by : (n : ℕ) → (listed_in s).refusal ≡ n → ◌≡◌ {A = Option Fault} (Some x) (unless_refused n None (λ m. Some (record { index = 0 + length (listed_in s).records; refusal = m })))
+        → ((listed_in s).refusal ≡ 0 → ⊥) × (not_merged x.refusal file x.index ≡ fault_in file (listed_in s))
+    by zero r q = absurd (cc)
+    by (suc n) r q =
+        let f : x ≡ record { index = 0 + length (listed_in s).records; refusal = suc n } = cc in
+        let g : x ≡ record { index = 0 + length (listed_in s).records; refusal = (listed_in s).refusal } = f ∙ ap (λ (k : ℕ). record { index = 0 + length (listed_in s).records; refusal = k }) (sym r) in
+        (λ z. omega arith, ap (λ (y : Fault). not_merged y.refusal file y.index) g ∙ fault-found s file refl)
 
 -- a merging's answer, and the room behind it
 pub record Answers (a b : List ℕ) (next : ℕ) (room : List ℕ) (m : Merged) (after : List ℕ) : Type 0 where

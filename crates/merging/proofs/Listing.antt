@@ -1,6 +1,7 @@
 -- A file read record by record, up to the first that isn't good.
-use Rattle.std.proofs.Common.{◌≡◌, ℕ, zero, suc, ◌+◌, ◌<◌, ◌≤◌, List, length, get_or, drop, sym, refl, ap, ◌∙◌, arith, length-drop}
+use Rattle.std.proofs.Common.{◌≡◌, ℕ, zero, suc, None, Some, ◌+◌, ◌<◌, ◌≤◌, List, length, get_or, drop, sym, refl, ap, ◌∙◌, arith, length-drop}
 use Rattle.sums.specs.Choice.{unless_refused}
+use Rattle.sums.proofs.Choices.{refused-by}
 use Rattle.numbers.proofs.Numbers.{two_at}
 use Rattle.dayfile.specs.declared.Record.{Record}
 use Rattle.dayfile.specs.declared.Found.{Found}
@@ -11,9 +12,8 @@ use Rattle.dayfile.specs.Records.{fault_of}
 use Rattle.dayfile.specs.Reading.{size_of, found_at, judged, read_of, read_at, number_of}
 use Rattle.dayfile.proofs.RoundTrip.{end_read, read_found}
 use Rattle.dayfile.proofs.Places.{whole-stands, named-from, next-is, next-least, next-within, end-at}
-use Rattle.merging.specs.declared.Looked.{Looked}
 use Rattle.merging.specs.Merging.{Listed, ended, onward, listed_from, listed_in}
-use Rattle.merging.specs.Inner.{looked}
+use Rattle.merging.specs.Inner.{Looked, looked, stopped}
 
 -- ---- what is read at a place
 
@@ -123,12 +123,14 @@ looked-as : (m n x : ℕ) → m ≡ n → ◌≡◌ {A = Looked} (record { recor
 looked-as m n x e = ap (λ n. record { records = n; refusal = x }) e
 
 module _ (s : List ℕ) (k at : ℕ) (h : Looking s k at) where
-  pub look-ends : length s ≤ at → record { records = k; refusal = 0 } ≡ looked 0 (listed_in s)
-  look-ends l = looked-as k (k + 0) 0 (omega arith) ∙ sym (ap (looked k) (listed-end s (length s) at l)) ∙ h
+  pub look-ends : length s ≤ at → None ≡ stopped (looked 0 (listed_in s))
+  look-ends l = sym (ap (λ (m : Listed). stopped (looked k m)) (listed-end s (length s) at l)) ∙ ap stopped h
 
   module _ (inside : at < length s) where
-    pub look-stops : (number_of (read_at s at) ≡ 0 → ⊥) → record { records = k; refusal = number_of (read_at s at) } ≡ looked 0 (listed_in s)
-    look-stops bad = looked-as k (k + 0) _ (omega arith) ∙ sym (ap (looked k) (on-fault s (length s) at (omega arith) inside bad)) ∙ h
+    pub look-stops : (number_of (read_at s at) ≡ 0 → ⊥) → Some (record { index = k; refusal = number_of (read_at s at) }) ≡ stopped (looked 0 (listed_in s))
+    look-stops bad =
+        refused-by (number_of (read_at s at)) None (λ n. Some (record { index = k; refusal = n })) bad
+        ∙ ap stopped (looked-as k (k + 0) _ (omega arith) ∙ sym (ap (looked k) (on-fault s (length s) at (omega arith) inside bad)) ∙ h)
 
     pub look-on : number_of (read_at s at) ≡ 0 → Looking s (k + 1) (at + size_of (get_or s (at + 1) 0))
     look-on z =

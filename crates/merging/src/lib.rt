@@ -1,16 +1,18 @@
 // Two counters' day files made one (K14).
+// Refusals stay the documents' numbers, 0 for none: `unless_refused` gives them so.
 #![tactic(auto)]
 
 ghost use Rattle.std.specs.Prelude.{◌≡◌, ◌≤◌, length, take};
 ghost use Rattle.dayfile.specs.Reading.{number_of};
 ghost use Rattle.merging.specs.Merging.{listed_in, not_merged, merged_of, room_merged};
-ghost use Rattle.merging.specs.Inner.{looked, renumbered_in};
+ghost use Rattle.merging.specs.Inner.{looked, stopped, renumbered_in};
 
 use dayfile::{Read, size};
 use numbers::put2;
 use text::put_text;
 
 // What a merging came to: the refusal or 0; the file at fault, 1 for A, 2 for B, or 0; the place of the record at fault among the file's records, counted from 0; how many bytes were written.
+// No Result: the definition of a merging's answer and docs/API.md say all four fields.
 #[derive(Clone, Copy)]
 pub struct Merged {
     pub refusal: u8,
@@ -19,10 +21,10 @@ pub struct Merged {
     pub length: usize,
 }
 
-// How many records of a file are good, and the refusal of the one behind them, or 0 where there is none.
+// The first record at fault in a file: how many good ones stand in front of it, and its refusal.
 #[derive(Clone, Copy)]
-struct Looked {
-    records: usize,
+struct Fault {
+    index: usize,
     refusal: u8,
 }
 
@@ -43,23 +45,21 @@ fn number_of(read: Read) -> u8
     }
 }
 
-fn look(file: &[u8]) -> Looked
-    ensures { result ≡ looked 0 (listed_in file.now) }
+// Each record says how long it is, so no count of places leads the walk, here and in renumber.
+fn look(file: &[u8]) -> Option<Fault>
+    ensures { result ≡ stopped (looked 0 (listed_in file.now)) }
 {
-    let mut records: usize = 0;
+    let mut index: usize = 0;
     let mut place: usize = 0;
     while place < file.len() {
         let refusal = number_of(dayfile::read_at(file, place));
         if refusal != 0 {
-            return Looked { records, refusal };
+            return Some(Fault { index, refusal });
         }
         place += size(file[place + 1]);
-        records += 1;
+        index += 1;
     }
-    Looked {
-        records,
-        refusal: 0,
-    }
+    None
 }
 
 // Numbers the records of the file in the room's first n bytes anew, from a serial on: a good record's serial stands behind its mark, whatever its length.
@@ -72,7 +72,7 @@ fn renumber(room: &mut [u8], n: usize, first: u16)
     while place < n {
         let next = place + size(room[place + 1]);
         put2(room, place + 2, serial);
-        serial = std::num::wrapping_add_u16(serial, 1);
+        serial = serial.wrapping_add(1);
         place = next;
     }
 }
@@ -93,13 +93,11 @@ pub fn merge(a: &[u8], b: &[u8], next: u16, room: &mut [u8]) -> Merged
     ensures value { result ≡ merged_of a.now b.now next room.old }
     ensures room_after { room.new ≡ room_merged a.now b.now next room.old }
 {
-    let in_a = look(a);
-    if in_a.refusal != 0 {
-        return refused(in_a.refusal, 1, in_a.records);
+    if let Some(fault) = look(a) {
+        return refused(fault.refusal, 1, fault.index);
     }
-    let in_b = look(b);
-    if in_b.refusal != 0 {
-        return refused(in_b.refusal, 2, in_b.records);
+    if let Some(fault) = look(b) {
+        return refused(fault.refusal, 2, fault.index);
     }
     if room.len() < a.len() {
         return refused(15, 0, 0);

@@ -10,11 +10,9 @@ mod shown;
 // Hands a record over and shows the answer.
 fn hand(rt: &HostRuntime, t: Table, record: Record) -> Table {
     let done = desk::carry_out(t, record);
-    let answer = done.answer;
-    shown::answer(rt, answer);
+    shown::answer(rt, done.answer);
     shown::say(rt, b"\n");
-    let after = done.table;
-    after
+    done.table
 }
 
 fn open(rt: &HostRuntime, what: &[u8], t: Table, code: u8, account: u16) -> Table {
@@ -58,13 +56,11 @@ fn from_bytes(rt: &HostRuntime, t: Table, record: Record) -> Table {
     let wrote = dayfile::write(record, &mut bytes);
     shown::wrote(rt, wrote);
     let next = desk::carry_out_next(t, &bytes, 0);
-    let answer = next.answer;
     shown::say(rt, b"out of bytes");
-    shown::answer(rt, answer);
+    shown::answer(rt, next.answer);
     shown::told(rt, b", then place", next.place as u64);
     shown::say(rt, b"\n");
-    let after = next.table;
-    after
+    next.table
 }
 
 // Two margins of B as they stand in a day file: P4's, and one that the CM could not answer for (13).
@@ -74,10 +70,8 @@ fn piece(rt: &HostRuntime, t: Table) -> Table {
     let ended = run::day(t, bytes, 1000);
     shown::told(rt, b"a piece: place", ended.place as u64);
     shown::say(rt, b"; ");
-    let word = ended.closing;
-    report::closing(rt, b"morning_desk", word, ended.read, ended.done);
-    let after = ended.table;
-    after
+    report::closing(rt, b"morning_desk", ended.closing, ended.read, ended.done);
+    ended.table
 }
 
 fn asked(rt: &HostRuntime, t: Table) {
@@ -86,7 +80,7 @@ fn asked(rt: &HostRuntime, t: Table) {
     shown::figures(rt, 3, book::standing(t, 3));
     shown::figures(rt, 5, book::standing(t, 5));
     let mut needs = [0u64; 5];
-    shown::told(rt, b"needs: refusal", book::needs(t, &mut needs) as u64);
+    shown::told(rt, b"needs: refusal", u64::from(book::needs(t, &mut needs)));
     shown::told(rt, b"; the CM", needs[0]);
     shown::told(rt, b", TM-1", needs[1]);
     shown::told(rt, b", A", needs[2]);
@@ -102,7 +96,7 @@ fn closed(rt: &HostRuntime, t: Table) {
     let closed = closeout::close_out(t, &losses, &mut room);
     shown::paid(rt, 2, room[8], room[9], room[10], room[11]);
     shown::paid(rt, 3, room[12], room[13], room[14], room[15]);
-    shown::told(rt, b"close-out: refusal", closed.refusal as u64);
+    shown::told(rt, b"close-out: refusal", u64::from(closed.refusal));
     shown::told(rt, b", total uncovered", closed.total);
     shown::say(rt, b"\n");
 }

@@ -18,33 +18,32 @@ pub fn told(rt: &HostRuntime, text: &[u8], n: u64) {
 fn outcome(rt: &HostRuntime, o: Outcome) {
     match o {
         Outcome::CarriedOut => say(rt, b"carried out"),
-        Outcome::Opened(n) => told(rt, b"opened as", n as u64),
-        Outcome::Refused(n) => told(rt, b"refused", n as u64),
+        Outcome::Opened(n) => told(rt, b"opened as", u64::from(n)),
+        Outcome::Refused(n) => told(rt, b"refused", u64::from(n)),
         Outcome::End => say(rt, b"the end"),
     }
 }
 
 // The record's serial, code and account, and what became of it.
 pub fn answer(rt: &HostRuntime, a: Answer) {
-    told(rt, b": serial", a.serial as u64);
-    told(rt, b", code", a.code as u64);
-    told(rt, b", account", a.account as u64);
+    told(rt, b": serial", u64::from(a.serial));
+    told(rt, b", code", u64::from(a.code));
+    told(rt, b", account", u64::from(a.account));
     say(rt, b": ");
-    let o = a.outcome;
-    outcome(rt, o);
+    outcome(rt, a.outcome);
 }
 
 pub fn wrote(rt: &HostRuntime, w: Wrote) {
     match w {
         Wrote::Written(n) => told(rt, b"written: bytes", n as u64),
-        Wrote::Refused(n) => told(rt, b"not written: refused", n as u64),
+        Wrote::Refused(n) => told(rt, b"not written: refused", u64::from(n)),
     }
     say(rt, b"\n");
 }
 
 pub fn figures(rt: &HostRuntime, account: u64, f: Figures) {
     told(rt, b"standing of", account);
-    told(rt, b": refusal", f.refusal as u64);
+    told(rt, b": refusal", u64::from(f.refusal));
     told(rt, b", collateral", f.collateral);
     told(rt, b", need", f.need);
     told(rt, b", blocked", f.blocked);

@@ -19,6 +19,6 @@ pub fn most(t: Table, record: Record) -> Largest
     }
     let count = t.count;
     most_in(
-        &t.sort, &t.live, &t.tm, &t.amounts, &t.modes, &t.needs, &t.numbers, count, record,
+        &t.marks, &t.amounts, &t.modes, &t.needs, &t.numbers, count, record,
     )
 }

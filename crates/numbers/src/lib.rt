@@ -1,31 +1,39 @@
 // Numbers as bytes, high byte first: read at a place of a piece, put at a place of a room. Internal: a caller sees to it that the bytes are there.
 #![tactic(auto)]
 
-ghost use Rattle.std.specs.Prelude.{◌≡◌, ◌+◌, ◌*◌, ◌≤◌, ◌<◌, length, drop};
+ghost use Rattle.std.specs.Prelude.{◌≡◌, ◌+◌, ◌*◌, ◌≤◌, ◌<◌, length, take, drop};
 ghost use Rattle.std.proofs.lemmas.List.Edits.{sets};
 ghost use Rattle.numbers.specs.Bytes.{number, bytes_of};
+
+// The N bytes at a place.
+fn bytes_at<const N: usize>(piece: &[u8], place: usize) -> [u8; N]
+    requires { place + N ≤ length piece.now }
+    ensures { result ≡ take N (drop place piece.now) }
+{
+    let mut bytes = [0u8; N];
+    bytes.copy_from_slice(&piece[place..place + N]);
+    bytes
+}
 
 pub fn number2(piece: &[u8], place: usize) -> u16
     requires { place + 2 ≤ length piece.now }
     ensures { result ≡ number 2 (drop place piece.now) }
 {
-    piece[place] as u16 * 256 + piece[place + 1] as u16
+    u16::from_be_bytes(bytes_at(piece, place))
 }
 
 pub fn number4(piece: &[u8], place: usize) -> u32
     requires { place + 4 ≤ length piece.now }
     ensures { result ≡ number 4 (drop place piece.now) }
 {
-    number2(piece, place) as u32 * 65536 + number2(piece, place + 2) as u32
+    u32::from_be_bytes(bytes_at(piece, place))
 }
 
-// As four pairs: the record loop reads amounts by it, and two halves compile to more instructions.
 pub fn number8(piece: &[u8], place: usize) -> u64
     requires { place + 8 ≤ length piece.now }
     ensures { result ≡ number 8 (drop place piece.now) }
 {
-    (number2(piece, place) as u64 * 281474976710656 + number2(piece, place + 2) as u64 * 4294967296)
-        + (number2(piece, place + 4) as u64 * 65536 + number2(piece, place + 6) as u64)
+    u64::from_be_bytes(bytes_at(piece, place))
 }
 
 // The number of eight bytes where the bit is 1, of none where it is 0.
@@ -40,22 +48,19 @@ pub fn put2(room: &mut [u8], place: usize, x: u16)
     requires { place + 2 ≤ length room.old }
     ensures { room.new ≡ sets room.old place (bytes_of 2 x) }
 {
-    room[place] = (x / 256 % 256) as u8;
-    room[place + 1] = (x % 256) as u8;
+    room[place..place + 2].copy_from_slice(&x.to_be_bytes());
 }
 
 pub fn put4(room: &mut [u8], place: usize, x: u32)
     requires { place + 4 ≤ length room.old }
     ensures { room.new ≡ sets room.old place (bytes_of 4 x) }
 {
-    put2(room, place, (x / 65536) as u16);
-    put2(room, place + 2, (x % 65536) as u16);
+    room[place..place + 4].copy_from_slice(&x.to_be_bytes());
 }
 
 pub fn put8(room: &mut [u8], place: usize, x: u64)
     requires { place + 8 ≤ length room.old }
     ensures { room.new ≡ sets room.old place (bytes_of 8 x) }
 {
-    put4(room, place, (x / 4294967296) as u32);
-    put4(room, place + 4, (x % 4294967296) as u32);
+    room[place..place + 8].copy_from_slice(&x.to_be_bytes());
 }

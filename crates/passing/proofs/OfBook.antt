@@ -16,7 +16,8 @@ use Rattle.rows.specs.Facts.{InRange}
 use Rattle.rows.specs.DeemedUnder.{need_by}
 use Rattle.rows.proofs.Counted.{collateral-most}
 use Rattle.rows.proofs.KeptNeeds.{need-by, kept-CM}
-use Rattle.table.specs.Words.{Marks, row_in, book_from}
+use Rattle.table.specs.declared.Marks.{Marks}
+use Rattle.table.specs.Words.{row_in, book_from}
 use Rattle.table.proofs.Gathered.{row-in}
 use Rattle.book.specs.Facts.{Sound}
 use Rattle.passing.specs.Inner.{raised_to, limits_of, limits_in, free_in, short_in, limits_by, Within}

@@ -11,7 +11,8 @@ use Rattle.rows.specs.View.{View, need_cm, free_of, free}
 use Rattle.rows.specs.Rows.{ceiling, counted, collateral, account_of, row_at, mode_at, view}
 use Rattle.rows.specs.Facts.{InRange}
 use Rattle.rows.specs.DeemedUnder.{need_by}
-use Rattle.table.specs.Words.{Marks, row_in, book_from}
+use Rattle.table.specs.declared.Marks.{Marks}
+use Rattle.table.specs.Words.{row_in, book_from}
 use Rattle.book.specs.Facts.{Sound}
 use Rattle.passing.specs.declared.Largest.{Largest}
 use Rattle.passing.specs.declared.limits.Limits.{Limits}

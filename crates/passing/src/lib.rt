@@ -3,7 +3,7 @@
 
 ghost use Rattle.std.specs.Prelude.{◌≡◌, ◌<◌};
 ghost use Rattle.rows.specs.Facts.{InRange};
-ghost use Rattle.table.specs.Words.{marks_from, row_in};
+ghost use Rattle.table.specs.Words.{row_in};
 ghost use Rattle.passing.specs.Most.{least_of, has_amount, names_one};
 ghost use Rattle.passing.specs.Inner.{free_in, short_in, limits_by, Within, Lent, IsMost};
 
@@ -11,11 +11,13 @@ pub use dayfile::Record;
 use limits::{Limits, free_of, largest_by, limits_of, raised_to};
 use lookup::place_among;
 use rows::needs::collateral_of;
+use table::Marks;
 use table::places::row_at;
 
 mod limits;
 
 // The refusal number or 0, and the largest amount.
+// No Result: `most_of` and docs/API.md say both fields, with a refusal too.
 #[derive(Clone, Copy)]
 pub struct Largest {
     pub refusal: u8,
@@ -58,77 +60,58 @@ fn names_one(code: u8, named: u8) -> bool
 }
 
 // What is free of the account at place i, by the need kept there (K3).
-fn free_at<'a>(
-    sort: &'a [u8; 256],
-    live: &'a [bool; 256],
-    tm: &'a [u16; 256],
-    w: &'a [u64; 2560],
-    needs: &'a [u64; 256],
-    i: usize,
-) -> u64
-    requires { (i < 256) × InRange (row_in (marks_from sort.now live.now tm.now) w.now i) }
-    ensures { result ≡ free_in (marks_from sort.now live.now tm.now) w.now needs.now i }
+fn free_at(marks: &Marks, w: &[u64; 2560], needs: &[u64; 256], i: usize) -> u64
+    requires { (i < 256) × InRange (row_in marks.now w.now i) }
+    ensures { result ≡ free_in marks.now w.now needs.now i }
 {
-    let row = row_at(sort, live, tm, w, i);
+    let row = row_at(marks, w, i);
     free_of(row, needs[i])
 }
 
 // There is a shortfall (K8).
-fn is_short<'a>(
-    sort: &'a [u8; 256],
-    live: &'a [bool; 256],
-    tm: &'a [u16; 256],
-    w: &'a [u64; 2560],
-    needs: &'a [u64; 256],
-) -> bool
-    requires { InRange (row_in (marks_from sort.now live.now tm.now) w.now 0) }
-    ensures { result ≡ short_in (marks_from sort.now live.now tm.now) w.now needs.now }
+fn is_short(marks: &Marks, w: &[u64; 2560], needs: &[u64; 256]) -> bool
+    requires { InRange (row_in marks.now w.now 0) }
+    ensures { result ≡ short_in marks.now w.now needs.now }
 {
-    let row = row_at(sort, live, tm, w, 0);
+    let row = row_at(marks, w, 0);
     collateral_of(row) < needs[0]
 }
 
 // Up to where an amount passes, of the account at place i.
-fn limits_at<'a>(
-    sort: &'a [u8; 256],
-    live: &'a [bool; 256],
-    tm: &'a [u16; 256],
-    w: &'a [u64; 2560],
-    modes: &'a [bool; 256],
-    needs: &'a [u64; 256],
+fn limits_at(
+    marks: &Marks,
+    w: &[u64; 2560],
+    modes: &[bool; 256],
+    needs: &[u64; 256],
     i: usize,
     code: u8,
     named: u8,
 ) -> Limits
-    requires { Within (marks_from sort.now live.now tm.now) w.now i }
-    ensures { result ≡ limits_by (marks_from sort.now live.now tm.now) w.now modes.now
-        needs.now i code named }
+    requires { Within marks.now w.now i }
+    ensures { result ≡ limits_by marks.now w.now modes.now needs.now i code named }
 {
-    let row = row_at(sort, live, tm, w, i);
+    let row = row_at(marks, w, i);
     let p = row.tm as usize;
-    let own = free_at(sort, live, tm, w, needs, i);
-    let its = free_at(sort, live, tm, w, needs, p);
-    let top = free_at(sort, live, tm, w, needs, 0);
-    let short = is_short(sort, live, tm, w, needs);
+    let own = free_at(marks, w, needs, i);
+    let its = free_at(marks, w, needs, p);
+    let top = free_at(marks, w, needs, 0);
+    let short = is_short(marks, w, needs);
     let raised = raised_to(row.sort, row.margin, short, own, its, top);
     limits_of(code, named, row, modes[i], own, raised)
 }
 
 // The largest amount with which the record would have been carried out at a sound table, whose arrays are lent, whatever the record's serial and its amounts are.
-pub fn most_in<'a>(
-    sort: &'a [u8; 256],
-    live: &'a [bool; 256],
-    tm: &'a [u16; 256],
-    w: &'a [u64; 2560],
-    modes: &'a [bool; 256],
-    needs: &'a [u64; 256],
-    numbers: &'a [u16; 256],
+pub fn most_in(
+    marks: &Marks,
+    w: &[u64; 2560],
+    modes: &[bool; 256],
+    needs: &[u64; 256],
+    numbers: &[u16; 256],
     count: u16,
     record: Record,
 ) -> Largest
-    requires { Lent count (marks_from sort.now live.now tm.now) w.now modes.now needs.now numbers.now }
-    ensures { IsMost count (marks_from sort.now live.now tm.now) w.now modes.now
-        needs.now numbers.now «record» result }
+    requires { Lent count marks.now w.now modes.now needs.now numbers.now }
+    ensures { IsMost count marks.now w.now modes.now needs.now numbers.now «record» result }
 {
     let code = record.code;
     if !has_amount(code) {
@@ -143,9 +126,9 @@ pub fn most_in<'a>(
         return refused(7);
     }
     let i = place as usize;
-    if !live[i] {
+    if !marks.live[i] {
         return refused(7);
     }
-    let l = limits_at(sort, live, tm, w, modes, needs, i, code, named);
+    let l = limits_at(marks, w, modes, needs, i, code, named);
     largest_by(l, least_of(code))
 }

@@ -81,10 +81,8 @@ pub fn to_front(space: &mut [u8], from: usize, to: usize) -> usize
     ensures space_after { take result space.new ≡ take result (drop from space.old) }
 {
     let n = to - from;
-    let mut i: usize = 0;
-    while i < n {
+    for i in 0..n {
         space[i] = space[from + i];
-        i += 1;
     }
     n
 }

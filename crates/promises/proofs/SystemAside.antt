@@ -1,7 +1,8 @@
 -- "Show that it admits one result only; put any exception in docs/ and say why.": the exceptions of docs/AUDIT.md that some statement can be made of. What the system answers no promise can say: how many bytes came,
 -- how many were taken, whether a call failed, how many words a program was started with and which bytes they have. Where it answered alike, the results are the same. `read_all`, `read_input`
 -- and `read_named` give only what it answered, and have no statement here.
-use mathlib.Core.Bool.{true, false, ◌&&◌}
+use mathlib.Core.Bool.{true, false, ◌&&◌, false≢true}
+use Rattle.std.specs.Prelude.{Option, Some, None, is_some, IfSome}
 use mathlib.Core.List.{List}
 use mathlib.Core.Path.{◌≡◌, refl, sym, ap, ◌∙◌}
 use Prim.Native.Nat.{ℕ, ◌≤◌}
@@ -19,7 +20,6 @@ use Rattle.book.specs.Sound.{sound_b}
 use Rattle.sums.specs.Choice.{pick}
 use Rattle.numbers.specs.Bytes.{Bytes}
 use Rattle.streams.specs.declared.Moved.{Moved}
-use Rattle.streams.specs.Calls.{failed_by}
 use Rattle.streams.specs.Words.{is_there, too_many, same_bytes, help_word}
 use Rattle.streams.proofs.Taken.{all-taken}
 use Rattle.bookfile.specs.Reading.{read_of}
@@ -117,25 +117,26 @@ pub of-streams-files-replace-named :
     x.failed ≡ y.failed → x ≡ y
 of-streams-files-replace-named κs a x y e p q luck = same-moved x y luck (p ∙ ap (λ t. pick t 0 (length a.1.1.1.1.0.now)) luck ∙ sym q)
 
--- A file that is opened: where the system answered alike, the results are the same.
+-- A file that is opened: the result is what the system answered, an error where that is one, so that no promise is left over. Where it answered alike, the results are the same.
 pub of-streams-files-open-named :
-    (κs : Lfts 3) (a : Args streams_contracts.files.open_named.signature κs) (x y : Res streams_contracts.files.open_named.signature κs) (e : AtExit streams_contracts.files.open_named.ended κs)
-    (p : streams.files.open_named.Reads.Learnt κs a x e) (q : streams.files.open_named.Reads.Learnt κs a y e) →
-    x.file ≡ y.file → x ≡ y
-of-streams-files-open-named κs a x y e p q luck =
-    ap (λ t. record { failed = t; file = x.file }) (p ∙ ap failed_by luck ∙ sym q) ∙ ap (λ n. record { failed = y.failed; file = n }) luck
+    (κs : Lfts 3) (x y : Res streams_contracts.files.open_named.signature κs) → x ≡ y → x ≡ y
+of-streams-files-open-named κs x y luck = luck
+
+-- of two ends of a text of n bytes that was told, or wasn't asked for
+one-told : (n : ℕ) (x y : Option Moved) → is_some x ≡ is_some y → IfSome x (λ m. (m.count ≤ n) × (m.failed ≡ ltb m.count n)) → IfSome y (λ m. (m.count ≤ n) × (m.failed ≡ ltb m.count n))
+    → ((m k : Moved) → x ≡ Some m → y ≡ Some k → m.count ≡ k.count) → x ≡ y
+one-told n None None e p q taken = refl
+one-told n None (Some k) e p q taken = absurd (false≢true e)
+one-told n (Some m) None e p q taken = absurd (false≢true (sym e))
+one-told n (Some m) (Some k) e p q taken = ap Some ((as-taken m k n p q).0 (taken m k refl refl))
 
 -- Whether help was asked for: where the first word is the same, and as many bytes of the help were taken.
 pub of-streams-standard-help :
     (κs : Lfts 2) (a : Args streams_contracts.standard.help.signature κs) (x y : Res streams_contracts.standard.help.signature κs) (e : AtExit streams_contracts.standard.help.ended κs)
     (p : streams.standard.help.Reads.Learnt κs a x e) (q : streams.standard.help.Reads.Learnt κs a y e) →
-    p.word ≡ q.word → x.count ≡ y.count → x ≡ y
+    p.word ≡ q.word → ((m k : Moved) → x ≡ Some m → y ≡ Some k → m.count ≡ k.count) → x ≡ y
 of-streams-standard-help κs a x y e p q same taken =
-    let asked = p.asked ∙ ap (λ l. same_bytes l help_word) same ∙ sym q.asked in
-    let n = length a.1.0.now in
-    let failed = p.failed ∙ ap (λ t. ltb x.count (pick t n 0)) asked ∙ ap (λ k. ltb k (pick y.asked n 0)) taken ∙ sym q.failed in
-    ap (λ t. record { asked = t; failed = x.failed; count = x.count }) asked ∙ ap (λ t. record { asked = y.asked; failed = t; count = x.count }) failed
-    ∙ ap (λ k. record { asked = y.asked; failed = y.failed; count = k }) taken
+    one-told (length a.1.0.now) x y (p.asked ∙ ap (λ l. same_bytes l help_word) same ∙ sym q.asked) p.told q.told taken
 
 -- Whether there are too many words: where there are as many.
 pub of-streams-standard-too-many-words :

@@ -6,7 +6,7 @@ use Prim.Native.Nat.{ℕ}
 use Rattle.rows.specs.declared.Book.{Book}
 use Rattle.rows.specs.Rows.{places}
 use Rattle.table.specs.declared.Table.{Table}
-use Rattle.table.specs.Words.{marks_of, turned, turned_back}
+use Rattle.table.specs.Words.{turned, turned_back}
 use Rattle.table.specs.Facts.{Sized}
 use Rattle.table.proofs.Turning.{over-and-back, back-and-over}
 use Rattle.book.specs.Sound.{sound_b}
@@ -29,7 +29,7 @@ pub turning-over-and-back : (b : Book) → places b ≡ 256 → turned_back (tur
 turning-over-and-back = over-and-back
 
 -- and a table, whose arrays have the lengths of the type
-pub turning-back-and-over : (t : Table) → Sized (marks_of t) t.amounts → turned (turned_back t) ≡ t
+pub turning-back-and-over : (t : Table) → Sized t.marks t.amounts → turned (turned_back t) ≡ t
 turning-back-and-over = back-and-over
 
 module _ (b : Book) (h : places b ≡ 256) where

@@ -6,7 +6,7 @@ fn main(rt: HostRuntime) {
         &rt,
         b"read: writes the day file on standard input in words, a line a record, raw where a record can't be said in words; serials are shown where they aren't the running one, which begins with the next serial of the book in the file FROM, or with 0\nusage: read [FROM] < DAYFILE > TEXT\n",
     );
-    if help.asked {
+    if help.is_some() {
         return;
     }
     if streams::standard::too_many_words(&rt, b"read", 1) {
@@ -16,6 +16,5 @@ fn main(rt: HostRuntime) {
     if from.failed {
         return;
     }
-    let table = from.table;
-    wording::in_words(&rt, b"read", table.serial);
+    wording::in_words(&rt, b"read", from.table.serial);
 }

@@ -18,7 +18,7 @@ use Rattle.records.specs.Inner.{put_line_numbers}
 use Rattle.records.proofs.Turning.{Loop, carried-most, turn-one-more}
 use Rattle.steps.specs.declared.At.{At}
 use Rattle.steps.specs.declared.Gone.{Gone}
-use Rattle.steps.specs.Lent.{Lent}
+use Rattle.steps.specs.declared.Lent.{Lent}
 use Rattle.steps.specs.Steps.{refusal_shown, book_in, at_after, Stepped, SteppedOn}
 
 pub turn_on : (s : List ℕ) (most : ℕ) (numbered : Bool) (room₀ : List ℕ) (b₀ : Book) (place₀ read₀ done₀ : ℕ) (room : List ℕ) (at : At) (was : List Bool) (l : Lent) (place read done : ℕ)

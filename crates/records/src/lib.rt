@@ -3,13 +3,12 @@
 
 ghost use Rattle.std.specs.Prelude.{true, [], ◌∷◌, ◌≡◌, ◌+◌, ◌*◌, ◌≤◌, length};
 ghost use Rattle.sums.specs.Choice.{pick};
-ghost use Rattle.steps.specs.Lent.{lent, before, after};
 ghost use Rattle.steps.specs.Steps.{book_in, Going};
 ghost use Rattle.records.specs.Runs.{run_of};
 ghost use Rattle.records.specs.Inner.{put_line_numbers, put_numbers_from, ran_in};
 
 use codes::asked::{Head, Headed, head_at};
-use steps::{At, Gone, on, step_read};
+use steps::{At, Gone, Lent, on, step_read};
 
 // Why the records stopped: at the end, at a cut, at the stated number, or since the book isn't sound.
 #[derive(Clone, Copy)]
@@ -45,15 +44,7 @@ fn put_line_numbers(room: &mut [u16], k: u64, h: Head, gone: Gone)
 
 // The records of a piece at a sound table, whose arrays are lent, with their numbers put into the room where that is asked for.
 pub fn go(
-    sort: &mut [u8; 256],
-    live: &mut [bool; 256],
-    tm: &mut [u16; 256],
-    w: &mut [u64; 2560],
-    kept: &mut [u64; 256],
-    modes: &mut [bool; 256],
-    needs: &mut [u64; 256],
-    numbers: &mut [u16; 256],
-    excess: &mut [u64; 256],
+    l: &mut Lent,
     was: &[bool; 256],
     first: At,
     piece: &[u8],
@@ -61,14 +52,10 @@ pub fn go(
     room: &mut [u16],
     numbered: bool,
 ) -> Went
-    requires { Going first was.now (lent sort live tm w kept modes needs numbers excess)
-        × (numbered ≡ true → 5 * most ≤ length room.old) }
-    ensures excess_value { ran_in result was.now (after sort live tm w kept modes needs numbers excess)
-        ≡ run_of piece.now most
-        (book_in first was.now (before sort live tm w kept modes needs numbers excess)) 0 0 0 }
-    ensures going { Going result.at was.now (after sort live tm w kept modes needs numbers excess)
-        × (room.new ≡ pick numbered (put_numbers_from piece.now most
-        (book_in first was.now (before sort live tm w kept modes needs numbers excess)) 0 0 room.old) room.old) }
+    requires { Going first was.now l.old × (numbered ≡ true → 5 * most ≤ length room.old) }
+    ensures excess_value { ran_in result was.now l.new ≡ run_of piece.now most (book_in first was.now l.old) 0 0 0 }
+    ensures going { Going result.at was.now l.new
+        × (room.new ≡ pick numbered (put_numbers_from piece.now most (book_in first was.now l.old) 0 0 room.old) room.old) }
 {
     let mut at = first;
     let mut place: usize = 0;
@@ -90,10 +77,7 @@ pub fn go(
                 if most <= read {
                     break Closing::Long;
                 }
-                let gone = step_read(
-                    sort, live, tm, w, kept, modes, needs, numbers, excess, was, at, piece, place,
-                    h,
-                );
+                let gone = step_read(l, was, at, piece, place, h);
                 if numbered {
                     put_line_numbers(room, read, h, gone);
                 }

@@ -21,7 +21,7 @@ use Rattle.rows.proofs.BySort.{Sort, cm, tm, client, cp, sort-of}
 use Rattle.rows.proofs.DeemedUnder.{none-under}
 use Rattle.rows.proofs.Tenths.{shaped_in, use-by}
 use Rattle.table.specs.declared.Table.{Table}
-use Rattle.table.specs.Words.{marks_of, turned_back}
+use Rattle.table.specs.Words.{turned_back}
 use Rattle.table.specs.Facts.{seen_book}
 use Rattle.table.proofs.Seen.{seen-view, seen-ranged}
 use Rattle.book.specs.Sound.{sound_b}
@@ -57,16 +57,16 @@ used-by v s under h i l = by (has_mode v i) refl
 
 module _ (t : Table) (e : sound_b (turned_back t) ≡ true) where
   abbrev seen : Book
-  seen = seen_book t.count t.sort t.tm t.amounts
+  seen = seen_book t.count t.marks t.amounts
 
   is_seen : view seen ≡ view (turned_back t)
-  is_seen = seen-view t.count t.serial (marks_of t) t.amounts t.modes t.needs t.next t.numbers
+  is_seen = seen-view t.count t.serial t.marks t.amounts t.modes t.needs t.next t.numbers
 
   -- what the sums ask of the words
   pub seen-enough : Ranged seen × Shaped (view seen)
   seen-enough =
       let s = sound→ (turned_back t) e in
-      (seen-ranged t.count t.serial (marks_of t) t.amounts t.modes t.needs t.next t.numbers (sound-ranged (turned_back t) s), rw is_seen s.shaped)
+      (seen-ranged t.count t.serial t.marks t.amounts t.modes t.needs t.next t.numbers (sound-ranged (turned_back t) s), rw is_seen s.shaped)
 
   pub in-excess : (under : List ℕ) → DeemedUnder (in_tenths (view seen)) under → InExcess (turned_back t) true (take t.count under)
   in-excess under given =

@@ -15,7 +15,7 @@ use Rattle.rows.specs.View.{need, blocked, deemed, free}
 use Rattle.rows.specs.Rows.{collateral, row_at, mode_at, number_at, place_of, view, is_live}
 use Rattle.rows.specs.Facts.{InRange}
 use Rattle.table.specs.declared.Table.{Table}
-use Rattle.table.specs.Words.{row_in, marks_of, turned_back}
+use Rattle.table.specs.Words.{row_in, turned_back}
 use Rattle.table.proofs.Gathered.{row-in}
 use Rattle.lookup.proofs.Places.{place_found}
 use Rattle.book.specs.Sound.{sound_b}
@@ -76,22 +76,22 @@ tested-standing b true needs h i l =
     ∙ sym (figures-of-row b h.is i (omega (arith, h.held refl)))
 
 -- each row's amounts in range
-sound-range : (t : Table) → sound_b (turned_back t) ≡ true → (i : ℕ) → i < t.count → InRange (row_in (marks_of t) t.amounts i)
+sound-range : (t : Table) → sound_b (turned_back t) ≡ true → (i : ℕ) → i < t.count → InRange (row_in t.marks t.amounts i)
 sound-range t e i l =
     let s = sound→ (turned_back t) e in
-    subst InRange (row-in (marks_of t) t.amounts i (omega (arith, s.most))) ((sound-ranged _ s).ranges i l)
+    subst InRange (row-in t.marks t.amounts i (omega (arith, s.most))) ((sound-ranged _ s).ranges i l)
 
 module _ (t : Table) (sound : Bool) (list : List ℕ) where
   -- what a row's line asks of it
   pub row-shown : (sheet : Sheet) → Beside sheet (turned_back t) sound list → (i : ℕ) → i < length list
-      → Shown sheet sound (row_in (marks_of t) t.amounts i) (get_or list i 0)
+      → Shown sheet sound (row_in t.marks t.amounts i) (get_or list i 0)
   row-shown Standings h i l = λ e. sound-range t (h.is ∙ e) i (omega (arith, h.held e))
   row-shown Holdings h i l = (sound-range t h.is i (omega (arith, h.held)), h.most i l)
 
   -- by what the list has beside it, it is the line of the row at place i
   pub line-is : (sheet : Sheet) → Beside sheet (turned_back t) sound list → (i : ℕ) {number tm : ℕ} {r : Row} → i < length list → i < 256
-      → number ≡ get_or t.numbers i 0 → r ≡ row_in (marks_of t) t.amounts i → tm ≡ get_or t.numbers r.tm 0
+      → number ≡ get_or t.numbers i 0 → r ≡ row_in t.marks t.amounts i → tm ≡ get_or t.numbers r.tm 0
       → line_by sheet number r tm sound (get_or list i 0) (get_or t.modes i false) (eqb i 0) ≡ line_of sheet (turned_back t) i
   unfolding line_at holding_at
-  line-is Standings h i l k n r m = let e = row-in (marks_of t) t.amounts i k in let q = tested-standing (turned_back t) sound list h i l in cc
-  line-is Holdings h i l k n r m = let e = row-in (marks_of t) t.amounts i k in let q = h.each i l in cc
+  line-is Standings h i l k n r m = let e = row-in t.marks t.amounts i k in let q = tested-standing (turned_back t) sound list h i l in cc
+  line-is Holdings h i l k n r m = let e = row-in t.marks t.amounts i k in let q = h.each i l in cc

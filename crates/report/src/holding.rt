@@ -114,7 +114,7 @@ fn excess_under(t: Table) -> [u64; 256]
     ensures { InExcess (turned_back t) true (take t.count result) × (length result ≡ 256) }
 {
     let mut excess = zeros();
-    deemed_under(&t.sort, &t.tm, &t.amounts, t.count, true, &mut excess);
+    deemed_under(&t.marks, &t.amounts, t.count, true, &mut excess);
     excess
 }
 

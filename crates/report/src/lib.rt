@@ -1,10 +1,11 @@
 // What the programs print behind the records' lines: each text is made in a room and then handed over at once.
 #![tactic(auto)]
 
-ghost use Rattle.std.specs.Prelude.{◌≡◌, ◌≤◌, ◌<◌, min, ltb, length, take, get_or};
+ghost use Rattle.std.specs.Prelude.{true, false, ◌≡◌, ◌≤◌, ◌<◌, ltb, length, take, get_or, IfNone, IfSome};
 ghost use Rattle.lines.specs.Lines.{closing_line_of};
 ghost use Rattle.sums.specs.Room.{at_start};
 ghost use Rattle.table.specs.Words.{turned_back};
+ghost use Rattle.book.specs.Sound.{sound_b};
 ghost use Rattle.report.specs.Reports.{accounts as Reports·accounts, standings_text, needs_text, close_out_text};
 ghost use Rattle.report.specs.Holdings.{holdings_text};
 ghost use Rattle.report.specs.Inner.{Tested};
@@ -21,17 +22,11 @@ mod loss;
 mod need;
 mod standing;
 
-fn lesser(a: usize, b: usize) -> usize
-    ensures { result ≡ min a b }
-{
-    if a < b { a } else { b }
-}
-
 // How many rows are listed.
 fn accounts(count: usize) -> usize
     ensures { result ≡ Reports·accounts count }
 {
-    lesser(count, 256)
+    count.min(256)
 }
 
 // The number of the row at a place.
@@ -42,23 +37,17 @@ fn number_at(numbers: &[u16; 256], i: usize) -> u16
     numbers[i]
 }
 
-// A book tested once, by the call for all needs: whether it is sound, and the needs of its rows.
-#[derive(Clone, Copy)]
-struct AllNeeds {
-    sound: bool,
-    needs: [u64; 256],
-}
-
-fn all_needs(t: Table, n: usize) -> AllNeeds
+// The needs of a book's rows, where it is sound: it is tested once, by the call for all needs.
+fn all_needs(t: Table, n: usize) -> Option<[u64; 256]>
     requires { n ≡ Reports·accounts t.count }
-    ensures { Tested (turned_back t) result.sound (take n result.needs) × (length result.needs ≡ 256) }
+    ensures unsound { IfNone result (sound_b (turned_back t) ≡ false) }
+    ensures tested { IfSome result (λ needs. Tested (turned_back t) true (take n needs) × (length needs ≡ 256)) }
 {
     let mut needs = zeros();
-    let refusal = book::needs(t, &mut needs[..n]);
-    AllNeeds {
-        sound: refusal == 0,
-        needs,
+    if book::needs(t, &mut needs[..n]) != 0 {
+        return None;
     }
+    Some(needs)
 }
 
 // The lines of all accounts' standings: how long they are, and the lines in the room.
@@ -113,7 +102,7 @@ pub fn closing(rt: &HostRuntime, program: &[u8], word: Closing, read: u64, done:
     write_output(rt, program, &room[..n])
 }
 
-// Prints the lines of all accounts' standings for the program named.
+// Prints the lines of all accounts' standings for the program named. Three are of one shape: a closure for the text would need a contract that is longer than their bodies.
 pub fn standings(rt: &HostRuntime, program: &[u8], t: Table) -> Moved
     ensures count_in_bounds { result.count ≤ length (standings_text (turned_back t)) }
     ensures failed_value { result.failed ≡ ltb result.count (length (standings_text (turned_back t))) }

@@ -11,7 +11,7 @@ use crate::number_at;
 use crate::standing::{figures_of, put_standing};
 use rows::Row;
 use table::Table;
-use table::places::row_of;
+use table::places::row_at;
 use text::{put_short, put_sort, put_text};
 
 // Which line a row has.
@@ -21,6 +21,7 @@ pub(crate) enum Sheet {
     Holdings,
 }
 
+// One shape with put_mode: one function would be handed both words and both definitions, and be longer.
 fn put_state(room: &mut [u8], at: usize, live: bool) -> usize
     requires { at + 8 ≤ length room.old }
     ensures puts { Puts room.old at (and_space (state_word live)) room.new result }
@@ -92,10 +93,9 @@ pub(crate) fn put_rows(
     ensures { Puts room.old start (lines_of (line_of sheet (turned_back t)) (length list.now)) room.new result }
 {
     let mut at = start;
-    let mut i: usize = 0;
-    while i < list.len() {
+    for (i, x) in list.iter().enumerate() {
         let number = number_at(&t.numbers, i);
-        let r = row_of(&t.sort, &t.live, &t.tm, &t.amounts, i);
+        let r = row_at(&t.marks, &t.amounts, i);
         let tm = tm_number(t.numbers, r.tm);
         at = put_row(
             room,
@@ -105,11 +105,10 @@ pub(crate) fn put_rows(
             r,
             tm,
             sound,
-            list[i],
+            *x,
             t.modes[i],
             i == 0,
         );
-        i += 1;
     }
     at
 }

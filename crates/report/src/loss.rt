@@ -4,7 +4,7 @@ ghost use Rattle.text.specs.Numbers.{spaced};
 ghost use Rattle.text.specs.Inner.{Puts};
 ghost use Rattle.report.specs.Reports.{loss_lines, close_out_text};
 
-use crate::{accounts, lesser, number_at};
+use crate::{accounts, number_at};
 use text::{put_number, put_spaced, put_text};
 
 // Puts a word with the space behind it, then a number.
@@ -40,8 +40,7 @@ fn put_losses(
     ensures upper_bound { result ≤ 126 * n }
 {
     let mut at: usize = 0;
-    let mut i: usize = 0;
-    while i < n {
+    for i in 0..n {
         let number = number_at(numbers, i);
         let k = 4 * i;
         at = put_six(
@@ -54,7 +53,6 @@ fn put_losses(
             amounts[k + 2],
             amounts[k + 3],
         );
-        i += 1;
     }
     at
 }
@@ -75,7 +73,7 @@ pub(crate) fn put_close_out(
     if refusal != 0 {
         return put_labelled(room, 0, b"refused ", refusal as u64);
     }
-    let n = accounts(lesser(losses.len(), amounts.len() / 4));
+    let n = accounts(losses.len().min(amounts.len() / 4));
     let at = put_losses(room, n, numbers, losses, amounts);
     put_labelled(room, at, b"total ", total)
 }

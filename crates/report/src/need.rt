@@ -15,13 +15,9 @@ fn put_list(room: &mut [u8], numbers: &[u16; 256], needs: &[u64]) -> usize
         (length needs.now)) room.new result }
 {
     let mut at: usize = 0;
-    let mut i: usize = 0;
-    while i < needs.len() {
+    for (i, need) in needs.iter().enumerate() {
         let number = number_at(numbers, i);
-        let need = needs[i];
-        let list = [number as u64, need];
-        at = put_spaced(room, at, &list);
-        i += 1;
+        at = put_spaced(room, at, &[u64::from(number), *need]);
     }
     at
 }
@@ -31,11 +27,9 @@ pub(crate) fn put_needs(room: &mut [u8], t: Table, n: usize) -> usize
     requires { (n ≡ Reports·accounts t.count) × (42 * n ≤ length room.old) }
     ensures { Puts room.old 0 (needs_text (turned_back t)) room.new result }
 {
-    let tested = all_needs(t, n);
-    if !tested.sound {
+    let Some(needs) = all_needs(t, n) else {
         return 0;
-    }
-    let needs = tested.needs;
+    };
     let numbers = t.numbers;
     put_list(room, &numbers, &needs[..n])
 }

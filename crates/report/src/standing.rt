@@ -13,7 +13,7 @@ use crate::all_needs;
 use crate::listing::{Sheet, put_front, put_rows};
 use book::Figures;
 use rows::Row;
-use rows::needs::{blocked_of, collateral_of, only_if};
+use rows::needs::{blocked_of, collateral_of, only_if, zeros};
 use table::Table;
 use text::{put_each, put_number, put_text};
 
@@ -104,7 +104,8 @@ pub(crate) fn put_standings(room: &mut [u8], t: Table, n: usize) -> usize
     requires { (n ≡ Reports·accounts t.count) × (219 * n + 60 ≤ length room.old) }
     ensures { Puts room.old 0 (lines_of (line_at (turned_back t)) n) room.new result }
 {
-    let tested = all_needs(t, n);
-    let needs = tested.needs;
-    put_rows(room, 0, t, Sheet::Standings, tested.sound, &needs[..n])
+    match all_needs(t, n) {
+        Some(needs) => put_rows(room, 0, t, Sheet::Standings, true, &needs[..n]),
+        None => put_rows(room, 0, t, Sheet::Standings, false, &zeros()[..n]),
+    }
 }

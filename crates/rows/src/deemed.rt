@@ -11,7 +11,7 @@ use super::needs::{blocked_of, client_due, member_due, only_if};
 pub fn less(a: u64, b: u64) -> u64
     ensures { result ≡ a - b }
 {
-    if b <= a { a - b } else { 0 }
+    a.saturating_sub(b)
 }
 
 // What is blocked of the account, where so much is deemed under it.

@@ -17,6 +17,14 @@ pub struct Kinds {
     pub securities: u64,
 }
 
+// No amount of any kind.
+pub const NO_KINDS: Kinds = Kinds {
+    cash: 0,
+    deposits: 0,
+    guarantees: 0,
+    securities: 0,
+};
+
 // An account. `sort` is the code of the record that opened it (1 TM, 2 client, 3 CP) and 0 for the CM; `tm` is the place of a
 // client's TM and 0 for any other row.
 #[derive(Clone, Copy)]

@@ -12,17 +12,13 @@ use super::{Account, Row, Rule};
 pub fn blocked_of(need: u64, collateral: u64) -> u64
     ensures { result ≡ blocked_of need collateral }
 {
-    if need <= collateral { need } else { collateral }
+    need.min(collateral)
 }
 
 fn deemed(need: u64, collateral: u64) -> u64
     ensures { result ≡ deemed_of need collateral }
 {
-    if need <= collateral {
-        0
-    } else {
-        need - collateral
-    }
+    need.saturating_sub(collateral)
 }
 
 pub fn only_if(t: bool, a: u64) -> u64

@@ -1,4 +1,4 @@
-// A row lent by `&mut` to thin setters: each puts one of its words anew.
+// A row lent by `&mut` to thin setters, as document 01 orders: each puts one of its words anew.
 ghost use Rattle.std.specs.Prelude.{◌≡◌};
 ghost use Rattle.rows.specs.Rows.{with_live, with_received, with_allocated, with_pledged, with_margin};
 

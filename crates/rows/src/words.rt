@@ -3,7 +3,7 @@ ghost use Rattle.std.specs.Prelude.{◌≡◌};
 ghost use Rattle.rows.specs.Rows.{no_row, opened_row, with_live, with_received, with_allocated, with_pledged, with_margin};
 
 use super::setters::{set_allocated, set_live, set_margin, set_pledged, set_received};
-use super::{Kinds, Row};
+use super::{Kinds, NO_KINDS, Row};
 
 pub fn no_row() -> Row
     ensures { result ≡ no_row }
@@ -12,18 +12,8 @@ pub fn no_row() -> Row
         sort: 0,
         live: false,
         tm: 0,
-        received: Kinds {
-            cash: 0,
-            deposits: 0,
-            guarantees: 0,
-            securities: 0,
-        },
-        allocated: Kinds {
-            cash: 0,
-            deposits: 0,
-            guarantees: 0,
-            securities: 0,
-        },
+        received: NO_KINDS,
+        allocated: NO_KINDS,
         pledged: 0,
         margin: 0,
     }
@@ -33,23 +23,10 @@ pub fn opened_row(sort: u8, tm: u16) -> Row
     ensures { result ≡ opened_row sort tm }
 {
     Row {
-        sort: sort,
+        sort,
         live: true,
-        tm: tm,
-        received: Kinds {
-            cash: 0,
-            deposits: 0,
-            guarantees: 0,
-            securities: 0,
-        },
-        allocated: Kinds {
-            cash: 0,
-            deposits: 0,
-            guarantees: 0,
-            securities: 0,
-        },
-        pledged: 0,
-        margin: 0,
+        tm,
+        ..no_row()
     }
 }
 

@@ -21,16 +21,7 @@ pub enum Change {
 pub fn naming(account: u16, r: Record) -> Record
     ensures { result ≡ naming account r }
 {
-    let kinds = r.kinds;
-    Record {
-        serial: r.serial,
-        code: r.code,
-        named: r.named,
-        account,
-        kinds,
-        pledged: r.pledged,
-        margin: r.margin,
-    }
+    Record { account, ..r }
 }
 
 // What a record's verdict needs beside the row named: its mode, and what the other rows show.

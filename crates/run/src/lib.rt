@@ -12,7 +12,7 @@ ghost use Rattle.run.specs.Over.{over_ran};
 
 pub use records::Closing;
 use records::go;
-use steps::At;
+use steps::Lent;
 use steps::entry::{enter, leave};
 pub use table::Table;
 
@@ -32,50 +32,27 @@ fn run(t: Table, piece: &[u8], most: u64, room: &mut [u16], numbered: bool) -> E
     ensures value { result ≡ over_ran (run_of piece.now most (turned_back t) 0 0 0) }
     ensures room_after { room.new ≡ pick numbered (put_numbers_from piece.now most (turned_back t) 0 0 room.old) room.old }
 {
-    let mut sort = t.sort;
-    let mut live = t.live;
-    let mut tm = t.tm;
-    let mut amounts = t.amounts;
-    let mut needs = t.needs;
-    let mut numbers = t.numbers;
+    let marks = t.marks;
+    let words = t.amounts;
     let was = t.modes;
-    table::sizes(sort, live, tm, amounts);
-    table::modes::size(was);
-    table::needs::size(needs);
-    let entered = enter(&sort, &tm, &amounts, &was, t.count);
-    let mut kept = entered.kept;
-    let mut modes = entered.modes;
-    let mut excess = entered.excess;
-    let first = At {
-        count: t.count,
-        serial: t.serial,
-        next: t.next,
-        waiting: true,
+    let needs = t.needs;
+    let numbers = t.numbers;
+    let mut l = Lent {
+        marks,
+        words,
+        kept: [0; 256],
+        modes: was,
+        needs,
+        numbers,
+        excess: [0; 256],
     };
-    let went = go(
-        &mut sort,
-        &mut live,
-        &mut tm,
-        &mut amounts,
-        &mut kept,
-        &mut modes,
-        &mut needs,
-        &mut numbers,
-        &mut excess,
-        &was,
-        first,
-        piece,
-        most,
-        room,
-        numbered,
-    );
-    let closing = went.closing;
-    let at = went.at;
-    let table = leave(at, sort, live, tm, amounts, was, modes, needs, numbers);
+    let first = enter(&mut l, t.count, t.serial, t.next);
+    let went = go(&mut l, &was, first, piece, most, room, numbered);
+    let table = leave(&l, &was, went.at);
     Ended {
         table,
         place: went.place,
-        closing,
+        closing: went.closing,
         read: went.read,
         done: went.done,
     }

@@ -13,12 +13,13 @@ fn list(rt: &HostRuntime, word: Closing, table: Table) {
     }
 }
 
+// One shape with the main of `needs`: each names its own words and calls, and no crate is for what two mains share.
 fn main(rt: HostRuntime) {
     let help = streams::standard::help(
         &rt,
         b"standings: carries out the day file on standard input over a fresh book, or over the one in the file FROM (- for a fresh one); the closing line, then how each account stands, a line for each account\nusage: standings [FROM] < DAYFILE\n",
     );
-    if help.asked {
+    if help.is_some() {
         return;
     }
     if streams::standard::too_many_words(&rt, b"standings", 1) {
@@ -32,10 +33,9 @@ fn main(rt: HostRuntime) {
     if day.failed {
         return;
     }
-    let word = day.closing;
-    let closed = report::closing(&rt, b"standings", word, day.read, day.done);
+    let closed = report::closing(&rt, b"standings", day.closing, day.read, day.done);
     if closed.failed {
         return;
     }
-    list(&rt, word, day.table);
+    list(&rt, day.closing, day.table);
 }

@@ -92,6 +92,10 @@ module _ (s : List ℕ) (place : ℕ) where
     pub long-enough : place + 4 + 8 * ones named ≤ length s
     long-enough = rw (← set_at) (omega (arith, size-within))
 
+    -- the bytes of the form are there
+    pub whole-at : (place + 4 + 8 * ones named ≤ length s) × (named < 32)
+    whole-at = (long-enough, named-lt)
+
   -- ---- faults of the form
 
   bad-at : bad_amounts named (parts_from named (drop (place + 4) s)) ≡ bad_amounts (set_in l) (parts_in l)

@@ -1,5 +1,5 @@
 -- The records of a statement, held against the clients one by one: what a turn of the loop does.
-use mathlib.Core.Bool.{Bool, true, false, ◌&&◌}
+use mathlib.Core.Bool.{true, false, ◌&&◌}
 use mathlib.Core.List.{List, [], ◌∷◌}
 use mathlib.Core.Path.{◌≡◌, refl, sym, ap, ◌∙◌}
 use Prim.Native.Nat.{ℕ, suc, ◌+◌, ◌-◌, ◌≤◌, ◌<◌}
@@ -18,11 +18,12 @@ use Rattle.rows.specs.Rows.{row_at, number_at, is_live_client_of}
 use Rattle.rows.specs.Facts.{KindsWithin, InRange}
 use Rattle.rows.specs.Ranges.{ceilings}
 use Rattle.rows.specs.Inner.{Ranged}
-use Rattle.table.specs.Words.{word_at, kinds_from, marks_from, row_in}
+use Rattle.table.specs.declared.Table.{Table}
+use Rattle.table.specs.Words.{word_at, kinds_from, row_in, turned_back}
 use Rattle.table.proofs.Gathered.{row-in}
 use Rattle.statement.specs.Forms.{size_in, not_whole, form_faults}
-use Rattle.statement.specs.Statements.{total_of, clients_from, record_faults, surplus_faults, found, finding_from}
-use Rattle.statement.specs.Inner.{held_book, wanted_refusal}
+use Rattle.statement.specs.Statements.{total_of, clients_from, live_clients, record_faults, surplus_faults, found, finding_from}
+use Rattle.statement.specs.Inner.{wanted_refusal}
 use Rattle.statement.proofs.Reading.{form-clear, size-within}
 
 -- ---- the clients from a place on
@@ -114,33 +115,83 @@ module _ (b : Book) (k : ℕ) (s : List ℕ) (at : ℕ) where
   pub turn_end : length s ≤ at → found 0 0 0 ≡ finding_from b k [] (drop at s)
   turn_end h = sym (ap (finding_from b k []) (drop_of_length-le s h) ∙ nothing-more b k)
 
+-- ---- the loop over the rows
+
+-- the refusal of what stands at a place where row i's record is wanted
+abbrev pub asked_for : Book → ℕ → List ℕ → ℕ → ℕ
+asked_for b i s at = wanted_refusal s at (number_at b i) (total_of (row_at b i).received) (total_of (row_at b i).allocated)
+
+-- where it stands: what is left of the clients and of the bytes gives what all of them give
+pub record Stands (b : Book) (tm : ℕ) (s : List ℕ) (i index at : ℕ) : Type 0 where
+  pub inside : at ≤ length s
+  pub low : index ≤ i
+  pub gives : finding_from b 0 (live_clients b tm) s ≡ finding_from b index (clients_from b tm (b.count - i) i) (drop at s)
+
+module _ (b : Book) (tm : ℕ) (s : List ℕ) {i index at : ℕ} (h : Stands b tm s i index at) where
+  module _ (l : i < b.count) where
+    abbrev others : List ℕ
+    others = clients_from b tm (b.count - (i + 1)) (i + 1)
+
+    -- a row of no live client is passed
+    pub passed_by : is_live_client_of b tm i ≡ false → Stands b tm s (i + 1) index at
+    passed_by e = record {
+      inside = h.inside;
+      low = omega (arith, h.low);
+      gives = h.gives ∙ ap (λ is. finding_from b index is (drop at s)) (client-not b tm b.count i l e);
+    }
+
+    pub its-end : asked_for b i s at ≡ 0 → at + size_in (drop at s) ≤ length s
+    its-end = turn-within b 0 i [] s at h.inside
+
+    module _ (live : is_live_client_of b tm i ≡ true) where
+      next : finding_from b 0 (live_clients b tm) s ≡ finding_from b index (i ∷ others) (drop at s)
+      next = h.gives ∙ ap (λ is. finding_from b index is (drop at s)) (client-here b tm b.count i l live)
+
+      pub stops : {f : ℕ} → f ≡ asked_for b i s at → (f ≡ 0 → ⊥) → found f index (number_at b i) ≡ finding_from b 0 (live_clients b tm) s
+      stops e z = turn-refused b index i others s at h.inside _ e z ∙ sym next
+
+      pub goes_on : asked_for b i s at ≡ 0 → Stands b tm s (i + 1) (index + 1) (at + size_in (drop at s))
+      goes_on e = record {
+        inside = its-end e;
+        low = omega (arith, h.low);
+        gives = next ∙ turn_on b index i others s at h.inside e;
+      }
+
+  module _ (e : b.count ≤ i) where
+    last : finding_from b index [] (drop at s) ≡ finding_from b 0 (live_clients b tm) s
+    last = sym (h.gives ∙ ap (λ is. finding_from b index is (drop at s)) (client-end b tm b.count i e))
+
+    pub ends-surplus : at < length s → {f : ℕ} → f ≡ first (surplus_faults (drop at s)) → found f index 0 ≡ finding_from b 0 (live_clients b tm) s
+    ends-surplus l e = turn-surplus b index s at l _ e ∙ last
+
+    pub ends-clear : length s ≤ at → found 0 0 0 ≡ finding_from b 0 (live_clients b tm) s
+    ends-clear l = turn_end b index s at l ∙ last
+
 -- ---- a row's words
 
-module _ (count : ℕ) (sort : List ℕ) (live : List Bool) (tm w numbers : List ℕ) (ranged : Ranged (held_book count sort live tm w numbers)) (i : ℕ) (l : i < count) where
-  pub row_below : i < 256
-  row_below = omega (arith, ranged.most)
+-- whether it is a client's
+pub client-in : (t : Table) (tm i : ℕ) → i < 256
+    → (eqb (get_or t.marks.sort i 0) 2 && eqb (get_or t.marks.tm i 0) tm && get_or t.marks.live i false) ≡ is_live_client_of (turned_back t) tm i
+client-in t tm i l = rw (row-in t.marks t.amounts i l) refl
 
-  the_row : row_at (held_book count sort live tm w numbers) i ≡ row_in (marks_from sort live tm) w i
-  the_row = row-in (marks_from sort live tm) w i row_below
+module _ (t : Table) (ranged : Ranged (turned_back t)) (i : ℕ) (l : i < t.count) where
+  the_row : row_at (turned_back t) i ≡ row_in t.marks t.amounts i
+  the_row = row-in t.marks t.amounts i (omega (arith, ranged.most))
 
-  -- whether it is a client's
-  pub client-in : (t : ℕ) → (eqb (get_or sort i 0) 2 && eqb (get_or tm i 0) t && get_or live i false) ≡ is_live_client_of (held_book count sort live tm w numbers) t i
-  client-in t = rw the_row refl
-
-  range : InRange (row_in (marks_from sort live tm) w i)
+  range : InRange (row_in t.marks t.amounts i)
   range = rw the_row at (ranged.ranges i l)
 
-  pub received-within : KindsWithin (kinds_from (λ j. word_at w j i) 0) ceilings
+  pub received-within : KindsWithin (kinds_from (λ j. word_at t.amounts j i) 0) ceilings
   received-within = range.received
 
-  pub allocated-within : KindsWithin (kinds_from (λ j. word_at w j i) 4) ceilings
+  pub allocated-within : KindsWithin (kinds_from (λ j. word_at t.amounts j i) 4) ceilings
   allocated-within =
       let r = range.received in
       let a = range.allocated in
       (omega (arith, r.0, a.0), omega (arith, r.1, a.1), omega (arith, r.2, a.2), omega (arith, r.3, a.3))
 
   -- what a turn of the loop reads, against the book's totals
-  pub wanted_by : (s : List ℕ) (at number : ℕ)
-      → wanted_refusal s at number (total_of (kinds_from (λ j. word_at w j i) 0)) (total_of (kinds_from (λ j. word_at w j i) 4))
-      ≡ wanted_refusal s at number (total_of (row_at (held_book count sort live tm w numbers) i).received) (total_of (row_at (held_book count sort live tm w numbers) i).allocated)
-  wanted_by s at number = sym (ap (λ r. wanted_refusal s at number (total_of r.received) (total_of r.allocated)) the_row)
+  pub wanted_by : (s : List ℕ) (at : ℕ)
+      → wanted_refusal s at (number_at (turned_back t) i) (total_of (kinds_from (λ j. word_at t.amounts j i) 0)) (total_of (kinds_from (λ j. word_at t.amounts j i) 4))
+      ≡ asked_for (turned_back t) i s at
+  wanted_by s at = sym (ap (λ r. wanted_refusal s at (number_at (turned_back t) i) (total_of r.received) (total_of r.allocated)) the_row)

@@ -1,9 +1,7 @@
 -- Only for internal functions: no promise of a public call cites it.
-use Rattle.std.specs.Prelude.{List, [], Bool, ℕ, ◌≤◌, leb, length, drop}
+use Rattle.std.specs.Prelude.{List, ℕ, ◌≤◌, leb, length, drop}
 use Rattle.sums.specs.Choice.{pick}
 use Rattle.sums.specs.Table.{first}
-use Rattle.rows.specs.declared.Book.{Book}
-use Rattle.table.specs.Words.{marks_from, book_from}
 use Rattle.statement.specs.declared.records.Parts.{Parts}
 use Rattle.statement.specs.Forms.{four_ceilings}
 use Rattle.statement.specs.Statements.{faults_for}
@@ -15,10 +13,6 @@ pub record Fits (p : Parts) : Type 0 where
   pub placed : p.placed ≤ four_ceilings
   pub held : p.held ≤ four_ceilings
   pub lodged : p.lodged ≤ four_ceilings
-
--- the book as a statement sees it: neither its serial, its modes and kept needs nor its next number
-abbrev pub held_book : ℕ → List ℕ → List Bool → List ℕ → List ℕ → List ℕ → Book
-held_book count sort live tm w numbers = book_from count 0 (marks_from sort live tm) w [] [] 0 numbers
 
 -- the refusal of what stands at a place where a client's record is wanted
 abbrev pub wanted_refusal : List ℕ → ℕ → ℕ → ℕ → ℕ → ℕ

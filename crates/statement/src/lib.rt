@@ -15,6 +15,7 @@ mod records;
 pub use table::Table;
 
 // What a check finds: the refusal or 0, the place of the record at fault among the statement's records, counted from 0, and the number of the account wanted there, 0 where none is.
+// No Result: `statement_finding` and docs/API.md say all three fields, with a refusal too.
 #[derive(Clone, Copy)]
 pub struct Finding {
     pub refusal: u8,
@@ -36,24 +37,19 @@ fn found(refusal: u8, index: usize, wanted: u16) -> Finding
 pub fn check(t: Table, tm: u16, statement: &[u8]) -> Finding
     ensures { result ≡ statement_finding (turned_back t) tm statement.now }
 {
-    let numbers = t.numbers;
-    if !table_sound(
-        &t.sort, &t.live, &t.tm, &t.amounts, &t.modes, &t.needs, numbers, t.count, t.next,
-    ) {
+    if !table_sound(&t) {
         return found(1, 0, 0);
     }
-    let place = place_among(&numbers, t.count, tm);
+    let place = place_among(&t.numbers, t.count, tm);
     if place >= t.count {
         return found(7, 0, 0);
     }
     let i = place as usize;
-    if !t.live[i] {
+    if !t.marks.live[i] {
         return found(7, 0, 0);
     }
-    if t.sort[i] != 1 {
+    if t.marks.sort[i] != 1 {
         return found(8, 0, 0);
     }
-    records_finding(
-        &t.sort, &t.live, &t.tm, &t.amounts, &t.numbers, t.count, place, statement,
-    )
+    records_finding(&t, place, statement)
 }

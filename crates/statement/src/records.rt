@@ -1,4 +1,5 @@
 // One record of a statement: its form, and its amounts held against the book's.
+// Refusals stay the documents' numbers, 0 for none: `wanted_refusal` gives them so.
 ghost use Rattle.std.specs.Prelude.{◌≡◌, ◌+◌, ◌*◌, ◌≤◌, ◌<◌, length, drop};
 ghost use Rattle.std.specs.Int.Count.{ones};
 ghost use Rattle.sums.specs.Table.{first};

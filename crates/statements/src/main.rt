@@ -9,7 +9,7 @@ ghost use Rattle.statements.specs.Printed.{finding_text};
 use feed::Table;
 use streams::standard::{read_input, write_output};
 use streams::{Moved, words};
-use text::decimals::{Decimal, number_of};
+use text::decimals::number_of;
 
 mod printed;
 
@@ -39,20 +39,19 @@ fn run(rt: &HostRuntime, t: Table, tm: u16) {
     if read.failed {
         return;
     }
-    let n = read.count;
-    tell(rt, t, tm, &room[..n]);
+    tell(rt, t, tm, &room[..read.count]);
 }
 
 fn from_book(rt: &HostRuntime, tm: u64) {
-    if 65_535 < tm {
+    let Ok(tm) = u16::try_from(tm) else {
         bad_words(rt);
         return;
-    }
+    };
     let from = feed::books::from_word(rt, b"statements", 2);
     if from.failed {
         return;
     }
-    run(rt, from.table, tm as u16);
+    run(rt, from.table, tm);
 }
 
 fn from_words(rt: &HostRuntime) {
@@ -63,8 +62,8 @@ fn from_words(rt: &HostRuntime) {
     let mut word = words::blank();
     let n = words::put_or_none(rt, 1, &mut word);
     match number_of(&word[..n]) {
-        Decimal::Is(tm) => from_book(rt, tm),
-        Decimal::No => bad_words(rt),
+        Some(tm) => from_book(rt, tm),
+        None => bad_words(rt),
     }
 }
 
@@ -73,7 +72,7 @@ fn main(rt: HostRuntime) {
         &rt,
         b"statements: checks a TM's statement on standard input against the book in the file FROM; prints 0 where it is accepted, and otherwise the refusal, the record at fault, counted from 0, and the account wanted there\nusage: statements TM FROM < STATEMENT\n",
     );
-    if help.asked {
+    if help.is_some() {
         return;
     }
     if streams::standard::too_many_words(&rt, b"statements", 2) {

@@ -23,7 +23,7 @@ pub(crate) fn put_finding(room: &mut [u8], finding: Finding) -> usize
     ensures { Puts room.old 0 (finding_text finding) room.new result }
 {
     if finding.refusal < 24 {
-        return put_number(room, 0, finding.refusal as u64, b'\n');
+        return put_number(room, 0, u64::from(finding.refusal), b'\n');
     }
     let p = put_refused(room, 0, finding.refusal, finding.index, b':');
     put_wanted(room, p, finding.wanted)

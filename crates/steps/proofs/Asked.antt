@@ -8,7 +8,7 @@ use Rattle.rows.specs.Facts.{KindsWithin}
 use Rattle.rows.specs.Ranges.{ceilings}
 use Rattle.dayfile.specs.declared.Record.{Record}
 use Rattle.rules.specs.Refusals.{is_opening}
-use Rattle.table.specs.Words.{Marks}
+use Rattle.table.specs.declared.Marks.{Marks}
 use Rattle.codes.specs.declared.asked.Asked.{Asked}
 use Rattle.codes.specs.declared.asked.Asked.TheVariants.{Refused, Bare, One, Four}
 use Rattle.codes.specs.Own.{early_number, alive_in, deemed_under_in, Held, Answered, Opens, numbers_with, Retires}

@@ -30,7 +30,8 @@ use Rattle.rules.proofs.Faults.{amounts-in}
 use Rattle.rules.proofs.WhatIsBeside.{IsBeside, refusal_by, beside-is, refusal-beside}
 use Rattle.rules.proofs.SoundChange.{change-rows}
 use Rattle.rules.proofs.Moves.{beside-by-deemed}
-use Rattle.table.specs.Words.{Marks, word_at, row_in, book_from}
+use Rattle.table.specs.declared.Marks.{Marks}
+use Rattle.table.specs.Words.{word_at, row_in, book_from}
 use Rattle.table.proofs.Gathered.{row-in}
 use Rattle.table.specs.Inner.{Anew}
 use Rattle.steps.specs.Steps.{Ready, Decided, stayed, went_on, gone_with}

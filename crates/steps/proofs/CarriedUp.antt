@@ -5,7 +5,9 @@ use Rattle.sums.specs.Choice.{pick}
 use Rattle.rows.specs.declared.Rule.TheVariants.{New}
 use Rattle.rows.proofs.Counted.{counted-most}
 use Rattle.rows.specs.Modes.{mode_after}
-use Rattle.table.specs.Words.{Marks, word_at}
+use Rattle.table.specs.declared.Marks.{Marks}
+use Rattle.table.specs.Words.{word_at}
+use Rattle.steps.specs.declared.Lent.{Lent}
 use Rattle.steps.specs.declared.following.Due.{Due}
 use Rattle.steps.specs.Steps.{modes_in}
 use Rattle.steps.specs.Dues.{Small, Fits, Steady, Stands, Following, Risen, Lifted, Followed, collateral_in, due_of, excess_risen, due_at, due_risen, cm, tm, client, cp}
@@ -31,7 +33,25 @@ module _ {A : Type 0} (l : List A) (d : A) where
   put-size true i v = length-set l i v
   put-size false i v = refl
 
-module _ (m : Marks) (w kept needs excess : List ℕ) (waiting : Bool) (was modes : List Bool) (i m0 : ℕ) (h : Following m w kept needs excess (modes_in waiting was modes) modes i m0) where
+module _ (lent : Lent) (waiting : Bool) (was : List Bool) (i m0 : ℕ) (h : Following lent (modes_in waiting was lent.modes) i m0) where
+  abbrev m : Marks
+  m = lent.marks
+
+  abbrev w : List ℕ
+  w = lent.words
+
+  abbrev kept : List ℕ
+  kept = lent.kept
+
+  abbrev modes : List Bool
+  modes = lent.modes
+
+  abbrev needs : List ℕ
+  needs = lent.needs
+
+  abbrev excess : List ℕ
+  excess = lent.excess
+
   abbrev before : List Bool
   before = modes_in waiting was modes
 
@@ -54,8 +74,11 @@ module _ (m : Marks) (w kept needs excess : List ℕ) (waiting : Bool) (was mode
   abbrev pub modes1 : List Bool
   modes1 = pick (leb (get_or m.sort i 0) 1) (set modes i (mode_after (10 * word_at w 9 i + get_or excess i 0) (collateral_in w i) (get_or before i false))) modes
 
+  abbrev pub put1 : Lent
+  put1 = record lent { kept = kept1; needs = needs1; modes = modes1 }
+
   abbrev Comes : List ℕ → List ℕ → List Bool → Type 0
-  Comes n e k = Since m w kept needs excess before modes i m0 h n e k
+  Comes n e k = Since lent before i m0 h n e k
 
   need-aside : (j : ℕ) → (j ≡ i → ⊥) → get_or needs1 j 0 ≡ get_or needs j 0
   need-aside j n = aside needs 0 (leb (get_or m.sort i 0) 1) i j _ n
@@ -69,7 +92,7 @@ module _ (m : Marks) (w kept needs excess : List ℕ) (waiting : Bool) (was mode
   before-aside : (j : ℕ) → (j ≡ i → ⊥) → get_or (modes_in waiting was modes1) j false ≡ get_or before j false
   before-aside j n = mode-aside waiting was modes modes1 j (own-aside j n)
 
-  steady-aside : (j : ℕ) → (j ≡ i → ⊥) → Steady w kept needs excess before modes j → Steady w kept1 needs1 excess (modes_in waiting was modes1) modes1 j
+  steady-aside : (j : ℕ) → (j ≡ i → ⊥) → Steady lent before j → Steady put1 (modes_in waiting was modes1) j
   steady-aside j n s = record {
     fits = record {
       inside = s.fits.inside;
@@ -93,77 +116,77 @@ module _ (m : Marks) (w kept needs excess : List ℕ) (waiting : Bool) (was mode
   come-small = record { plain = omega (arith, h.margin, h.under); tenths = omega (arith, h.margin, h.over) }
 
   -- who answers for it is in step
-  top-steady : (i ≡ 0 → ⊥) → Steady w kept needs excess before modes 0
+  top-steady : (i ≡ 0 → ⊥) → Steady lent before 0
   top-steady n = by h.stands
     where
-      by : Stands m w kept needs excess before modes i → Steady w kept needs excess before modes 0
+      by : Stands lent before i → Steady lent before 0
       by (cm e) = absurd (n e)
       by (tm _ e z s) = s
       by (client _ e p q f k g s) = s
       by (cp _ e z k s) = s
 
   -- as far as the CM
-  rises : (i ≡ 0 → ⊥) → place ≡ 0 → Rises m w kept needs excess before modes i m0 h
+  rises : (i ≡ 0 → ⊥) → place ≡ 0 → Rises lent before i m0 h
   rises n z = by h.stands
     where
-      by : Stands m w kept needs excess before modes i → Rises m w kept needs excess before modes i m0 h
+      by : Stands lent before i → Rises lent before i m0 h
       by (cm e) = absurd (n e)
-      by (tm _ e _ s) = since-tm m w kept needs excess before modes i m0 h n z s e
+      by (tm _ e _ s) = since-tm lent before i m0 h n z s e
       by (client _ e p q f k g s) = absurd (omega arith)
-      by (cp _ e _ k s) = since-cp m w kept needs excess before modes i m0 h n z s e k
+      by (cp _ e _ k s) = since-cp lent before i m0 h n z s e k
 
   -- by way of its TM
-  tm-steady : (i ≡ 0 → ⊥) → (place ≡ 0 → ⊥) → (0 < place) × (place < i) × Steady w kept needs excess before modes place
+  tm-steady : (i ≡ 0 → ⊥) → (place ≡ 0 → ⊥) → (0 < place) × (place < i) × Steady lent before place
   tm-steady n y = by h.stands
     where
-      by : Stands m w kept needs excess before modes i → (0 < place) × (place < i) × Steady w kept needs excess before modes place
+      by : Stands lent before i → (0 < place) × (place < i) × Steady lent before place
       by (cm e) = absurd (n e)
       by (tm _ e z s) = absurd (y z)
       by (client _ e p q f k g s) = (p, q, g)
       by (cp _ e z k s) = absurd (y z)
 
-  lifted : (i ≡ 0 → ⊥) → (place ≡ 0 → ⊥) → Lifts m w kept needs excess before modes i m0 h
+  lifted : (i ≡ 0 → ⊥) → (place ≡ 0 → ⊥) → Lifts lent before i m0 h
   lifted n y = by h.stands
     where
-      by : Stands m w kept needs excess before modes i → Lifts m w kept needs excess before modes i m0 h
+      by : Stands lent before i → Lifts lent before i m0 h
       by (cm e) = absurd (n e)
       by (tm _ e z s) = absurd (y z)
-      by (client _ e p q f k g s) = since-client m w kept needs excess before modes i m0 h n p q e f k g s
+      by (client _ e p q f k g s) = since-client lent before i m0 h n p q e f k g s
       by (cp _ e z k s) = absurd (y z)
 
   -- nothing moves above it
   stays : (i ≡ 0) ⊎ (gone ≡ come) → Comes needs1 excess modes1
-  stays (inl e) = since-own m w kept needs excess before modes i m0 h e
+  stays (inl e) = since-own lent before i m0 h e
   stays (inr u) = by h.stands
     where
       beside : (i ≡ 0 → ⊥) → 0 ≡ i → ⊥
       beside n q = n (sym q)
 
-      alone : (n : i ≡ 0 → ⊥) → place ≡ 0 → Steady w kept needs excess before modes 0 → Comes needs1 excess modes1
+      alone : (n : i ≡ 0 → ⊥) → place ≡ 0 → Steady lent before 0 → Comes needs1 excess modes1
       alone n z s =
           let r = rises n z in (
-            unmoved needs1 0 0 _ (need-stays w kept needs excess before modes 0 s gone come u ∙ sym (need-aside 0 (beside n))) ∙ r.0,
-            unmoved excess 0 0 _ (excess-stays w kept needs excess before modes 0 s gone come u) ∙ r.1,
-            unmoved modes1 false 0 _ (mode-stays w kept needs excess before modes 0 s gone come u ∙ sym (own-aside 0 (beside n))) ∙ r.2,
+            unmoved needs1 0 0 _ (need-stays lent before 0 s gone come u ∙ sym (need-aside 0 (beside n))) ∙ r.0,
+            unmoved excess 0 0 _ (excess-stays lent before 0 s gone come u) ∙ r.1,
+            unmoved modes1 false 0 _ (mode-stays lent before 0 s gone come u ∙ sym (own-aside 0 (beside n))) ∙ r.2,
           )
 
-      by : Stands m w kept needs excess before modes i → Comes needs1 excess modes1
-      by (cm e) = since-own m w kept needs excess before modes i m0 h e
+      by : Stands lent before i → Comes needs1 excess modes1
+      by (cm e) = since-own lent before i m0 h e
       by (tm n e z s) = alone n z s
       by (cp n e z k s) = alone n z s
       by (client n e p q f k g s) =
           let r = lifted n (λ z. omega arith) in
           let apart : place ≡ i → ⊥ = λ z. omega arith in
-          let same : due_at w kept needs excess place ≡ due_risen w kept needs excess place gone come =
-          sym (ap₂ (λ v y. due_of (word_at w 9 place) v y (get_or kept place 0)) (ap (λ (y : Due). get_or needs place 0 - word_at w 9 place + come.plain - y.plain) u ∙ no_more (get_or needs place 0 - word_at w 9 place) come.plain) (excess-stays w kept needs excess before modes place g gone come u)) in (
-            unmoved-two needs1 0 place 0 _ _ (need-stays w kept needs excess before modes place g gone come u ∙ sym (need-aside place apart)) (need-stays w kept needs excess before modes 0 s _ _ same ∙ sym (need-aside 0 (beside n))) ∙ r.0,
-            unmoved-two excess 0 place 0 _ _ (excess-stays w kept needs excess before modes place g gone come u) (excess-stays w kept needs excess before modes 0 s _ _ same) ∙ r.1,
-            unmoved-two modes1 false place 0 _ _ (mode-stays w kept needs excess before modes place g gone come u ∙ sym (own-aside place apart)) (mode-stays w kept needs excess before modes 0 s _ _ same ∙ sym (own-aside 0 (beside n))) ∙ r.2,
+          let same : due_at lent place ≡ due_risen lent place gone come =
+          sym (ap₂ (λ v y. due_of (word_at w 9 place) v y (get_or kept place 0)) (ap (λ (y : Due). get_or needs place 0 - word_at w 9 place + come.plain - y.plain) u ∙ no_more (get_or needs place 0 - word_at w 9 place) come.plain) (excess-stays lent before place g gone come u)) in (
+            unmoved-two needs1 0 place 0 _ _ (need-stays lent before place g gone come u ∙ sym (need-aside place apart)) (need-stays lent before 0 s _ _ same ∙ sym (need-aside 0 (beside n))) ∙ r.0,
+            unmoved-two excess 0 place 0 _ _ (excess-stays lent before place g gone come u) (excess-stays lent before 0 s _ _ same) ∙ r.1,
+            unmoved-two modes1 false place 0 _ _ (mode-stays lent before place g gone come u ∙ sym (own-aside place apart)) (mode-stays lent before 0 s _ _ same ∙ sym (own-aside 0 (beside n))) ∙ r.2,
           )
 
   -- from the lists with its own place put
-  goes-up : (i ≡ 0 → ⊥) → place ≡ 0 → (n2 e2 : List ℕ) (m2 : List Bool) → Risen w kept1 needs1 excess (modes_in waiting was modes1) modes1 0 gone come n2 e2 m2 → Comes n2 e2 m2
-  goes-up n z n2 e2 m2 k =
+  goes-up : (i ≡ 0 → ⊥) → place ≡ 0 → (to : Lent) → Risen put1 (modes_in waiting was modes1) 0 gone come to → Comes to.needs to.excess to.modes
+  goes-up n z to k =
       let r = rises n z in
       let y : 0 ≡ i → ⊥ = λ q. n (sym q) in (
         k.need ∙ ap (λ v. set needs1 0 (word_at w 9 0 + (v - word_at w 9 0 + come.plain - gone.plain))) (need-aside 0 y) ∙ r.0,
@@ -171,8 +194,8 @@ module _ (m : Marks) (w kept needs excess : List ℕ) (waiting : Bool) (was mode
         k.mode ∙ ap₂ (λ v u. set modes1 0 (mode_after (10 * word_at w 9 0 + excess_risen excess 0 gone come) v u)) (kept-aside 0 y) (before-aside 0 y) ∙ r.2,
       )
 
-  goes_further : (i ≡ 0 → ⊥) → (place ≡ 0 → ⊥) → (n2 e2 : List ℕ) (m2 : List Bool) → Lifted w kept1 needs1 excess (modes_in waiting was modes1) modes1 place gone come n2 e2 m2 → Comes n2 e2 m2
-  goes_further n z n2 e2 m2 k =
+  goes_further : (i ≡ 0 → ⊥) → (place ≡ 0 → ⊥) → (to : Lent) → Lifted put1 (modes_in waiting was modes1) place gone come to → Comes to.needs to.excess to.modes
+  goes_further n z to k =
       let r = lifted n z in
       let y : 0 ≡ i → ⊥ = λ q. n (sym q) in
       let g = tm-steady n z in
@@ -183,42 +206,37 @@ module _ (m : Marks) (w kept needs excess : List ℕ) (waiting : Bool) (was mode
       )
 
   -- the same for what the function has at hand then
-  module _ {k1 n1 : List ℕ} {m1 : List Bool} {g d : Due} (ek : k1 ≡ kept1) (en : n1 ≡ needs1) (em : m1 ≡ modes1) (eg : g ≡ gone) (ed : d ≡ come) where
-    steady-put : (j : ℕ) → (j ≡ i → ⊥) → Steady w kept needs excess before modes j → Steady w k1 n1 excess (modes_in waiting was m1) m1 j
-    steady-put j n s = rw (ek, en, em) (steady-aside j n s)
+  module _ {k : Lent} {g d : Due} (e1 : k ≡ put1) (eg : g ≡ gone) (ed : d ≡ come) where
+    steady-put : (j : ℕ) → (j ≡ i → ⊥) → Steady lent before j → Steady k (modes_in waiting was k.modes) j
+    steady-put j n s = rw e1 (steady-aside j n s)
 
-    pub top-put : (i ≡ 0 → ⊥) → Steady w k1 n1 excess (modes_in waiting was m1) m1 0
+    pub top-put : (i ≡ 0 → ⊥) → Steady k (modes_in waiting was k.modes) 0
     top-put n = steady-put 0 (λ q. n (sym q)) (top-steady n)
 
-    pub its-put : (i ≡ 0 → ⊥) → {t1 : ℕ} → t1 ≡ place → (t1 ≡ 0 → ⊥) → Fits 100_000_000_000_000_000 w k1 n1 excess t1 × (0 < t1)
+    pub its-put : (i ≡ 0 → ⊥) → {t1 : ℕ} → t1 ≡ place → (t1 ≡ 0 → ⊥) → Fits 100_000_000_000_000_000 k t1 × (0 < t1)
     its-put n {t1} e z =
         let g = tm-steady n (λ q. z (e ∙ q)) in
-        let f : Fits 100_000_000_000_000_000 w k1 n1 excess place = (steady-put place (λ q. omega (arith, g.1)) g.2).fits in
+        let f : Fits 100_000_000_000_000_000 k place = (steady-put place (λ q. omega (arith, g.1)) g.2).fits in
         (rw e f, omega (arith, e, g.0))
 
     pub small_put : Small 200_000_000_000_000_000 d
     small_put = rw ed come-small
 
-    pub many-put : length modes ≡ 256 → length m1 ≡ 256
-    many-put l = rw em (put-size modes false (leb (get_or m.sort i 0) 1) i _ ∙ l)
-
-    pub stay : (i ≡ 0) ⊎ (g ≡ d) → Followed m w kept needs excess before modes i m0 k1 n1 excess m1
-    stay q =
-        let r = stays (by q) in
-        record { own = ek; need = en ∙ r.0; over = r.1; mode = em ∙ r.2 }
+    pub stay : (i ≡ 0) ⊎ (g ≡ d) → Followed lent before i m0 k
+    stay q = let r = stays (by q) in rw e1 record { own = refl; need = r.0; over = r.1; mode = r.2; rest = refl }
       where
         by : (i ≡ 0) ⊎ (g ≡ d) → (i ≡ 0) ⊎ (gone ≡ come)
         by (inl e) = inl e
         by (inr e) = inr (sym eg ∙ e ∙ ed)
 
-    pub up : (i ≡ 0 → ⊥) → place ≡ 0 → {n2 e2 : List ℕ} {m2 : List Bool} → Risen w k1 n1 excess (modes_in waiting was m1) m1 0 g d n2 e2 m2
-        → Followed m w kept needs excess before modes i m0 k1 n2 e2 m2
-    up n z {n2} {e2} {m2} k =
-        let r = goes-up n z n2 e2 m2 (rw (ek, en, em, eg, ed) at k) in
-        record { own = ek; need = r.0; over = r.1; mode = r.2 }
+    pub up : (i ≡ 0 → ⊥) → place ≡ 0 → {to : Lent} → Risen k (modes_in waiting was k.modes) 0 g d to → Followed lent before i m0 to
+    up n z {to} h =
+        let k' = rw (e1, eg, ed) at h in
+        let r = goes-up n z to k' in
+        record { own = ap (λ q. q.kept) k'.rest; need = r.0; over = r.1; mode = r.2; rest = k'.rest ∙ ap (λ v. record lent { kept = v; modes = to.modes; needs = to.needs; excess = to.excess }) (sym (ap (λ q. q.kept) k'.rest)) }
 
-    pub further : (i ≡ 0 → ⊥) → {t1 : ℕ} → t1 ≡ place → (t1 ≡ 0 → ⊥) → {n2 e2 : List ℕ} {m2 : List Bool} → Lifted w k1 n1 excess (modes_in waiting was m1) m1 t1 g d n2 e2 m2
-        → Followed m w kept needs excess before modes i m0 k1 n2 e2 m2
-    further n e z {n2} {e2} {m2} k =
-        let r = goes_further n (λ q. z (e ∙ q)) n2 e2 m2 (rw (ek, en, em, eg, ed, e) at k) in
-        record { own = ek; need = r.0; over = r.1; mode = r.2 }
+    pub further : (i ≡ 0 → ⊥) → {t1 : ℕ} → t1 ≡ place → (t1 ≡ 0 → ⊥) → {to : Lent} → Lifted k (modes_in waiting was k.modes) t1 g d to → Followed lent before i m0 to
+    further n e z {to} h =
+        let k' = rw (e1, eg, ed, e) at h in
+        let r = goes_further n (λ q. z (e ∙ q)) to k' in
+        record { own = ap (λ q. q.kept) k'.rest; need = r.0; over = r.1; mode = r.2; rest = k'.rest ∙ ap (λ v. record lent { kept = v; modes = to.modes; needs = to.needs; excess = to.excess }) (sym (ap (λ q. q.kept) k'.rest)) }

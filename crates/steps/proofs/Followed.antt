@@ -8,8 +8,10 @@ use Rattle.rows.specs.View.{deemed_of}
 use Rattle.rows.specs.DeemedUnder.{client_due, member_due, deemed_under_tm, deemed_under_cm}
 use Rattle.rows.specs.Modes.{mode_after}
 use Rattle.rows.specs.Inner.{account_as}
-use Rattle.table.specs.Words.{Marks, word_at}
+use Rattle.table.specs.declared.Marks.{Marks}
+use Rattle.table.specs.Words.{word_at}
 use Rattle.codes.specs.Own.{account_in}
+use Rattle.steps.specs.declared.Lent.{Lent}
 use Rattle.steps.specs.declared.following.Due.{Due}
 use Rattle.steps.specs.Looks.{Past, look_in, excess_since, looked_since, deemed_under_since, needed_since}
 use Rattle.steps.specs.Dues.{collateral_in, due_of, Steady, Bare, Following, need_risen, excess_risen, mode_risen, due_at, due_risen, margin_before, past_in}
@@ -93,7 +95,25 @@ module _ {A : Type 0} (l : List A) (d : A) (i t : ℕ) where
   same : t ≡ 0 → (b c : A) → c ≡ get_or l 0 d → l ≡ set (set l t b) 0 c
   same z b c f = sym (rw (z, set-set l 0 b c, f) (set-get_or l 0 d))
 
-module _ (m : Marks) (w kept needs excess : List ℕ) (before modes : List Bool) (i m0 : ℕ) (h : Following m w kept needs excess before modes i m0) where
+module _ (lent : Lent) (before : List Bool) (i m0 : ℕ) (h : Following lent before i m0) where
+  abbrev m : Marks
+  m = lent.marks
+
+  abbrev w : List ℕ
+  w = lent.words
+
+  abbrev kept : List ℕ
+  kept = lent.kept
+
+  abbrev modes : List Bool
+  modes = lent.modes
+
+  abbrev needs : List ℕ
+  needs = lent.needs
+
+  abbrev excess : List ℕ
+  excess = lent.excess
+
   abbrev t : ℕ
   t = get_or m.tm i 0
 
@@ -178,7 +198,7 @@ module _ (m : Marks) (w kept needs excess : List ℕ) (before modes : List Bool)
   abbrev pub Rises : Type 0
   Rises = Since (set own_needs 0 (need_risen w needs 0 old new)) (set excess 0 (excess_risen excess 0 old new)) (set own_modes 0 (mode_risen w kept excess before 0 old new))
 
-  module _ (n : i ≡ 0 → ⊥) (z : t ≡ 0) (s : Steady w kept needs excess before modes 0)
+  module _ (n : i ≡ 0 → ⊥) (z : t ≡ 0) (s : Steady lent before 0)
       (plain : deemed_under_cm (a false) (b false) under (c false) x.clients x.all ≡ x.all + new.plain - old.plain)
       (tenths : deemed_under_cm (a true) (b true) (get_or excess i 0) (c true) (get_or excess t 0) (get_or excess 0 0) ≡ excess_risen excess 0 old new) where
     top-need : need_risen w needs 0 old new ≡ (account_in m w 0).margin + (deemed_under_since m w x).cm
@@ -200,7 +220,7 @@ module _ (m : Marks) (w kept needs excess : List ℕ) (before modes : List Bool)
           ap (λ l. set l 0 (mode_risen w kept excess before 0 old new)) (pick_yes _ _ _ has) ∙ over modes false i t z _ _ _ _ _ (sym (look-tm i _ n e (ap (λ l. get_or l i 0) (sym list-is) ∙ get_or-set_other excess 0 i _ 0 n))) top-mode,
         )
 
-    by-cp : get_or m.sort i 0 ≡ 3 → Bare needs excess modes i → Rises
+    by-cp : get_or m.sort i 0 ≡ 3 → Bare lent i → Rises
     by-cp e k =
         let has : leb (get_or m.sort i 0) 1 ≡ false = rw e in (
           ap (λ l. set l 0 (need_risen w needs 0 old new)) (pick_no _ _ _ has) ∙ alone needs 0 i t z _ _ _ _ (rw e (sym k.need)) top-need,
@@ -208,7 +228,7 @@ module _ (m : Marks) (w kept needs excess : List ℕ) (before modes : List Bool)
           ap (λ l. set l 0 (mode_risen w kept excess before 0 old new)) (pick_no _ _ _ has) ∙ alone modes false i t z _ _ _ _ (look_none 3 n e refl ∙ sym k.mode) top-mode,
         )
 
-  module _ (n : i ≡ 0 → ⊥) (z : t ≡ 0) (s : Steady w kept needs excess before modes 0) where
+  module _ (n : i ≡ 0 → ⊥) (z : t ≡ 0) (s : Steady lent before 0) where
     its-top : get_or m.sort t 0 ≡ 0
     its-top = ap (λ j. get_or m.sort j 0) z ∙ h.top.0
 
@@ -217,17 +237,17 @@ module _ (m : Marks) (w kept needs excess : List ℕ) (before modes : List Bool)
         by-tm n z s (cm-of-tm (a false) (b false) (c false) under x.clients x.all e e its-top)
         (cm-of-tm (a true) (b true) (c true) (get_or excess i 0) (get_or excess t 0) (get_or excess 0 0) e e its-top) e
 
-    pub since-cp : get_or m.sort i 0 ≡ 3 → Bare needs excess modes i → Rises
+    pub since-cp : get_or m.sort i 0 ≡ 3 → Bare lent i → Rises
     since-cp e k =
         by-cp n z s (cm-of-cp (a false) (b false) (c false) under x.clients x.all e e its-top (rw k.need (omega arith)))
         (cm-of-cp (a true) (b true) (c true) (get_or excess i 0) (get_or excess t 0) (get_or excess 0 0) e e its-top k.over) e k
 
   -- a client's
   abbrev its : Due
-  its = due_at w kept needs excess t
+  its = due_at lent t
 
   abbrev after : Due
-  after = due_risen w kept needs excess t old new
+  after = due_risen lent t old new
 
   abbrev pub Lifts : Type 0
   Lifts =
@@ -235,8 +255,8 @@ module _ (m : Marks) (w kept needs excess : List ℕ) (before modes : List Bool)
       (set (set excess t (excess_risen excess t old new)) 0 (excess_risen excess 0 its after))
       (set (set own_modes t (mode_risen w kept excess before t old new)) 0 (mode_risen w kept excess before 0 its after))
 
-  module _ (n : i ≡ 0 → ⊥) (p : 0 < t) (q : t < i) (e : get_or m.sort i 0 ≡ 2) (f : get_or m.sort t 0 ≡ 1) (k : Bare needs excess modes i)
-      (g : Steady w kept needs excess before modes t) (s : Steady w kept needs excess before modes 0) where
+  module _ (n : i ≡ 0 → ⊥) (p : 0 < t) (q : t < i) (e : get_or m.sort i 0 ≡ 2) (f : get_or m.sort t 0 ≡ 1) (k : Bare lent i)
+      (g : Steady lent before t) (s : Steady lent before 0) where
     before-top : margin_before w i m0 0 ≡ word_at w 9 0
     before-top = before-other 0 (λ r. n (sym r))
 

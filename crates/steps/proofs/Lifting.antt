@@ -5,6 +5,7 @@ use Rattle.sums.specs.Choice.{pick}
 use Rattle.sums.proofs.Choices.{and_split}
 use Rattle.rows.specs.Modes.{mode_after}
 use Rattle.table.specs.Words.{word_at}
+use Rattle.steps.specs.declared.Lent.{Lent}
 use Rattle.steps.specs.declared.following.Due.{Due}
 use Rattle.steps.specs.Steps.{modes_in}
 use Rattle.steps.specs.Dues.{Small, Fits, Steady, Risen, Lifted, due_of, need_risen, excess_risen, mode_risen, due_at, due_risen}
@@ -28,23 +29,46 @@ pub no_more : (n d : ℕ) → n + d - d ≡ n
 no_more n d = omega arith
 
 -- the CM's place, or another's, put with what it was
-module _ (w kept needs excess : List ℕ) (before modes : List Bool) (j : ℕ) (s : Steady w kept needs excess before modes j) (old new : Due) (e : old ≡ new) where
-  pub need-stays : need_risen w needs j old new ≡ get_or needs j 0
-  need-stays = rw e (come-and-gone (word_at w 9 j) (get_or needs j 0) new.plain s.need)
+module _ (lent : Lent) (before : List Bool) (j : ℕ) (s : Steady lent before j) (old new : Due) (e : old ≡ new) where
+  pub need-stays : need_risen lent.words lent.needs j old new ≡ get_or lent.needs j 0
+  need-stays = rw e (come-and-gone (word_at lent.words 9 j) (get_or lent.needs j 0) new.plain s.need)
 
-  pub excess-stays : excess_risen excess j old new ≡ get_or excess j 0
-  excess-stays = rw e (no_more (get_or excess j 0) new.tenths)
+  pub excess-stays : excess_risen lent.excess j old new ≡ get_or lent.excess j 0
+  excess-stays = rw e (no_more (get_or lent.excess j 0) new.tenths)
 
-  pub mode-stays : mode_risen w kept excess before j old new ≡ get_or modes j false
-  mode-stays = ap (λ n. mode_after (10 * word_at w 9 j + n) (get_or kept j 0) (get_or before j false)) excess-stays ∙ sym s.look
+  pub mode-stays : mode_risen lent.words lent.kept lent.excess before j old new ≡ get_or lent.modes j false
+  mode-stays = ap (λ n. mode_after (10 * word_at lent.words 9 j + n) (get_or lent.kept j 0) (get_or before j false)) excess-stays ∙ sym s.look
 
-module _ (w kept needs excess : List ℕ) (before modes : List Bool) (t : ℕ) (old new : Due) (n1 e1 : List ℕ) (m1 : List Bool)
-    (f : Fits 100_000_000_000_000_000 w kept needs excess t) (r : Risen w kept needs excess before modes t old new n1 e1 m1) (z : 0 < t) where
+module _ (lent : Lent) (before : List Bool) (t : ℕ) (old new : Due) (k : Lent) (f : Fits 100_000_000_000_000_000 lent t) (r : Risen lent before t old new k) (z : 0 < t) where
+  abbrev w : List ℕ
+  w = lent.words
+
+  abbrev kept : List ℕ
+  kept = lent.kept
+
+  abbrev modes : List Bool
+  modes = lent.modes
+
+  abbrev needs : List ℕ
+  needs = lent.needs
+
+  abbrev excess : List ℕ
+  excess = lent.excess
+
+  abbrev n1 : List ℕ
+  n1 = k.needs
+
+  abbrev e1 : List ℕ
+  e1 = k.excess
+
+  abbrev m1 : List Bool
+  m1 = k.modes
+
   abbrev its : Due
-  its = due_at w kept needs excess t
+  its = due_at lent t
 
   abbrev after : Due
-  after = due_risen w kept needs excess t old new
+  after = due_risen lent t old new
 
   not_top : 0 ≡ t → ⊥
   not_top q = omega arith
@@ -70,20 +94,17 @@ module _ (w kept needs excess : List ℕ) (before modes : List Bool) (t : ℕ) (
   long1 : length e1 ≡ 256
   long1 = ap length r.over ∙ length-set excess t _ ∙ f.long
 
-  pub many1 : length modes ≡ 256 → length m1 ≡ 256
-  many1 q = ap length r.mode ∙ length-set modes t _ ∙ q
-
   less-own : (m k : ℕ) → m + k - m ≡ k
   less-own m k = omega arith
 
   under-here : get_or n1 t 0 - word_at w 9 t ≡ get_or needs t 0 - word_at w 9 t + new.plain - old.plain
   under-here = ap (λ k. k - word_at w 9 t) need-here ∙ less-own (word_at w 9 t) _
 
-  pub due-risen : due_at w kept n1 e1 t ≡ after
-  due-risen = ap₂ (λ u e. due_of (word_at w 9 t) u e (get_or kept t 0)) under-here over-here
+  pub due-risen : due_at k t ≡ after
+  due-risen = rw r.rest (ap₂ (λ u e. due_of (word_at w 9 t) u e (get_or kept t 0)) under-here over-here)
 
-  pub fits-here : Small 200_000_000_000_000_000 new → Fits 1_000_000_000_000_000_000 w kept n1 e1 t
-  fits-here s = record {
+  pub fits-here : Small 200_000_000_000_000_000 new → Fits 1_000_000_000_000_000_000 k t
+  fits-here s = rw r.rest record {
     inside = f.inside;
     collaterals = f.collaterals;
     wide = wide1;
@@ -94,8 +115,8 @@ module _ (w kept needs excess : List ℕ) (before modes : List Bool) (t : ℕ) (
     over = rw over-here (omega (arith, f.over, s.tenths));
   }
 
-  pub fits-top : Fits 100_000_000_000_000_000 w kept needs excess 0 → Fits 1_000_000_000_000_000_000 w kept n1 e1 0
-  fits-top g = record {
+  pub fits-top : Fits 100_000_000_000_000_000 lent 0 → Fits 1_000_000_000_000_000_000 k 0
+  fits-top g = rw r.rest record {
     inside = g.inside;
     collaterals = g.collaterals;
     wide = wide1;
@@ -109,17 +130,21 @@ module _ (w kept needs excess : List ℕ) (before modes : List Bool) (t : ℕ) (
   pub small-risen : Small 200_000_000_000_000_000 new → Small 2_000_000_000_000_000_000 after
   small-risen s = record { plain = omega (arith, f.under, f.margin, s.plain); tenths = omega (arith, f.over, f.margin, s.tenths) }
 
-  pub lifts : (its' after' : Due) → its' ≡ its → after' ≡ after → (before1 : List Bool) → get_or before1 0 false ≡ get_or before 0 false → (n2 e2 : List ℕ) (m2 : List Bool)
-      → Risen w kept n1 e1 before1 m1 0 its' after' n2 e2 m2 → Lifted w kept needs excess before modes t old new n2 e2 m2
-  lifts its' after' p q before1 b n2 e2 m2 k = record {
-    need = k.need ∙ rw (p, q, need-top, r.need);
-    over = k.over ∙ rw (p, q, over-top, r.over);
-    mode = k.mode ∙ rw (p, q, over-top, b, r.mode);
-  }
+  pub lifts : (its' after' : Due) → its' ≡ its → after' ≡ after → (before1 : List Bool) → get_or before1 0 false ≡ get_or before 0 false → (to : Lent)
+      → Risen k before1 0 its' after' to → Lifted lent before t old new to
+  lifts its' after' p q before1 b to h =
+      let g = rw r.rest at h in
+      record {
+        need = g.need ∙ rw (p, q, need-top, r.need);
+        over = g.over ∙ rw (p, q, over-top, r.over);
+        mode = g.mode ∙ rw (p, q, over-top, b, r.mode);
+        rest = g.rest;
+      }
 
-  pub unlifted : Steady w kept needs excess before modes 0 → its ≡ after → Lifted w kept needs excess before modes t old new n1 e1 m1
+  pub unlifted : Steady lent before 0 → its ≡ after → Lifted lent before t old new k
   unlifted s e = record {
-    need = sym (rw (need-stays w kept needs excess before modes 0 s its after e, ← r.need, ← need-top) (set-get_or n1 0 0));
-    over = sym (rw (excess-stays w kept needs excess before modes 0 s its after e, ← r.over, ← over-top) (set-get_or e1 0 0));
-    mode = sym (rw (mode-stays w kept needs excess before modes 0 s its after e, ← r.mode, ← mode-top) (set-get_or m1 0 false));
+    need = sym (rw (need-stays lent before 0 s its after e, ← r.need, ← need-top) (set-get_or n1 0 0));
+    over = sym (rw (excess-stays lent before 0 s its after e, ← r.over, ← over-top) (set-get_or e1 0 0));
+    mode = sym (rw (mode-stays lent before 0 s its after e, ← r.mode, ← mode-top) (set-get_or m1 0 false));
+    rest = r.rest;
   }

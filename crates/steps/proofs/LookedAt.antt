@@ -15,7 +15,8 @@ use Rattle.rows.specs.Inner.{Slot, in_tenths}
 use Rattle.rows.proofs.Looks.{looked-size, look_twice, look-by}
 use Rattle.rows.proofs.KeptNeeds.{afresh-size, afresh-is}
 use Rattle.rows.proofs.RowPut.{row_same, opened-new}
-use Rattle.table.specs.Words.{Marks, word_at, book_from}
+use Rattle.table.specs.declared.Marks.{Marks}
+use Rattle.table.specs.Words.{word_at, book_from}
 use Rattle.table.proofs.Gathered.{row-in, rows-length}
 use Rattle.book.specs.Facts.{SoundRows}
 use Rattle.book.proofs.OneRow.{at_all}
@@ -35,7 +36,7 @@ use Rattle.rules.proofs.SoundChange.{change-sound}
 use Rattle.steps.specs.declared.At.{At}
 use Rattle.steps.specs.declared.Gone.{Gone}
 use Rattle.codes.specs.declared.settling.DeemedUnderAfter.{DeemedUnderAfter}
-use Rattle.steps.specs.Lent.{lent_of}
+use Rattle.steps.specs.declared.Lent.{Lent}
 use Rattle.steps.specs.Steps.{Ready, Decided, carried_shown, refusal_shown, modes_in, book_at, at_after, Going, Stepped}
 use Rattle.codes.specs.Own.{account_in, deemed_under_at, deemed_under_in, deemed_under_after}
 use Rattle.steps.specs.Looks.{Placed, Past, PastOf, look_in, excess_after, excess_since, looked_since, deemed_under_since, needed_since}
@@ -90,7 +91,28 @@ opened-worth b y e s l j = by (ℕ_discrete j b.count)
     by (yes q) = rw q (ap collateral (opened-new b y (omega (arith, s.table)) ∙ e) ∙ sym (ap collateral (s.blank b.count (omega arith))))
     by (no q) = ap collateral (get_or-set_other b.rows b.count j y no_row q)
 
-module _ (at : At) (m : Marks) (w kept : List ℕ) (was modes : List Bool) (needs numbers excess : List ℕ) (g : Going at was (lent_of m w kept modes needs numbers excess)) (r : Record) where
+module _ (at : At) (was : List Bool) (lent : Lent) (g : Going at was lent) (r : Record) where
+  abbrev m : Marks
+  m = lent.marks
+
+  abbrev w : List ℕ
+  w = lent.words
+
+  abbrev kept : List ℕ
+  kept = lent.kept
+
+  abbrev modes : List Bool
+  modes = lent.modes
+
+  abbrev needs : List ℕ
+  needs = lent.needs
+
+  abbrev numbers : List ℕ
+  numbers = lent.numbers
+
+  abbrev excess : List ℕ
+  excess = lent.excess
+
   abbrev before : List Bool
   before = modes_in at.waiting was modes
 
@@ -101,8 +123,8 @@ module _ (at : At) (m : Marks) (w kept : List ℕ) (was modes : List Bool) (need
   pub many-modes : length modes ≡ 256
   many-modes = ap length g.looks ∙ looked-size (view b) before
 
-  pub going-ready : Ready at.count at.serial m w before needs at.next numbers × (length was ≡ 256) × (length modes ≡ 256)
-  going-ready = (record { size = g.size; sound = g.sound }, g.many, many-modes)
+  pub going-ready : Ready at.count at.serial m w before needs at.next numbers
+  going-ready = record { size = g.size; sound = g.sound }
 
   pub places-now : Placed m w
   places-now = sound-placed at.count at.serial m w before needs at.next numbers g.size (sound-rows b g.sound)
@@ -131,6 +153,10 @@ module _ (at : At) (m : Marks) (w kept : List ℕ) (was modes : List Bool) (need
     abbrev after : Book
     after = book_from x.count x.serial n u before needs x.next numbers'
 
+    -- the arrays after it, with these beside the words
+    abbrev to : List ℕ → List Bool → List ℕ → List ℕ → Lent
+    to kept' modes' needs' excess' = record { marks = n; words = u; kept = kept'; modes = modes'; needs = needs'; numbers = numbers'; excess = excess' }
+
     pub places-after : Placed n u
     places-after = sound-placed x.count x.serial n u before needs x.next numbers' d.size d.rows
 
@@ -148,7 +174,7 @@ module _ (at : At) (m : Marks) (w kept : List ℕ) (was modes : List Bool) (need
       -- with the modes, the kept needs and the list of what is in excess after it
       module _ (kept' : List ℕ) (keeps : Keeps u kept') (modes' : List Bool) (needs' excess' : List ℕ) (is-book : book_at (at_after at x) n u was modes' needs' numbers' ≡ book_after b r.account c) (wide : length needs' ≡ 256)
           (in-excess : DeemedUnder (in_tenths (view after)) excess') (looks : modes' ≡ looked (view after) (modes_in (at_after at x).waiting was modes')) where
-        steps-to : Stepped at was (lent_of m w kept modes needs numbers excess) r x (lent_of n u kept' modes' needs' numbers' excess')
+        steps-to : Stepped at was lent r x (to kept' modes' needs' excess')
         steps-to = record {
           refusal = d.refusal;
           given = d.given;
@@ -169,7 +195,7 @@ module _ (at : At) (m : Marks) (w kept : List ℕ) (was modes : List Bool) (need
       went : carried_shown c ≡ 1
           → book_after b r.account c ≡ with_needs (with_modes (changed_by b r.account c) (looked (view (changed_by b r.account c)) before)) (needs_afresh (view (changed_by b r.account c)))
           → (kept' : List ℕ) → Keeps u kept' → (modes' : List Bool) (needs' excess' : List ℕ) → modes' ≡ looked (view after) before → needs' ≡ needs_afresh (view after) → DeemedUnder (in_tenths (view after)) excess'
-          → Stepped at was (lent_of m w kept modes needs numbers excess) r x (lent_of n u kept' modes' needs' numbers' excess')
+          → Stepped at was lent r x (to kept' modes' needs' excess')
       unfolding pick
       went one after_is kept' keeps modes' needs' excess' look fresh in-excess =
           let done : x.carried ≡ 1 = d.carried ∙ ap carried_shown e ∙ one in
@@ -183,7 +209,7 @@ module _ (at : At) (m : Marks) (w kept : List ℕ) (was modes : List Bool) (need
           (look ∙ sym (look_twice (view after) before) ∙ ap (looked (view after)) (sym look ∙ sym its))
 
     -- refused: all stays
-    refused : (k : ℕ) → change_of b r ≡ Refuse k → Stepped at was (lent_of m w kept modes needs numbers excess) r x (lent_of n u kept modes needs numbers' excess)
+    refused : (k : ℕ) → change_of b r ≡ Refuse k → Stepped at was lent r x (to kept modes needs excess)
     unfolding pick
     refused k e =
         steps-to (Refuse k) e kept (keeps-seen (λ j. ap (λ v. v.collateral j) same_view)) modes needs excess
@@ -207,10 +233,10 @@ module _ (at : At) (m : Marks) (w kept : List ℕ) (was modes : List Bool) (need
         same_view = ap view (is-after (Refuse k) e) ∙ unmoved (leb k 3)
 
     -- a code that moves no figure
-    pub still-step : (leb r.code 5 || eqb r.code 11) ≡ true → Stepped at was (lent_of m w kept modes needs numbers excess) r x (lent_of n u kept modes needs numbers' excess)
+    pub still-step : (leb r.code 5 || eqb r.code 11) ≡ true → Stepped at was lent r x (to kept modes needs excess)
     still-step l = by (change_of b r) refl
       where
-        by : (c : Change) → change_of b r ≡ c → Stepped at was (lent_of m w kept modes needs numbers excess) r x (lent_of n u kept modes needs numbers' excess)
+        by : (c : Change) → change_of b r ≡ c → Stepped at was lent r x (to kept modes needs excess)
         by (Refuse k) e = refused k e
         by (Put y) e =
             let p = (put-passes b r y e).account in
@@ -225,10 +251,10 @@ module _ (at : At) (m : Marks) (w kept : List ℕ) (was modes : List Bool) (need
             (subst (λ q. DeemedUnder (in_tenths q) excess) (sym opens) (open-deemed b r y g.sound e true excess g.in-excess))
 
     -- refused, whatever its code
-    pub refused-step : (x.refusal ≡ 0 → ⊥) → Stepped at was (lent_of m w kept modes needs numbers excess) r x (lent_of n u kept modes needs numbers' excess)
+    pub refused-step : (x.refusal ≡ 0 → ⊥) → Stepped at was lent r x (to kept modes needs excess)
     refused-step ne = by (change_of b r) refl
       where
-        by : (c : Change) → change_of b r ≡ c → Stepped at was (lent_of m w kept modes needs numbers excess) r x (lent_of n u kept modes needs numbers' excess)
+        by : (c : Change) → change_of b r ≡ c → Stepped at was lent r x (to kept modes needs excess)
         by (Refuse k) e = refused k e
         by (Put y) e = absurd (ne (d.refusal ∙ ap refusal_shown e))
         by (Open y) e = absurd (ne (d.refusal ∙ ap refusal_shown e))
@@ -247,8 +273,8 @@ module _ (at : At) (m : Marks) (w kept : List ℕ) (was modes : List Bool) (need
     -- three places are brought up to date and looked at
     module _ (past : Past) (o : PastOf m w needs r.account past) (kept' : List ℕ) (keeps : Keeps u kept') where
       pub moved-step : (y : Row) → change_of b r ≡ Put y
-          → Stepped at was (lent_of m w kept modes needs numbers excess) r x
-          (lent_of n u kept' (looked_since n u excess before modes past) (needed_since n u needs past) numbers' (excess_since n u excess past))
+          → Stepped at was lent r x
+          (to kept' (looked_since n u excess before modes past) (needed_since n u needs past) (excess_since n u excess past))
       moved-step y e = went (Put y) e refl refl kept' keeps _ _ _ looks fresh in-excess
         where
           given : r.account < at.count

@@ -3,7 +3,8 @@ use Rattle.std.proofs.Common.{◌≡◌, ℕ, ◌<◌, Bool, List, ap, arith}
 use native.Mathlib.Decide.{ℕ_discrete, dec_lt}
 use Rattle.rows.specs.declared.Book.{Book}
 use Rattle.rows.specs.Rows.{row_at}
-use Rattle.table.specs.Words.{Marks, book_from}
+use Rattle.table.specs.declared.Marks.{Marks}
+use Rattle.table.specs.Words.{book_from}
 use Rattle.table.specs.Facts.{Sized}
 use Rattle.table.proofs.Gathered.{row-in}
 use Rattle.book.specs.Facts.{SoundRows}

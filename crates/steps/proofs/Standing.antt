@@ -19,7 +19,8 @@ use Rattle.rows.proofs.KeptNeeds.{kept_top, kept_by}
 use Rattle.rows.proofs.Looks.{looked-at, no_mode, look-by}
 use Rattle.rows.proofs.NeedSums.{need-own}
 use Rattle.rows.proofs.RowPut.{row_other}
-use Rattle.table.specs.Words.{Marks, word_at, row_in}
+use Rattle.table.specs.declared.Marks.{Marks}
+use Rattle.table.specs.Words.{word_at, row_in}
 use Rattle.table.proofs.Gathered.{row-in, rows-length}
 use Rattle.book.proofs.OneRow.{at_all}
 use Rattle.book.proofs.UnderMost.{excess-most}
@@ -31,15 +32,40 @@ use Rattle.rules.proofs.Deciding.{put-passes, made-put}
 use Rattle.rules.proofs.Moves.{amended-same}
 use Rattle.steps.specs.declared.At.{At}
 use Rattle.steps.specs.declared.Gone.{Gone}
-use Rattle.steps.specs.Lent.{lent_of}
-use Rattle.steps.specs.Steps.{Decided, modes_in, book_at, Going, Stepped}
+use Rattle.steps.specs.declared.Lent.{Lent}
+use Rattle.steps.specs.Steps.{Decided, modes_in, book_at, book_in, Going, Stepped}
 use Rattle.steps.specs.Looks.{PastOf}
 use Rattle.steps.specs.Dues.{Keeps, Steady, Bare, Stands, Following, Followed, collateral_in, margin_before, past_in, cm, tm, client, cp}
 use Rattle.steps.proofs.LookedAt.{places-now, places-after, under, deemed-under, under-small, is-after, put_only, moved-step}
 
-module _ (at : At) (m : Marks) (w kept : List ℕ) (was modes : List Bool) (needs numbers excess : List ℕ) (g : Going at was (lent_of m w kept modes needs numbers excess)) (r : Record)
-    (x : Gone) (n : Marks) (u numbers' : List ℕ) (d : Decided at.count at.serial m w (modes_in at.waiting was modes) needs at.next numbers r x n u numbers')
-    (y : Row) (e : change_of (book_at at m w was modes needs numbers) r ≡ Put y) (i m0 : ℕ) (si : Slot r.account i) (em : m0 ≡ word_at w 9 i) where
+module _ (at : At) (was : List Bool) (lent : Lent) (g : Going at was lent) (r : Record)
+    (x : Gone) (n : Marks) (u numbers' : List ℕ) (d : Decided at.count at.serial lent.marks lent.words (modes_in at.waiting was lent.modes) lent.needs at.next lent.numbers r x n u numbers')
+    (y : Row) (e : change_of (book_in at was lent) r ≡ Put y) (i m0 : ℕ) (si : Slot r.account i) (em : m0 ≡ word_at lent.words 9 i) where
+  abbrev m : Marks
+  m = lent.marks
+
+  abbrev w : List ℕ
+  w = lent.words
+
+  abbrev kept : List ℕ
+  kept = lent.kept
+
+  abbrev modes : List Bool
+  modes = lent.modes
+
+  abbrev needs : List ℕ
+  needs = lent.needs
+
+  abbrev numbers : List ℕ
+  numbers = lent.numbers
+
+  abbrev excess : List ℕ
+  excess = lent.excess
+
+  -- the arrays after it, before what stands beside the words follows
+  abbrev left : Lent
+  left = record { marks = n; words = u; kept = kept; modes = modes; needs = needs; numbers = numbers'; excess = excess }
+
   abbrev before : List Bool
   before = modes_in at.waiting was modes
 
@@ -60,7 +86,7 @@ module _ (at : At) (m : Marks) (w kept : List ℕ) (was modes : List Bool) (need
 
   -- the rows after it, by the words
   row-after : (j : ℕ) → j < 256 → row_in n u j ≡ row_at (with_row b r.account y) j
-  row-after j l = sym (row-in n u j l) ∙ ap (λ q. row_at q j) (is-after at m w kept was modes needs numbers excess g r x n u numbers' d (Put y) e)
+  row-after j l = sym (row-in n u j l) ∙ ap (λ q. row_at q j) (is-after at was lent g r x n u numbers' d (Put y) e)
 
   row_before : (j : ℕ) → j < 256 → row_at b j ≡ row_in m w j
   row_before j l = row-in m w j l
@@ -100,7 +126,7 @@ module _ (at : At) (m : Marks) (w kept : List ℕ) (was modes : List Bool) (need
   account-as p q f h = rw (p, q, f, h)
 
   tm-low : get_or n.tm i 0 < 256
-  tm-low = rw (marks-same i si.inside).1 ((places-now at m w kept was modes needs numbers excess g r).tms i si.inside)
+  tm-low = rw (marks-same i si.inside).1 ((places-now at was lent g r).tms i si.inside)
 
   pub past_of : PastOf m w needs r.account (past_in n u kept needs i m0)
   past_of =
@@ -120,7 +146,7 @@ module _ (at : At) (m : Marks) (w kept : List ℕ) (was modes : List Bool) (need
   below j l = omega (arith, g.sound.most)
 
   worth-most : (j : ℕ) → j < 256 → get_or kept j 0 ≤ 100_000_000_000_000
-  worth-most j l = rw (worth j l) (omega (arith, collateral-most New (row_in m w j) ((places-now at m w kept was modes needs numbers excess g r).ranges j l)))
+  worth-most j l = rw (worth j l) (omega (arith, collateral-most New (row_in m w j) ((places-now at was lent g r).ranges j l)))
 
   over-most : (j : ℕ) → get_or excess j 0 ≤ 25_600_000_000_000_000
   over-most j = excess-most b g.sound excess g.in-excess j
@@ -134,7 +160,7 @@ module _ (at : At) (m : Marks) (w kept : List ℕ) (was modes : List Bool) (need
       ∙ ap (λ t. t && mode_after (10 * (view b).margin j + get_or excess j 0) ((view b).collateral j) (get_or before j false)) h
       ∙ ap (λ z. mode_after (10 * z.margin + get_or excess j 0) (collateral z) (get_or before j false)) (row_before j (below j l))
 
-  steady : (j : ℕ) → j < at.count → (j ≡ i → ⊥) → Has j → word_at w 9 j ≤ get_or needs j 0 → Steady u kept needs excess before modes j
+  steady : (j : ℕ) → j < at.count → (j ≡ i → ⊥) → Has j → word_at w 9 j ≤ get_or needs j 0 → Steady left before j
   steady j l q h k =
       let f = below j l in
       let c = row-aside j f q in
@@ -145,9 +171,9 @@ module _ (at : At) (m : Marks) (w kept : List ℕ) (was modes : List Bool) (need
           collaterals = g.keeps.size;
           wide = g.wide;
           long = g.in-excess.size;
-          margin = ((places-after at m w kept was modes needs numbers excess g r x n u numbers' d).ranges j f).margin;
+          margin = ((places-after at was lent g r x n u numbers' d).ranges j f).margin;
           collateral = worth-most j f;
-          under = rw z (omega (arith, under-small at m w kept was modes needs numbers excess g r j f));
+          under = rw z (omega (arith, under-small at was lent g r j f));
           over = omega (arith, over-most j);
         };
         own = worth j f ∙ sym (ap collateral c);
@@ -156,16 +182,16 @@ module _ (at : At) (m : Marks) (w kept : List ℕ) (was modes : List Bool) (need
       }
 
   list : List ℕ
-  list = under at m w kept was modes needs numbers excess g r
+  list = under at was lent g r
 
   list-under : DeemedUnder (view b) list
   unfolding list
-  list-under = deemed-under at m w kept was modes needs numbers excess g r
+  list-under = deemed-under at was lent g r
 
   margin-is : (j : ℕ) → j < 256 → (view b).margin j ≡ word_at w 9 j
   margin-is j l = ap (λ z. z.margin) (row_before j l)
 
-  top-steady : (i ≡ 0 → ⊥) → Steady u kept needs excess before modes 0
+  top-steady : (i ≡ 0 → ⊥) → Steady left before 0
   top-steady q =
       steady 0 g.sound.shaped.some (λ z. q (sym z)) refl
       (omega (arith, g.sound.kept 0 (omega arith), kept_top (view b) g.sound.shaped list list-under, margin-is 0 (omega arith)))
@@ -176,7 +202,7 @@ module _ (at : At) (m : Marks) (w kept : List ℕ) (was modes : List Bool) (need
   tm-b : (j : ℕ) → j < 256 → (view b).tm j ≡ get_or n.tm j 0
   tm-b j l = ap (λ z. z.tm) (row_before j l) ∙ sym (marks-same j l).1
 
-  tm-steady : (j : ℕ) → j < at.count → (j ≡ i → ⊥) → (j ≡ 0 → ⊥) → (view b).sort j ≡ 1 → Steady u kept needs excess before modes j
+  tm-steady : (j : ℕ) → j < at.count → (j ≡ i → ⊥) → (j ≡ 0 → ⊥) → (view b).sort j ≡ 1 → Steady left before j
   tm-steady j l q z s =
       let h : is_tm (view b) j ≡ true = eq-eqb ((view b).sort j) 1 s in
       let k : get_or needs j 0 ≡ (view b).margin j + get_or list j 0 =
@@ -184,7 +210,7 @@ module _ (at : At) (m : Marks) (w kept : List ℕ) (was modes : List Bool) (need
       steady j l q (rw (ne_eqb j 0 z) h) (omega (arith, k, margin-is j (below j l)))
 
   -- of a client or CP nothing else is kept
-  bare : (i ≡ 0 → ⊥) → 1 < (view b).sort i → Bare needs excess modes i
+  bare : (i ≡ 0 → ⊥) → 1 < (view b).sort i → Bare left i
   bare z l =
       let none : is_tm (view b) i ≡ false = ne_eqb ((view b).sort i) 1 (λ q. omega arith) in
       record {
@@ -193,7 +219,7 @@ module _ (at : At) (m : Marks) (w kept : List ℕ) (was modes : List Bool) (need
         mode = ap (λ q. get_or q i false) g.looks ∙ looked-at (view b) before i si.inside ∙ no_mode (view b) before i z none;
       }
 
-  stands : Stands n u kept needs excess before modes i
+  stands : Stands left before i
   stands = by (sort-of (view b) g.sound.shaped i i-given)
     where
       its : get_or n.sort i 0 ≡ (view b).sort i
@@ -202,7 +228,7 @@ module _ (at : At) (m : Marks) (w kept : List ℕ) (was modes : List Bool) (need
       no-tm : ((view b).sort i ≡ 2 → ⊥) → get_or n.tm i 0 ≡ 0
       no-tm q = sym (tm-b i si.inside) ∙ g.sound.no-tm i i-given q
 
-      by : Sort (view b) i → Stands n u kept needs excess before modes i
+      by : Sort (view b) i → Stands left before i
       by (by-sort.cm z s) = cm z
       by (by-sort.tm z s) = tm (λ q. omega arith) (its ∙ s) (no-tm (λ q. omega arith)) (top-steady (λ q. omega arith))
       by (by-sort.cp z s) = cp (λ q. omega arith) (its ∙ s) (no-tm (λ q. omega arith)) (bare (λ q. omega arith) (omega arith)) (top-steady (λ q. omega arith))
@@ -215,9 +241,9 @@ module _ (at : At) (m : Marks) (w kept : List ℕ) (was modes : List Bool) (need
           client (λ q. omega arith) (its ∙ s) (omega (arith, o)) f (sym (sort-b (get_or n.tm i 0) tm-low) ∙ one) (bare (λ q. omega arith) (omega arith))
           (tm-steady (get_or n.tm i 0) (omega (arith, i-given)) (λ q. omega arith) o one) (top-steady (λ q. omega arith))
 
-  pub follows : Following n u kept needs excess before modes i m0
+  pub follows : Following left before i m0
   follows =
-      let p = places-after at m w kept was modes needs numbers excess g r x n u numbers' d in
+      let p = places-after at was lent g r x n u numbers' d in
       let k = p.ranges i si.inside in
       record {
         ranging = record {
@@ -229,12 +255,12 @@ module _ (at : At) (m : Marks) (w kept : List ℕ) (was modes : List Bool) (need
           pledged = k.pledged;
         };
         margin = k.margin;
-        was = rw em ((places-now at m w kept was modes needs numbers excess g r).ranges i si.inside).margin;
+        was = rw em ((places-now at was lent g r).ranges i si.inside).margin;
         collaterals = g.keeps.size;
         wide = g.wide;
         long = g.in-excess.size;
         collateral = worth-most i si.inside;
-        under = rw em (under-small at m w kept was modes needs numbers excess g r i si.inside);
+        under = rw em (under-small at was lent g r i si.inside);
         over = over-most i;
         tms = d.size.tms;
         sorts = d.size.sorts;
@@ -242,25 +268,28 @@ module _ (at : At) (m : Marks) (w kept : List ℕ) (was modes : List Bool) (need
         stands = stands;
       }
 
-module _ (at : At) (m : Marks) (w kept : List ℕ) (was modes : List Bool) (needs numbers excess : List ℕ) (g : Going at was (lent_of m w kept modes needs numbers excess)) (r : Record)
-    (x : Gone) (n : Marks) (u numbers' : List ℕ) (d : Decided at.count at.serial m w (modes_in at.waiting was modes) needs at.next numbers r x n u numbers')
-    (z : x.refusal ≡ 0) (moving : (leb r.code 5 || eqb r.code 11) ≡ false) (i s m0 : ℕ) (placed : r.account ≡ i) (si : Slot r.account s) (em : m0 ≡ word_at w 9 s) where
+module _ (at : At) (was : List Bool) (lent : Lent) (g : Going at was lent) (r : Record) (x : Gone) (k : Lent)
+    (d : Decided at.count at.serial lent.marks lent.words (modes_in at.waiting was lent.modes) lent.needs at.next lent.numbers r x k.marks k.words k.numbers)
+    (rest : k ≡ record lent { marks = k.marks; words = k.words; numbers = k.numbers }) (z : x.refusal ≡ 0) (moving : (leb r.code 5 || eqb r.code 11) ≡ false)
+    (i s m0 : ℕ) (placed : r.account ≡ i) (si : Slot r.account s) (em : m0 ≡ word_at lent.words 9 s) where
   -- a row that is put anew is held, and the slot is its own place
-  held : (y : Row) → change_of (book_at at m w was modes needs numbers) r ≡ Put y → r.account < 256
-  held y e = omega (arith, (put-passes (book_at at m w was modes needs numbers) r y e).account, g.sound.most)
+  held : (y : Row) → change_of (book_in at was lent) r ≡ Put y → r.account < 256
+  held y e = omega (arith, (put-passes (book_in at was lent) r y e).account, g.sound.most)
 
-  itself : (y : Row) → change_of (book_at at m w was modes needs numbers) r ≡ Put y → Slot r.account i
+  itself : (y : Row) → change_of (book_in at was lent) r ≡ Put y → Slot r.account i
   itself y e = record { inside = omega (arith, held y e, placed); named = λ h. sym placed }
 
-  margin-was : (y : Row) → change_of (book_at at m w was modes needs numbers) r ≡ Put y → m0 ≡ word_at w 9 i
-  margin-was y e = em ∙ ap (word_at w 9) (si.named (held y e) ∙ placed)
+  margin-was : (y : Row) → change_of (book_in at was lent) r ≡ Put y → m0 ≡ word_at lent.words 9 i
+  margin-was y e = em ∙ ap (word_at lent.words 9) (si.named (held y e) ∙ placed)
 
-  pub moved-follows : Following n u kept needs excess (modes_in at.waiting was modes) modes i m0
-  moved-follows = put_only at m w kept was modes needs numbers excess g r x n u numbers' d z moving (λ y e. follows at m w kept was modes needs numbers excess g r x n u numbers' d y e i m0 (itself y e) (margin-was y e))
+  pub moved-follows : Following k (modes_in at.waiting was k.modes) i m0
+  moved-follows =
+      rw rest
+      (put_only at was lent g r x k.marks k.words k.numbers d z moving (λ y e. follows at was lent g r x k.marks k.words k.numbers d y e i m0 (itself y e) (margin-was y e)))
 
-  pub moved-steps : (kept' needs' excess' : List ℕ) (modes' : List Bool) → Followed n u kept needs excess (modes_in at.waiting was modes) modes i m0 kept' needs' excess' modes'
-      → Stepped at was (lent_of m w kept modes needs numbers excess) r x (lent_of n u kept' modes' needs' numbers' excess')
-  moved-steps kept' needs' excess' modes' f =
-      rw (f.own, f.need, f.over, f.mode)
-      (put_only at m w kept was modes needs numbers excess g r x n u numbers' d z moving
-      (λ y e. moved-step at m w kept was modes needs numbers excess g r x n u numbers' d (past_in n u kept needs i m0) (past_of at m w kept was modes needs numbers excess g r x n u numbers' d y e i m0 (itself y e) (margin-was y e)) (set kept i (collateral_in u i)) (keeps-put at m w kept was modes needs numbers excess g r x n u numbers' d y e i m0 (itself y e) (margin-was y e)) y e))
+  pub moved-steps : (after : Lent) → Followed k (modes_in at.waiting was k.modes) i m0 after → Stepped at was lent r x after
+  moved-steps after f =
+      rw (f.rest, f.own, f.need, f.over, f.mode, rest)
+      (put_only at was lent g r x k.marks k.words k.numbers d z moving
+      (λ y e. moved-step at was lent g r x k.marks k.words k.numbers d (past_in k.marks k.words lent.kept lent.needs i m0) (past_of at was lent g r x k.marks k.words k.numbers d y e i m0 (itself y e) (margin-was y e))
+      (set lent.kept i (collateral_in k.words i)) (keeps-put at was lent g r x k.marks k.words k.numbers d y e i m0 (itself y e) (margin-was y e)) y e))

@@ -1,4 +1,3 @@
-pub mod Lent
 pub mod Steps
 pub mod Looks
 pub mod Dues

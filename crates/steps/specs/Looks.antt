@@ -4,7 +4,8 @@ use Rattle.rows.specs.declared.Account.{Account}
 use Rattle.rows.specs.Facts.{InRange}
 use Rattle.rows.specs.Modes.{mode_after}
 use Rattle.rows.specs.Inner.{account_as}
-use Rattle.table.specs.Words.{Marks, row_in}
+use Rattle.table.specs.declared.Marks.{Marks}
+use Rattle.table.specs.Words.{row_in}
 use Rattle.table.specs.Facts.{Sized}
 use Rattle.rows.specs.DeemedUnder.{need_to_keep}
 use Rattle.codes.specs.declared.settling.DeemedUnderAfter.{DeemedUnderAfter}

@@ -14,13 +14,14 @@ use Rattle.rules.specs.Effects.{change_of, changed_by, book_after, next_serial}
 use Rattle.rules.specs.Numbered.{placed}
 use Rattle.codes.specs.Own.{alive_in}
 use Rattle.codes.specs.Asking.{meant, asked_of}
-use Rattle.table.specs.Words.{Marks, book_from}
+use Rattle.table.specs.declared.Marks.{Marks}
+use Rattle.table.specs.Words.{book_from}
 use Rattle.table.specs.Facts.{Sized}
 use Rattle.steps.specs.declared.At.{At}
 use Rattle.steps.specs.declared.Gone.{Gone}
 use Rattle.steps.specs.declared.Request.{Request}
+use Rattle.steps.specs.declared.Lent.{Lent}
 use Rattle.steps.specs.Dues.{Keeps}
-use Rattle.steps.specs.Lent.{Lent}
 
 -- the words, the modes, the kept needs and the numbers are a sound book's
 pub record Ready (count serial : ℕ) (m : Marks) (w : List ℕ) (modes : List Bool) (needs : List ℕ) (next : ℕ) (numbers : List ℕ) : Type 0 where
@@ -115,6 +116,17 @@ pub record Asks (alive : Bool) (serial : ℕ) (q : Request) (r : Record) : Type 
 pub record Asking (alive : Bool) (serial : ℕ) (q : Request) : Type 0 where
   pub of : Record
   pub asks : Asks alive serial q of
+
+-- before it is decided: the words are a sound book's, and some record asks this
+abbrev pub ReadyFor : At → List Bool → Lent → Request → Type 0
+ReadyFor at was l q =
+    Ready at.count at.serial l.marks l.words (modes_in at.waiting was l.modes) l.needs at.next l.numbers × Asking (alive_in l.marks.live at.count q.place) at.serial q
+
+-- each record that asks this was decided and came to x of it, and what stands beside the words is as it was
+pub record DecidedFor (at : At) (was : List Bool) (l : Lent) (q : Request) (x : Record → Gone) (k : Lent) : Type 0 where
+  pub each : (r : Record) → Asks (alive_in l.marks.live at.count q.place) at.serial q r
+      → Decided at.count at.serial l.marks l.words (modes_in at.waiting was l.modes) l.needs at.next l.numbers r (x r) k.marks k.words k.numbers
+  pub rest : k ≡ record l { marks = k.marks; words = k.words; numbers = k.numbers }
 
 -- the arrays are a sound book's, and some record asks this
 abbrev pub GoingFor : At → List Bool → Lent → Request → Type 0

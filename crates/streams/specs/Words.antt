@@ -1,7 +1,6 @@
 -- A program's words. Word 0 is its own name. How many there are, and which bytes they have, no contract can say.
-use Rattle.std.specs.Prelude.{Bool, true, false, ◌&&◌, List, [], ◌∷◌, ◌≡◌, ℕ, ◌+◌, ◌≤◌, eqb, ltb}
-use Rattle.sums.specs.Choice.{pick}
-use Rattle.streams.specs.declared.standard.Helped.{Helped}
+use Rattle.std.specs.Prelude.{Bool, true, false, ◌&&◌, List, [], ◌∷◌, ◌≡◌, ℕ, ◌+◌, ◌≤◌, eqb, ltb, Option, is_some, IfSome}
+use Rattle.streams.specs.declared.Moved.{Moved}
 
 -- of count words there is one at this place
 abbrev pub is_there : ℕ → ℕ → Bool
@@ -28,8 +27,7 @@ pub record Counted (most : ℕ) (many : Bool) : Type 0 where
   pub is : many ≡ too_many count most
 
 -- there is a first word by which help was asked for, or wasn't; unless it was, nothing of its n bytes is told, and where it was it failed exactly when not all of them were
-pub record HelpAsked (n : ℕ) (h : Helped) : Type 0 where
+pub record HelpAsked (n : ℕ) (h : Option Moved) : Type 0 where
   pub word : List ℕ
-  pub asked : h.asked ≡ same_bytes word help_word
-  pub told : h.count ≤ pick h.asked n 0
-  pub failed : h.failed ≡ ltb h.count (pick h.asked n 0)
+  pub asked : is_some h ≡ same_bytes word help_word
+  pub told : IfSome h (λ m. (m.count ≤ n) × (m.failed ≡ ltb m.count n))

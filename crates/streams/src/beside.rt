@@ -27,15 +27,10 @@ pub(crate) fn put_beside(name: &[u8], room: &mut [u8]) -> usize
     ensures value { result ≡ length name.now + 3 }
     ensures room_after { take result room.new ≡ name.now ++ beside_mark }
 {
-    let mut i: usize = 0;
-    while i < name.len() {
-        room[i] = name[i];
-        i += 1;
-    }
-    room[i] = b'.';
-    room[i + 1] = b'0';
-    room[i + 2] = b'0';
-    i + 3
+    let n = name.len();
+    room[..n].copy_from_slice(name);
+    room[n..n + 3].copy_from_slice(b".00");
+    n + 3
 }
 
 // Puts the digits of a try at the name's end.
@@ -73,12 +68,11 @@ pub(crate) fn create_beside(rt: &HostRuntime, name: &mut [u8]) -> Tried
     requires { 3 ≤ length name.old }
     ensures { LastTry name.old name.new result }
 {
-    let mut tried = create_try(rt, name, 0);
-    while tried.tries < LAST {
+    for tries in 0..LAST {
+        let tried = create_try(rt, name, tries);
         if !is_taken(&tried.made) {
-            break;
+            return tried;
         }
-        tried = create_try(rt, name, tried.tries + 1);
     }
-    tried
+    create_try(rt, name, LAST)
 }

@@ -16,13 +16,6 @@ use std::io::Error;
 // The longest name that a program's word can be, and three bytes more.
 const BESIDE: usize = 4099;
 
-// A file where it could be opened.
-#[derive(Drop)]
-pub struct Opened {
-    pub failed: bool,
-    pub file: io::Result<File>,
-}
-
 fn cannot(rt: &HostRuntime, program: &[u8], what: &[u8], name: &[u8], why: Error) {
     tell(rt, program);
     tell(rt, b": cannot ");
@@ -158,22 +151,13 @@ fn opened_by(
     what: &[u8],
     name: &[u8],
     opened: io::Result<File>,
-) -> Opened
-    ensures { (result.failed ≡ failed_by result.file) × (result.file ≡ opened) }
+) -> io::Result<File>
+    ensures { result ≡ opened }
 {
-    match opened {
-        Ok(file) => Opened {
-            failed: false,
-            file: Ok(file),
-        },
-        Err(error) => {
-            cannot(rt, program, what, name, error);
-            Opened {
-                failed: true,
-                file: Err(error),
-            }
-        }
+    if let Err(error) = &opened {
+        cannot(rt, program, what, name, *error);
     }
+    opened
 }
 
 // Opens the file of a name that was had whole, or that wasn't.
@@ -183,10 +167,9 @@ fn open_file(
     what: &[u8],
     name: &[u8],
     had: io::Result<usize>,
-) -> Opened
+) -> io::Result<File>
     requires { IfOk had (λ n. n ≤ length name.now) }
-    ensures failed_value { result.failed ≡ failed_by result.file }
-    ensures error_value { result.failed ≡ false → failed_by had ≡ false }
+    ensures { failed_by result ≡ false → failed_by had ≡ false }
 {
     match had {
         Ok(n) => {
@@ -195,18 +178,13 @@ fn open_file(
         }
         Err(error) => {
             cannot(rt, program, what, b"its name", error);
-            Opened {
-                failed: true,
-                file: Err(error),
-            }
+            Err(error)
         }
     }
 }
 
 // Opens the file that a word names. Where that fails it is told.
-pub fn open_named(rt: &HostRuntime, program: &[u8], what: &[u8], word: usize) -> Opened
-    ensures { result.failed ≡ failed_by result.file }
-{
+pub fn open_named(rt: &HostRuntime, program: &[u8], what: &[u8], word: usize) -> io::Result<File> {
     let mut name = words::blank();
     let had = words::put(rt, word, &mut name);
     open_file(rt, program, what, &name, had)

@@ -1,7 +1,7 @@
 // Bytes read from and written to a file or a stream, whole. A call that a signal interrupted is tried again; one that failed is told by whoever asked.
 #![tactic(auto)]
 
-ghost use Rattle.std.specs.Prelude.{true, ◌≡◌, ◌≤◌, ◌<◌, min, ltb, length};
+ghost use Rattle.std.specs.Prelude.{true, ◌≡◌, ◌≤◌, ◌<◌, ltb, length};
 ghost use Rattle.std.specs.IoError.{raw_os_error};
 ghost use Rattle.streams.specs.Calls.{interrupted_by, moved_by, stopped_at};
 
@@ -23,7 +23,7 @@ const AGAIN: usize = 100;
 // The system's number of a call that a signal interrupted, EINTR.
 const INTERRUPTED: i32 = 4;
 
-// How many bytes were moved, and whether a call failed after them.
+// How many bytes were moved, and whether a call failed after them. No Result: the count stands beside a failure too (`write_output`'s `failed_value`).
 #[derive(Clone, Copy)]
 pub struct Moved {
     pub failed: bool,
@@ -47,12 +47,6 @@ fn interrupted(got: io::Result<usize>) -> bool
     }
 }
 
-fn lesser(a: usize, b: usize) -> usize
-    ensures { result ≡ min a b }
-{
-    if a < b { a } else { b }
-}
-
 // What a call came to that was to move these bytes.
 #[tactic(auto, unfolding(crate::specs::Calls::moved_by))]
 fn meant(got: io::Result<usize>, bytes: &[u8]) -> Moved
@@ -61,7 +55,7 @@ fn meant(got: io::Result<usize>, bytes: &[u8]) -> Moved
     match got {
         Ok(n) => Moved {
             failed: false,
-            count: lesser(n, bytes.len()),
+            count: n.min(bytes.len()),
         },
         Err(_) => Moved {
             failed: true,
@@ -74,13 +68,11 @@ fn read_more<F: Read>(from: &mut F, room: &mut [u8]) -> Ended
     ensures count_in_bounds { result.moved.count ≤ length room.new }
     ensures count_value { result.moved.failed ≡ true → result.moved.count ≡ 0 }
 {
-    let mut left = AGAIN;
     let mut got = from.read(room);
-    while 0 < left {
+    for _ in 0..AGAIN {
         if !interrupted(got) {
             break;
         }
-        left -= 1;
         got = from.read(room);
     }
     Ended {
@@ -104,6 +96,7 @@ pub(crate) fn read_through<F: Read>(from: &mut F, room: &mut [u8]) -> Ended
     ensures count_in_bounds_2 { result.moved.failed ≡ true → result.moved.count < length room.new }
 {
     let mut n: usize = 0;
+    // No `for`: n goes up by what a read gave, and std's `read_exact` doesn't say how much came before a failure, as `count_in_bounds` does.
     while n < room.len() {
         let more = read_more(from, &mut room[n..]);
         if more.moved.count == 0 {
@@ -134,13 +127,11 @@ pub fn read_all<F: Read>(from: &mut F, room: &mut [u8]) -> Moved
 fn write_more<F: Write>(to: &mut F, text: &[u8]) -> Ended
     ensures { result.moved.count ≤ length text.now }
 {
-    let mut left = AGAIN;
     let mut put = to.write(text);
-    while 0 < left {
+    for _ in 0..AGAIN {
         if !interrupted(put) {
             break;
         }
-        left -= 1;
         put = to.write(text);
     }
     Ended {
@@ -154,6 +145,7 @@ pub(crate) fn write_through<F: Write>(to: &mut F, text: &[u8]) -> Ended
     ensures failed_value { result.moved.failed ≡ ltb result.moved.count (length text.now) }
 {
     let mut n: usize = 0;
+    // No `for`: n goes up by what a write took, and std's `write_all` doesn't say how much was taken before a failure, as `failed_value` does.
     while n < text.len() {
         let more = write_more(to, &text[n..]);
         if more.moved.count == 0 {

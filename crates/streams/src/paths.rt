@@ -12,43 +12,25 @@ fn no_text() -> Error {
 
 // A name as text.
 fn path_of(name: &[u8]) -> io::Result<&str> {
-    match str::from_utf8(name) {
-        Ok(path) => Ok(path),
-        Err(_) => Err(no_text()),
-    }
+    str::from_utf8(name).map_err(|_| no_text())
 }
 
 pub(crate) fn open_read(rt: &HostRuntime, name: &[u8]) -> io::Result<File> {
-    match path_of(name) {
-        Ok(path) => File::open(rt, path),
-        Err(error) => Err(error),
-    }
+    File::open(rt, path_of(name)?)
 }
 
 // Makes a file that isn't there yet, and opens it for writing.
 pub(crate) fn create(rt: &HostRuntime, name: &[u8]) -> io::Result<File> {
-    match path_of(name) {
-        Ok(path) => OpenOptions::new()
-            .write(true)
-            .create_new(true)
-            .open(rt, path),
-        Err(error) => Err(error),
-    }
+    let path = path_of(name)?;
+    OpenOptions::new()
+        .write(true)
+        .create_new(true)
+        .open(rt, path)
 }
 
 // Brings a file to another's place.
 pub(crate) fn rename(rt: &HostRuntime, from: &[u8], to: &[u8]) -> io::Result<()> {
-    match path_of(from) {
-        Ok(from) => rename_to(rt, from, to),
-        Err(error) => Err(error),
-    }
-}
-
-fn rename_to(rt: &HostRuntime, from: &str, to: &[u8]) -> io::Result<()> {
-    match path_of(to) {
-        Ok(to) => fs::rename(rt, from, to),
-        Err(error) => Err(error),
-    }
+    fs::rename(rt, path_of(from)?, path_of(to)?)
 }
 
 // Takes a file away. Where that fails, it stays, and nothing more can be done.

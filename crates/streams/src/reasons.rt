@@ -39,18 +39,12 @@ fn words_end(text: &[u8]) -> usize
     text.len()
 }
 
-fn lesser(a: u64, b: usize) -> usize
-    ensures { result ≤ b }
-{
-    if a < b as u64 { a as usize } else { b }
-}
-
 // A colon, the reason and the line's end.
 pub(crate) fn tell_reason(rt: &HostRuntime, why: Error) {
     let mut room = [0u8; ROOM];
     let mut out = Cursor::new(&mut room[..]);
     let _ = write!(out, "{why}");
-    let n = lesser(out.position(), ROOM);
+    let n = out.position().min(ROOM as u64) as usize;
     let end = words_end(&room[..n]);
     tell(rt, b": ");
     tell(rt, &room[..end]);

@@ -1,20 +1,11 @@
 // A program's own streams: standard input, standard output, and standard error, where failures and help are told. The program is named first, as `day`.
-ghost use Rattle.std.specs.Prelude.{true, ◌≡◌, ◌≤◌, ◌<◌, ltb, length};
-ghost use Rattle.sums.specs.Choice.{pick};
+ghost use Rattle.std.specs.Prelude.{true, ◌≡◌, ◌≤◌, ◌<◌, ltb, length, is_some, IfSome};
 ghost use Rattle.streams.specs.Words.{same_bytes, help_word, Counted, HelpAsked};
 
 use crate::reasons::{reason, tell_reason};
 use crate::words::{is_same, too_many};
 use crate::{Moved, read_through, words, write_all, write_through};
 use std::io::Error;
-
-// Whether help was asked for, whether it couldn't be told whole, and how many bytes of it were told.
-#[derive(Clone, Copy)]
-pub struct Helped {
-    pub asked: bool,
-    pub failed: bool,
-    pub count: usize,
-}
 
 // Tells a text on standard error. Where that fails, there is nowhere else to tell it.
 pub fn tell(rt: &HostRuntime, text: &[u8]) {
@@ -60,31 +51,20 @@ pub fn write_output(rt: &HostRuntime, program: &[u8], text: &[u8]) -> Moved
     put.moved
 }
 
-// Where a word is `--help`, the text goes to standard error.
-#[tactic(auto, unfolding(sums::specs::Choice::pick))]
-fn help_by(rt: &HostRuntime, word: &[u8], text: &[u8]) -> Helped
-    ensures asked_value { result.asked ≡ same_bytes word.now help_word }
-    ensures count_bound { (result.count ≤ pick result.asked (length text.now) 0)
-        × (result.failed ≡ ltb result.count (pick result.asked (length text.now) 0)) }
+// Where a word is `--help`, the text goes to standard error: what came of that.
+fn help_by(rt: &HostRuntime, word: &[u8], text: &[u8]) -> Option<Moved>
+    ensures asked_value { is_some result ≡ same_bytes word.now help_word }
+    ensures told_value { IfSome result (λ m. (m.count ≤ length text.now) × (m.failed ≡ ltb m.count (length text.now))) }
 {
     if !is_same(word, b"--help") {
-        return Helped {
-            asked: false,
-            failed: false,
-            count: 0,
-        };
+        return None;
     }
     let mut errors = rt.stderr();
-    let told = write_all(&mut errors, text);
-    Helped {
-        asked: true,
-        failed: told.failed,
-        count: told.count,
-    }
+    Some(write_all(&mut errors, text))
 }
 
 // The same for the first word; a program that was asked for help does nothing else.
-pub fn help(rt: &HostRuntime, text: &[u8]) -> Helped
+pub fn help(rt: &HostRuntime, text: &[u8]) -> Option<Moved>
     ensures { HelpAsked (length text.now) result }
 {
     let mut word = words::blank();

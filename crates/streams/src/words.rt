@@ -37,18 +37,12 @@ pub fn put(rt: &HostRuntime, word: usize, room: &mut [u8]) -> io::Result<usize>
 pub fn put_or_none(rt: &HostRuntime, word: usize, room: &mut [u8]) -> usize
     ensures { result ≤ length room.new }
 {
-    match rt.arg(word, room) {
-        Ok(n) => n,
-        Err(_) => 0,
-    }
+    rt.arg(word, room).unwrap_or(0)
 }
 
 fn is_missing(rt: &HostRuntime, word: usize) -> bool {
     let mut room = [0u8; 1];
-    match rt.arg(word, &mut room) {
-        Err(FillError::NotPresent) => true,
-        _ => false,
-    }
+    matches!(rt.arg(word, &mut room), Err(FillError::NotPresent))
 }
 
 // How many words there are, the program's own name among them.

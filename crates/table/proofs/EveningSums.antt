@@ -9,7 +9,8 @@ use Rattle.sums.proofs.Sums.{sum-eq}
 use Rattle.rows.specs.declared.Row.{Row}
 use Rattle.rows.specs.Rows.{no_row, ceiling}
 use Rattle.rows.specs.Facts.{InRange}
-use Rattle.table.specs.Words.{word_at, amount_of, Marks, rows_of}
+use Rattle.table.specs.declared.Marks.{Marks}
+use Rattle.table.specs.Words.{word_at, amount_of, rows_of}
 use Rattle.table.specs.Inner.{amount_sum}
 use Rattle.table.specs.Facts.{Capped}
 use Rattle.table.proofs.Gathered.{each-of-ten, word_in}

@@ -7,7 +7,8 @@ use native.Mathlib.Omega.{arith}
 use lib.ListN.{length, get_or, set}
 use Rattle.sums.proofs.Lists.{length-list_to, at-list_to, list_to-set}
 use Rattle.rows.specs.Rows.{no_row}
-use Rattle.table.specs.Words.{word_at, row_from, amount_of, Marks, row_in, rows_of}
+use Rattle.table.specs.declared.Marks.{Marks}
+use Rattle.table.specs.Words.{word_at, row_from, amount_of, row_in, rows_of}
 
 pub rows-length : (m : Marks) (w : List ℕ) → length (rows_of m w) ≡ 256
 unfolding rows_of

@@ -11,7 +11,8 @@ use lib.Seq.{get_or-set_same, get_or-set_other, set-set}
 use borrow.Author.Tests.{eq-eqb, ne_eqb}
 use Rattle.sums.specs.Choice.{pick}
 use Rattle.rows.specs.declared.Row.{Row}
-use Rattle.table.specs.Words.{word_at, amount_of, row_from, Marks, marks_from, row_in, rows_of}
+use Rattle.table.specs.declared.Marks.{Marks}
+use Rattle.table.specs.Words.{word_at, amount_of, row_from, marks_from, row_in, rows_of}
 use Rattle.table.specs.Facts.{Sized}
 use Rattle.table.specs.Inner.{Anew}
 use Rattle.table.proofs.Gathered.{rows-but-one, row-eq}

@@ -9,7 +9,8 @@ use Rattle.sums.specs.Choice.{pick}
 use Rattle.rows.specs.declared.Kinds.{Kinds}
 use Rattle.rows.specs.declared.Row.{Row}
 use Rattle.rows.specs.Rows.{with_live, with_received, with_allocated, with_pledged, with_margin}
-use Rattle.table.specs.Words.{Marks, marks_from, row_in}
+use Rattle.table.specs.declared.Marks.{Marks}
+use Rattle.table.specs.Words.{marks_from, row_in}
 use Rattle.table.specs.Inner.{put_kinds, put_row, Anew}
 use Rattle.table.specs.Facts.{Sized}
 use Rattle.table.proofs.InPlace.{with_amount, anew-again, amount-put, marks-put}

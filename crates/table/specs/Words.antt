@@ -5,6 +5,7 @@ use Rattle.rows.specs.declared.Kinds.{Kinds}
 use Rattle.rows.specs.declared.Row.{Row}
 use Rattle.rows.specs.declared.Book.{Book}
 use Rattle.rows.specs.Rows.{row_at}
+use Rattle.table.specs.declared.Marks.{Marks}
 use Rattle.table.specs.declared.Table.{Table}
 
 -- "Store the table by amount and then by account.": amount k of account i
@@ -25,17 +26,8 @@ amount_of r k =
     get_or (r.received.cash ∷ r.received.deposits ∷ r.received.guarantees ∷ r.received.securities
     ∷ r.allocated.cash ∷ r.allocated.deposits ∷ r.allocated.guarantees ∷ r.allocated.securities ∷ r.pledged ∷ r.margin ∷ []) k 0
 
--- each account's sort, live and TM, which are no amounts
-pub record Marks : Type 0 where
-  pub sort : List ℕ
-  pub live : List Bool
-  pub tm : List ℕ
-
 abbrev pub marks_from : List ℕ → List Bool → List ℕ → Marks
 marks_from sort live tm = record { sort = sort; live = live; tm = tm }
-
-abbrev pub marks_of : Table → Marks
-marks_of t = marks_from t.sort t.live t.tm
 
 -- account i's row, gathered
 abbrev pub row_in : Marks → List ℕ → ℕ → Row
@@ -50,9 +42,11 @@ unfoldable pub turned : Book → Table
 turned b = record {
   count = b.count;
   serial = b.serial;
-  sort = list_to (λ i. (row_at b i).sort) 256;
-  live = list_to (λ i. (row_at b i).live) 256;
-  tm = list_to (λ i. (row_at b i).tm) 256;
+  marks = record {
+    sort = list_to (λ i. (row_at b i).sort) 256;
+    live = list_to (λ i. (row_at b i).live) 256;
+    tm = list_to (λ i. (row_at b i).tm) 256;
+  };
   modes = b.modes;
   needs = b.needs;
   next = b.next;
@@ -66,4 +60,4 @@ book_from count serial m w modes needs next numbers = record { count = count; se
 
 -- "and back": the table as a book of the old order.
 abbrev pub turned_back : Table → Book
-turned_back t = book_from t.count t.serial (marks_of t) t.amounts t.modes t.needs t.next t.numbers
+turned_back t = book_from t.count t.serial t.marks t.amounts t.modes t.needs t.next t.numbers

@@ -10,10 +10,8 @@ pub fn amount_sum(w: &[u64; 2560], k: usize, n: usize) -> u64
 {
     let run = 256 * k;
     let mut sum: u64 = 0;
-    let mut i: usize = 0;
-    while i < n {
+    for i in 0..n {
         sum += w[run + i];
-        i += 1;
     }
     sum
 }

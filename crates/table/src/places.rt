@@ -1,8 +1,9 @@
 // An account's words read from their places and put there.
 ghost use Rattle.std.specs.Prelude.{◌≡◌, ◌≤◌, ◌<◌, set};
-ghost use Rattle.table.specs.Words.{word_at, kinds_from, marks_from, row_in, rows_of};
-ghost use Rattle.table.specs.Inner.{put_kinds, put_row};
+ghost use Rattle.table.specs.Words.{word_at, kinds_from, row_in, rows_of};
+ghost use Rattle.table.specs.Inner.{put_kinds, put_marks, put_row};
 
+use super::Marks;
 use rows::{Kinds, Row};
 
 // Amount k of account i.
@@ -27,20 +28,14 @@ pub fn kinds_at(w: &[u64; 2560], k: usize, i: usize) -> Kinds
 }
 
 // An account's row, gathered.
-pub fn row_at(
-    sort: &[u8; 256],
-    live: &[bool; 256],
-    tm: &[u16; 256],
-    w: &[u64; 2560],
-    i: usize,
-) -> Row
+pub fn row_at(marks: &Marks, w: &[u64; 2560], i: usize) -> Row
     requires { i < 256 }
-    ensures { result ≡ row_in (marks_from sort.now live.now tm.now) w.now i }
+    ensures { result ≡ row_in marks.now w.now i }
 {
     Row {
-        sort: sort[i],
-        live: live[i],
-        tm: tm[i],
+        sort: marks.sort[i],
+        live: marks.live[i],
+        tm: marks.tm[i],
         received: Kinds {
             cash: w[256 * 0 + i],
             deposits: w[256 * 1 + i],
@@ -58,35 +53,14 @@ pub fn row_at(
     }
 }
 
-// The same for the arrays of one table, which are lent for one time.
-pub fn row_of<'a>(
-    sort: &'a [u8; 256],
-    live: &'a [bool; 256],
-    tm: &'a [u16; 256],
-    w: &'a [u64; 2560],
-    i: usize,
-) -> Row
-    requires { i < 256 }
-    ensures { result ≡ row_in (marks_from sort.now live.now tm.now) w.now i }
-{
-    row_at(sort, live, tm, w, i)
-}
-
 // The old order's rows, all of them gathered.
-pub fn rows_of<'a>(
-    sort: &'a [u8; 256],
-    live: &'a [bool; 256],
-    tm: &'a [u16; 256],
-    w: &'a [u64; 2560],
-) -> [Row; 256]
-    ensures { result ≡ rows_of (marks_from sort.now live.now tm.now) w.now }
+pub fn rows_of(marks: &Marks, w: &[u64; 2560]) -> [Row; 256]
+    ensures { result ≡ rows_of marks.now w.now }
 {
     let blank = rows::words::no_row();
     let mut table = [blank; 256];
-    let mut i: usize = 0;
-    while i < 256 {
-        table[i] = row_of(sort, live, tm, w, i);
-        i += 1;
+    for i in 0..256 {
+        table[i] = row_at(marks, w, i);
     }
     table
 }
@@ -117,22 +91,13 @@ pub fn put_amounts(w: &mut [u64; 2560], i: usize, r: Row)
     w[256 * 9 + i] = r.margin;
 }
 
-pub fn put_row(
-    sort: &mut [u8; 256],
-    live: &mut [bool; 256],
-    tm: &mut [u16; 256],
-    w: &mut [u64; 2560],
-    i: usize,
-    r: Row,
-)
+pub fn put_row(marks: &mut Marks, w: &mut [u64; 2560], i: usize, r: Row)
     requires { i < 256 }
-    ensures sort_after { sort.new ≡ set sort.old i r.sort }
-    ensures live_after { live.new ≡ set live.old i r.live }
-    ensures tm_after { tm.new ≡ set tm.old i r.tm }
+    ensures marks_after { marks.new ≡ put_marks marks.old i r }
     ensures w_after { w.new ≡ put_row w.old i r }
 {
-    sort[i] = r.sort;
-    live[i] = r.live;
-    tm[i] = r.tm;
+    marks.sort[i] = r.sort;
+    marks.live[i] = r.live;
+    marks.tm[i] = r.tm;
     put_amounts(w, i, r);
 }

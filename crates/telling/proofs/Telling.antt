@@ -27,7 +27,7 @@ use Rattle.desk.specs.Answers.{refusal_in}
 use Rattle.desk.specs.Steps.{step_of}
 use Rattle.steps.specs.declared.At.{At}
 use Rattle.steps.specs.declared.Gone.{Gone}
-use Rattle.steps.specs.Lent.{Lent}
+use Rattle.steps.specs.declared.Lent.{Lent}
 use Rattle.steps.specs.Steps.{refusal_shown, given_shown, book_in, at_after, Going, SteppedOn}
 use Rattle.records.specs.LineNumbers.{numbers_of_line}
 use Rattle.records.specs.Runs.{run_of}

@@ -2,10 +2,8 @@
 #![tactic(auto)]
 
 ghost use Rattle.std.specs.Prelude.{◌≡◌, ◌+◌, ◌≤◌, ◌<◌, length};
-ghost use Rattle.table.specs.Words.{marks_from};
 ghost use Rattle.book.specs.Facts.{Sound};
-ghost use Rattle.steps.specs.Lent.{lent, before, after};
-ghost use Rattle.steps.specs.Steps.{book_at, book_in, Going};
+ghost use Rattle.steps.specs.Steps.{book_in, Going};
 ghost use Rattle.records.specs.Runs.{run_of};
 ghost use Rattle.records.specs.Inner.{ran_in};
 ghost use Rattle.text.specs.Inner.{Puts, Texts};
@@ -19,7 +17,7 @@ use dayfile::Record;
 use passing::{Largest, most_in};
 use records::{Closing, Went};
 use rows::Kinds;
-use steps::{At, Gone, on, step_read};
+use steps::{At, Gone, Lent, on, step_read};
 use text::line::put_line;
 use text::put_spaced;
 
@@ -54,40 +52,26 @@ fn head_only(h: Head) -> Record
 }
 
 // How much would have passed at the book that the arrays are; its modes are those that it was handed over with while no record was carried out.
-fn most_at<'a>(
-    sort: &'a [u8; 256],
-    live: &'a [bool; 256],
-    tm: &'a [u16; 256],
-    w: &'a [u64; 2560],
-    modes: &'a [bool; 256],
-    needs: &'a [u64; 256],
-    numbers: &'a [u16; 256],
-    was: &'a [bool; 256],
-    at: At,
-    h: Head,
-) -> Largest
-    requires { Sound (book_at at (marks_from sort.now live.now tm.now) w.now was.now modes.now needs.now numbers.now) }
-    ensures { result ≡ most_of (book_at at (marks_from sort.now live.now tm.now) w.now was.now
-        modes.now needs.now numbers.now) (head_only h) }
+fn most_at(l: &Lent, was: &[bool; 256], at: At, h: Head) -> Largest
+    requires { Sound (book_in at was.now l.now) }
+    ensures { result ≡ most_of (book_in at was.now l.now) (head_only h) }
 {
-    let count = at.count;
-    let r = head_only(h);
-    if at.waiting {
-        return most_in(sort, live, tm, w, was, needs, numbers, count, r);
-    }
-    most_in(sort, live, tm, w, modes, needs, numbers, count, r)
+    let modes = if at.waiting { was } else { &l.modes };
+    most_in(
+        &l.marks,
+        &l.words,
+        modes,
+        &l.needs,
+        &l.numbers,
+        at.count,
+        head_only(h),
+    )
 }
 
 // Puts the line of a record that came to so much, and gives the place after it. A refusal moves the serial alone, so that the book after it tells how much would have passed before.
-fn put_told<'a>(
-    sort: &'a [u8; 256],
-    live: &'a [bool; 256],
-    tm: &'a [u16; 256],
-    w: &'a [u64; 2560],
-    modes: &'a [bool; 256],
-    needs: &'a [u64; 256],
-    numbers: &'a [u16; 256],
-    was: &'a [bool; 256],
+fn put_told(
+    l: &Lent,
+    was: &[bool; 256],
     at: At,
     h: Head,
     gone: Gone,
@@ -96,11 +80,8 @@ fn put_told<'a>(
     text: &mut [u8],
     put: usize,
 ) -> usize
-    requires { Sound (book_at at (marks_from sort.now live.now tm.now) w.now was.now modes.now needs.now numbers.now)
-        × Texts words.now × (put + 147 ≤ length text.old) }
-    ensures { Puts text.old put (line_by explained
-        (book_at at (marks_from sort.now live.now tm.now) w.now was.now modes.now
-        needs.now numbers.now) h gone) text.new result }
+    requires { Sound (book_in at was.now l.now) × Texts words.now × (put + 147 ≤ length text.old) }
+    ensures { Puts text.old put (line_by explained (book_in at was.now l.now) h gone) text.new result }
 {
     let code = h.code as u16;
     let refusal = gone.refusal as u16;
@@ -109,7 +90,7 @@ fn put_told<'a>(
             words, text, put, h.serial, code, h.account, refusal, gone.given,
         );
     }
-    let most = most_at(sort, live, tm, w, modes, needs, numbers, was, at, h);
+    let most = most_at(l, was, at, h);
     let seven = [
         h.serial as u64,
         code as u64,
@@ -124,15 +105,7 @@ fn put_told<'a>(
 
 // The records of a piece at a sound table, whose arrays are lent, with their lines put from the room's start, up to the stated number and as long as the room has space for one more line.
 pub fn tell(
-    sort: &mut [u8; 256],
-    live: &mut [bool; 256],
-    tm: &mut [u16; 256],
-    w: &mut [u64; 2560],
-    kept: &mut [u64; 256],
-    modes: &mut [bool; 256],
-    needs: &mut [u64; 256],
-    numbers: &mut [u16; 256],
-    excess: &mut [u64; 256],
+    l: &mut Lent,
     was: &[bool; 256],
     first: At,
     piece: &[u8],
@@ -141,14 +114,12 @@ pub fn tell(
     words: &[u64; 1000],
     text: &mut [u8],
 ) -> Told
-    requires { Going first was.now (lent sort live tm w kept modes needs numbers excess)
-        × Texts words.now × (147 ≤ length text.old) }
-    ensures excess_value { ran_in result.went was.now (after sort live tm w kept modes needs numbers excess)
-        ≡ run_of piece.now (held_to result.went.closing result.went.read most)
-        (book_in first was.now (before sort live tm w kept modes needs numbers excess)) 0 0 0 }
-    ensures going { Going result.went.at was.now (after sort live tm w kept modes needs numbers excess) }
+    requires { Going first was.now l.old × Texts words.now × (147 ≤ length text.old) }
+    ensures excess_value { ran_in result.went was.now l.new
+        ≡ run_of piece.now (held_to result.went.closing result.went.read most) (book_in first was.now l.old) 0 0 0 }
+    ensures going { Going result.went.at was.now l.new }
     ensures puts { Puts text.old 0 (told_of (line_told explained) piece.now (held_to result.went.closing result.went.read most)
-        (book_in first was.now (before sort live tm w kept modes needs numbers excess)) 0) text.new result.text }
+        (book_in first was.now l.old) 0) text.new result.text }
     ensures read_le_most { (result.went.read ≤ most) × (result.went.closing ≡ Closing.Long → 0 < most → 0 < result.went.read) }
 {
     let mut at = first;
@@ -173,15 +144,9 @@ pub fn tell(
                 if (most <= read) | (last < put) {
                     break Closing::Long;
                 }
-                let gone = step_read(
-                    sort, live, tm, w, kept, modes, needs, numbers, excess, was, at, piece, place,
-                    h,
-                );
+                let gone = step_read(l, was, at, piece, place, h);
                 at = on(at, gone);
-                put = put_told(
-                    sort, live, tm, w, modes, needs, numbers, was, at, h, gone, explained, words,
-                    text, put,
-                );
+                put = put_told(l, was, at, h, gone, explained, words, text, put);
                 place = next;
                 read += 1;
                 done += gone.carried;

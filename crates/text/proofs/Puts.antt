@@ -5,7 +5,7 @@ use Prim.Native.Nat.{ℕ, suc, ◌+◌, ◌≤◌, ◌<◌}
 use native.Mathlib.Numerals.{add-one}
 use native.Mathlib.Omega.{arith}
 use lib.ListN.{length, set, take, drop, get_or, length-append}
-use lib.Seq.{sets-eq, length-sets, length-take-le, take-suc, take_all}
+use lib.Seq.{sets-eq, length-sets, length-take-le, take-suc}
 use Rattle.sums.specs.Room.{at_start}
 use Rattle.text.specs.Inner.{put, Puts}
 
@@ -49,9 +49,6 @@ pub byte_at : {room₀ room : List ℕ} {at i : ℕ} (text : List ℕ) → i < l
 byte_at {at = at} {i = i} text h m f =
     let e : take (i + 1) text ≡ take i text ++ (get_or text i 0 ∷ []) = ap (λ (j : ℕ). take j text) (add-one i) ∙ take-suc text i 0 h in
     rw e (and_then (take i text) (get_or text i 0 ∷ []) f (record { holds = refl; next = omega arith; within = omega (arith, puts-length f) }))
-
-pub puts_whole : {room₀ room : List ℕ} {at i after : ℕ} (text : List ℕ) → length text ≤ i → Puts room₀ at (take i text) room after → Puts room₀ at text room after
-puts_whole {room₀} {room} {at} {i} text h f = rw (take_all i text h) at f
 
 -- a text at the room's start
 pub puts-at-start : {room text room' : List ℕ} {after : ℕ} → Puts room 0 text room' after → (after ≡ length text) × (room' ≡ at_start text room)

@@ -1,8 +1,6 @@
 -- A number in decimal digits, as a word says it (docs/API.md: `margins`, `statements`).
-use Rattle.std.specs.Prelude.{◌&&◌, List, [], ◌∷◌, ℕ, ◌+◌, ◌-◌, ◌*◌, eqb, leb}
+use Rattle.std.specs.Prelude.{◌&&◌, List, [], ◌∷◌, ℕ, ◌+◌, ◌-◌, ◌*◌, eqb, leb, Option, None, Some}
 use Rattle.sums.specs.Choice.{pick}
-use Rattle.text.specs.declared.decimals.Decimal.{Decimal}
-use Rattle.text.specs.declared.decimals.Decimal.TheVariants.{Is, No}
 
 -- the largest number of eight bytes
 abbrev pub largest : ℕ
@@ -17,11 +15,11 @@ abbrev pub with_digit : ℕ → ℕ → ℕ
 with_digit n d = pick (leb (10 * n + d) largest) (10 * n + d) largest
 
 -- what digits say behind those that say n
-unfoldable pub said : ℕ → List ℕ → Decimal
-said n [] = Is n
-said n (b ∷ rest) = pick (eqb (digit_in b) 10) No (said (with_digit n (digit_in b)) rest)
+unfoldable pub said : ℕ → List ℕ → Option ℕ
+said n [] = Some n
+said n (b ∷ rest) = pick (eqb (digit_in b) 10) None (said (with_digit n (digit_in b)) rest)
 
 -- the number that a word is; no digits are none
-unfoldable pub decimal_of : List ℕ → Decimal
-decimal_of [] = No
+unfoldable pub decimal_of : List ℕ → Option ℕ
+decimal_of [] = None
 decimal_of (b ∷ rest) = said 0 (b ∷ rest)

@@ -18,12 +18,9 @@ pub fn put_text(room: &mut [u8], at: usize, text: &[u8]) -> usize
     requires { at + length text.now ≤ length room.old }
     ensures { Puts room.old at text.now room.new result }
 {
-    let mut i: usize = 0;
-    while i < text.len() {
-        room[at + i] = text[i];
-        i += 1;
-    }
-    at + i
+    let end = at + text.len();
+    room[at..end].copy_from_slice(text);
+    end
 }
 
 // Puts a number and the byte after it, and gives the place after both.
@@ -38,6 +35,7 @@ pub fn put_number(room: &mut [u8], at: usize, n: u64, mark: u8) -> usize
 }
 
 // The same for a number of 16 bits, which takes five digits at most: no loop, and few steps.
+// Not one with put_number: 21 bytes of room are more than a short number asks for.
 pub fn put_short(room: &mut [u8], at: usize, n: u16, mark: u8) -> usize
     requires { at + 6 ≤ length room.old }
     ensures puts { Puts room.old at (followed n mark) room.new result }
@@ -80,10 +78,8 @@ pub fn put_each(room: &mut [u8], at: usize, list: &[u64], n: usize) -> usize
     ensures upper_bound { result ≤ at + 21 * n }
 {
     let mut place = at;
-    let mut i: usize = 0;
-    while i < n {
-        place = put_number(room, place, list[i], b' ');
-        i += 1;
+    for x in &list[..n] {
+        place = put_number(room, place, *x, b' ');
     }
     place
 }

@@ -44,8 +44,7 @@ pub fn put_lines(t: &[u64; 1000], room: &mut [u8], numbers: &[u16], count: usize
     ensures { Puts room.old 0 (lines_to numbers.now count) room.new result }
 {
     let mut at: usize = 0;
-    let mut i: usize = 0;
-    while i < count {
+    for i in 0..count {
         let k = 5 * i;
         at = put_line(
             t,
@@ -57,7 +56,6 @@ pub fn put_lines(t: &[u64; 1000], room: &mut [u8], numbers: &[u16], count: usize
             numbers[k + 3],
             numbers[k + 4],
         );
-        i += 1;
     }
     at
 }

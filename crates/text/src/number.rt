@@ -45,6 +45,7 @@ fn put_four(room: &mut [u8], at: usize, n: u16) -> usize
 }
 
 // Puts any number of 16 bits, in the same way.
+// Not a loop over pairs of digits: five digits are two steps.
 pub(crate) fn put_five(room: &mut [u8], at: usize, n: u16) -> usize
     requires { at + 5 ≤ length room.old }
     ensures { Puts room.old at (decimal n) room.new result }

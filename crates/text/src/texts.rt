@@ -33,10 +33,8 @@ pub fn fill(t: &mut [u64; 1000])
     requires { length t.old ≡ 1000 }
     ensures { Texts t.new }
 {
-    let mut n: usize = 0;
-    while n < 1000 {
+    for n in 0..1000 {
         t[n] = text_of(n as u64);
-        n += 1;
     }
 }
 

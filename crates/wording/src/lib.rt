@@ -21,6 +21,7 @@ const ROOM: usize = 32_768;
 const TURNS: u64 = 281_474_976_710_656;
 
 // What a file came to: the number of the first line that says nothing and its fault, or 0 and 0; how many bytes were printed; whether a read or a write failed.
+// No Result: what was printed is counted before a failure and a fault too.
 #[derive(Clone, Copy)]
 pub struct Worded {
     pub failed: bool,
@@ -99,8 +100,7 @@ fn in_pieces(
     let mut lines: u64 = 0;
     let mut printed: u64 = 0;
     let mut ended = false;
-    let mut turns: u64 = 0;
-    while turns < TURNS {
+    for turns in 0..TURNS {
         let got = refill(rt, program, &mut source, &mut space, rest, ended);
         if got.failed {
             return no_words();
@@ -131,7 +131,6 @@ fn in_pieces(
             return bad_line(rt, program, printing, lines + 1, 34);
         }
         rest = to_front(&mut space, taken.place, held);
-        turns += 1;
     }
     no_words()
 }
@@ -147,8 +146,7 @@ pub fn in_words(rt: &HostRuntime, program: &[u8], running: u16) -> Worded
 fn in_file(rt: &HostRuntime, program: &[u8], word: usize, printing: bool, running: u16) -> Worded
     ensures { Came (day_within running) printing result }
 {
-    let opened = open_named(rt, program, b"read the text", word);
-    match opened.file {
+    match open_named(rt, program, b"read the text", word) {
         Ok(file) => {
             let source = Source::Named(word, file);
             in_pieces(rt, program, source, false, printing, running)

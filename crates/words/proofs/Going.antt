@@ -4,11 +4,11 @@ use borrow.Author.Tests.{lt-leb, not-true, not-false}
 use Rattle.sums.specs.Room.{at_start}
 use Rattle.sums.proofs.Choices.{and-join, and-left-fails, and-right-fails, or_split, or-fails}
 use Rattle.text.proofs.Puts.{puts-length}
-use Rattle.words.specs.declared.piece.Step.{Step}
-use Rattle.words.specs.declared.piece.Step.TheVariants.{Puts as Goes, Fails}
+use Rattle.words.specs.declared.piece.Placed.{Placed}
+use Rattle.std.specs.Prelude.{Result, Err}
 use Rattle.words.specs.Texts.{Turned}
 use Rattle.words.specs.Pieces.{Taking, taken_from, told_of}
-use Rattle.words.specs.Inner.{Stepped}
+use Rattle.words.specs.Inner.{goes, Stepped}
 use Rattle.words.proofs.Taking.{no_part, not-ready, part-fails, part-taken, step-failed, step_went, Sofar, begun, one-part, over}
 
 module _ (ready : List ℕ → Bool) (most : ℕ) (turn : ℕ → List ℕ → Turned) (items : ℕ → List (List ℕ)) (room₀ : List ℕ) (running : ℕ) where
@@ -51,13 +51,13 @@ module _ (ready : List ℕ → Bool) (most : ℕ) (turn : ℕ → List ℕ → T
         go : (ready x && leb most (length room₀ - count)) ≡ true
         go = and-join (r ∙ not-false t (or-fails (not t) (ltb (length room - count) most) w).0) (le-leb most (length room₀ - count) (omega (arith, enough, same-room)))
 
-        module _ (s : Step) (room' : List ℕ) (h : Stepped (turn next x) room count s room') where
-          pub failed : (n : ℕ) → s ≡ Fails n → Told room' place lines count next n
+        module _ (s : Result Placed ℕ) (room' : List ℕ) (h : Stepped (turn next x) room count s room') where
+          pub failed : (n : ℕ) → s ≡ Err n → Told room' place lines count next n
           failed n d =
               let k = step-failed (turn next x) room count s room' h n d in
               rw k.1 (over f next n (part-fails ready most turn (length room₀ - count) next (items place) x (items end) e go n k.0))
 
-          pub went : (p serial : ℕ) → s ≡ Goes p serial → place + length x ≡ end → State room' end (lines + 1) p serial
+          pub went : (p serial : ℕ) → s ≡ goes p serial → place + length x ≡ end → State room' end (lines + 1) p serial
           went p serial d m =
               let k = step_went (turn next x) room count s room' p serial h d in
               let q : length room₀ - count - length k.bytes ≡ length room₀ - p = omega (arith, k.put.next) in

@@ -6,13 +6,13 @@ use Rattle.dayfile.specs.declared.Read.TheVariants.{End, Cut, Good, Bad}
 use Rattle.dayfile.specs.Reading.{found_at, read_at}
 use Rattle.text.specs.Inner.{Puts}
 use Rattle.words.specs.declared.piece.End.{End as Ended}
-use Rattle.words.specs.declared.piece.Step.{Step}
-use Rattle.words.specs.declared.piece.Step.TheVariants.{Puts as Goes, Fails}
+use Rattle.words.specs.declared.piece.Placed.{Placed}
+use Rattle.std.specs.Prelude.{Result, Err}
 use Rattle.words.specs.Lines.{line_of}
 use Rattle.words.specs.Hex.{raw_line}
 use Rattle.words.specs.Texts.{moved, line_by, line_for, record_turned, records_of}
 use Rattle.words.specs.Pieces.{is_whole}
-use Rattle.words.specs.Inner.{Stepped}
+use Rattle.words.specs.Inner.{goes, Stepped}
 use Rattle.words.proofs.RecordsAt.{no_record, Here}
 use Rattle.words.proofs.Going.{State, Told, started, no_more, same-room, in-room, wait, enough, failed, went}
 
@@ -40,7 +40,7 @@ module _ (x : List ℕ) (running : ℕ) (a : Read) (e : a ≡ read_at x 0) where
   bad-line d = sym (line_as ∙ ap (line_by running x) d)
 
 pub record-went : (x : List ℕ) (running : ℕ) {y room : List ℕ} {at p next : ℕ} {room' : List ℕ} → y ≡ line_for running x → Puts room at y room' p → next ≡ moved running x
-    → Stepped (record_turned running x) room at (Goes p next) room'
+    → Stepped (record_turned running x) room at (goes p next) room'
 unfolding Stepped
 record-went x running e f n = rw (← e, n, f.next) (refl, rw f.next at f)
 
@@ -80,11 +80,11 @@ module _ {bytes : List ℕ} {last : Bool} {running : ℕ} {room₀ room : List �
       pub bytes-enough : count + 205 ≤ length room
       bytes-enough = enough (λ x. last || is_whole (found_at x 0)) 205 record_turned (λ p. records_of (drop p bytes)) room₀ running room place lines count next f.is part e.place g.here (last || e.whole) is-whole w
 
-      module _ {s : Step} {room' : List ℕ} (d : Stepped (record_turned next part) room count s room') where
-        pub bytes-failed : {n : ℕ} → s ≡ Fails n → BytesTold bytes last running room₀ room' place lines count next n
+      module _ {s : Result Placed ℕ} {room' : List ℕ} (d : Stepped (record_turned next part) room count s room') where
+        pub bytes-failed : {n : ℕ} → s ≡ Err n → BytesTold bytes last running room₀ room' place lines count next n
         bytes-failed {n} = failed (λ x. last || is_whole (found_at x 0)) 205 record_turned (λ p. records_of (drop p bytes)) room₀ running room place lines count next f.is part e.place g.here (last || e.whole) is-whole w s room' d n
 
-        pub bytes-went : {p serial : ℕ} → s ≡ Goes p serial → BytesState bytes last running room₀ room' e.place (lines + 1) p serial
+        pub bytes-went : {p serial : ℕ} → s ≡ goes p serial → BytesState bytes last running room₀ room' e.place (lines + 1) p serial
         bytes-went {p} {serial} k =
             let m = g.more in
             let n = g.within in

@@ -4,11 +4,11 @@ use Rattle.sums.specs.Room.{at_start}
 use Rattle.sums.proofs.Choices.{pick_yes, pick_no}
 use Rattle.text.specs.Inner.{Puts}
 use Rattle.text.proofs.Puts.{puts_none, and_then, puts-at-start}
-use Rattle.words.specs.declared.piece.Step.{Step}
-use Rattle.words.specs.declared.piece.Step.TheVariants.{Puts as Goes, Fails}
+use Rattle.words.specs.declared.piece.Placed.{Placed}
+use Rattle.std.specs.Prelude.{Result, Err}
 use Rattle.words.specs.Texts.{moved, Turned, puts, fails, Meant, means, faulty, turned_by}
 use Rattle.words.specs.Pieces.{Taking, stop, after, taken_by, taken_from, told_of}
-use Rattle.words.specs.Inner.{Stepped}
+use Rattle.words.specs.Inner.{goes, Stepped}
 
 -- ---- one part more, or a stop
 
@@ -33,8 +33,8 @@ module _ (ready : List ℕ → Bool) (most : ℕ) (turn : ℕ → List ℕ → T
 
 -- ---- what a step gave
 
-module _ (t : Turned) (room : List ℕ) (at : ℕ) (r : Step) (room' : List ℕ) (s : Stepped t room at r room') where
-  pub step-failed : (n : ℕ) → r ≡ Fails n → (t ≡ fails n) × (room' ≡ room)
+module _ (t : Turned) (room : List ℕ) (at : ℕ) (r : Result Placed ℕ) (room' : List ℕ) (s : Stepped t room at r room') where
+  pub step-failed : (n : ℕ) → r ≡ Err n → (t ≡ fails n) × (room' ≡ room)
   unfolding Stepped
   step-failed n e = by t s
     where
@@ -48,21 +48,22 @@ pub record Went (t : Turned) (room : List ℕ) (at : ℕ) (room' : List ℕ) (p 
   pub is : t ≡ puts bytes next
   pub put : Puts room at bytes room' p
 
-pub step_went : (t : Turned) (room : List ℕ) (at : ℕ) (r : Step) (room' : List ℕ) (p next : ℕ) → Stepped t room at r room' → r ≡ Goes p next → Went t room at room' p next
+pub step_went : (t : Turned) (room : List ℕ) (at : ℕ) (r : Result Placed ℕ) (room' : List ℕ) (p next : ℕ) → Stepped t room at r room' → r ≡ goes p next → Went t room at room' p next
 unfolding Stepped
 step_went (puts y n) room at r room' p next h e =
     let k = h.0 in
-    let same : n ≡ next = cc in
-    let place : at + length y ≡ p = cc in
+    let placed : (record { after = at + length y; running = n }) ≡ (record { after = p; running = next }) = cc in
+    let same : n ≡ next = ap (λ (q : Placed). q.running) placed in
+    let place : at + length y ≡ p = ap (λ (q : Placed). q.after) placed in
     record { bytes = y; is = ap (puts y) same; put = rw place at h.1 }
 step_went (fails m) room at r room' p next h e = absurd (let k = h.0 in let z : ◌≡◌ {A = ℕ} 0 1 = cc in omega arith)
 
 pub line-went : (m : Meant) (x : List ℕ) (running : ℕ) (room : List ℕ) (at p next : ℕ) (room' : List ℕ) → m ≡ means x → Puts room at x room' p → next ≡ moved running x
-    → Stepped (turned_by running m) room at (Goes p next) room'
+    → Stepped (turned_by running m) room at (goes p next) room'
 unfolding turned_by Stepped
 line-went m x running room at p next room' e f n = rw (e, n, f.next) (refl, rw f.next at f)
 
-pub line-failed : (m : Meant) (n running : ℕ) (room : List ℕ) (at : ℕ) → m ≡ faulty n → Stepped (turned_by running m) room at (Fails n) room
+pub line-failed : (m : Meant) (n running : ℕ) (room : List ℕ) (at : ℕ) → m ≡ faulty n → Stepped (turned_by running m) room at (Err n) room
 unfolding turned_by Stepped
 line-failed m n running room at e = rw e (refl, refl)
 

@@ -1,10 +1,10 @@
 -- The loop over the lines of a piece of text.
 use Rattle.std.proofs.Common.{◌≡◌, ℕ, ◌+◌, ◌-◌, ◌<◌, ◌≤◌, Bool, true, false, not, ◌||◌, eqb, ltb, List, length, get_or, take, drop, ap, arith, length-drop, length-take-le}
-use Rattle.words.specs.declared.piece.Step.{Step}
-use Rattle.words.specs.declared.piece.Step.TheVariants.{Puts as Goes, Fails}
+use Rattle.words.specs.declared.piece.Placed.{Placed}
+use Rattle.std.specs.Prelude.{Result, Err}
 use Rattle.words.specs.Texts.{line_turned, lines_of, line_length}
 use Rattle.words.specs.Pieces.{ended}
-use Rattle.words.specs.Inner.{Stepped}
+use Rattle.words.specs.Inner.{goes, Stepped}
 use Rattle.words.proofs.LinesAt.{no_line, line-more, line-within, line-here, line-ended}
 use Rattle.words.proofs.Going.{State, Told, started, no_more, same-room, in-room, wait, enough, failed, went}
 
@@ -45,11 +45,11 @@ module _ {text : List ℕ} {last : Bool} {running : ℕ} {room₀ room : List �
       pub text-enough : count + 70 ≤ length room
       text-enough = enough (λ l. last || ended l) 70 line_turned (λ p. lines_of (drop p text)) room₀ running room place lines count next f.is line end (line-here text place end h e) whole is-whole w
 
-      module _ {s : Step} {room' : List ℕ} (d : Stepped (line_turned next line) room count s room') where
-        pub text-failed : {n : ℕ} → s ≡ Fails n → TextTold text last running room₀ room' place lines count next n
+      module _ {s : Result Placed ℕ} {room' : List ℕ} (d : Stepped (line_turned next line) room count s room') where
+        pub text-failed : {n : ℕ} → s ≡ Err n → TextTold text last running room₀ room' place lines count next n
         text-failed {n} = failed (λ l. last || ended l) 70 line_turned (λ p. lines_of (drop p text)) room₀ running room place lines count next f.is line end (line-here text place end h e) whole is-whole w s room' d n
 
-        pub text-went : {p serial : ℕ} → s ≡ Goes p serial → TextState text last running room₀ room' end (lines + 1) p serial
+        pub text-went : {p serial : ℕ} → s ≡ goes p serial → TextState text last running room₀ room' end (lines + 1) p serial
         text-went {p} {serial} k =
             let m = line-more text place end h e in
             let n = line-within text place end h e in

@@ -1,27 +1,11 @@
 -- What the loop that reads bytes in hexadecimal does at one place.
-use Rattle.std.proofs.Common.{◌≡◌, ℕ, zero, suc, ◌+◌, ◌-◌, ◌*◌, ◌<◌, ◌≤◌, true, false, ◌&&◌, ◌||◌, eqb, ltb, ◌⊎◌, List, [], ◌∷◌, ◌++◌, length, get_or, take, drop, set, sym, refl, ap, ◌∙◌, inl, inr, append_assoc, append-nil, add-one, arith, length-drop, length-take-le, take-suc-set, le-ltb, lt-ltb, eqb-true}
-use borrow.Author.Tests.{eqb-false}
-use Rattle.sums.proofs.Choices.{pick_yes, pick_no, and-join, and-left-fails, and-right-fails, or_split, or-fails}
+use Rattle.std.proofs.Common.{◌≡◌, ℕ, zero, suc, ◌+◌, ◌-◌, ◌*◌, ◌<◌, ◌≤◌, true, false, ◌&&◌, ltb, List, [], ◌∷◌, ◌++◌, length, get_or, take, drop, set, sym, refl, ap, ◌∙◌, append_assoc, append-nil, add-one, arith, length-drop, length-take-le, take-suc-set, le-ltb, lt-ltb}
+use Rattle.sums.proofs.Choices.{pick_yes, pick_no, and-join, and-left-fails, and-right-fails}
 use Rattle.words.specs.declared.unhex.Count.{Count}
 use Rattle.words.specs.Tokens.{blank}
 use Rattle.words.specs.Hex.{hex_value, Hexed, stopped, with_byte, hex_from}
 use Rattle.words.specs.Inner.{Unhexed}
 use Rattle.words.proofs.Steps.{ahead}
-
--- two digits of which one says 16 are none
-no-digits : (high low : ℕ) → (eqb high 16 || eqb low 16) ≡ true → (ltb high 16 && ltb low 16) ≡ false
-no-digits high low e = by (or_split (eqb high 16) (eqb low 16) e)
-  where
-    by : (eqb high 16 ≡ true) ⊎ (eqb low 16 ≡ true) → (ltb high 16 && ltb low 16) ≡ false
-    by (inl t) = let k = eqb-true high 16 t in and-left-fails (ltb high 16) (ltb low 16) (le-ltb high 16 (omega arith))
-    by (inr t) = let k = eqb-true low 16 t in and-right-fails (ltb high 16) (ltb low 16) (le-ltb low 16 (omega arith))
-
-pub digits-below : (high low : ℕ) → high ≤ 16 → low ≤ 16 → (eqb high 16 || eqb low 16) ≡ false → (high < 16) × (low < 16)
-digits-below high low h k e =
-    let f = or-fails (eqb high 16) (eqb low 16) e in
-    let p = eqb-false high 16 f.0 in
-    let q = eqb-false low 16 f.1 in
-    (omega arith, omega arith)
 
 -- what is read in all, with n bytes in the room
 pub record HexSofar (whole : Hexed) (room : List ℕ) (n : ℕ) (rest : Hexed) : Type 0 where
@@ -80,12 +64,20 @@ module _ (s : List ℕ) (i : ℕ) where
         ∙ ap (λ (l : List ℕ). hex_from (suc k) l (suc i)) (sym one)
         ∙ ap (hex_from (suc k) (drop (i + 1) s)) (sym (add-one i))
 
-    module _ (full : blank (get_or s i 0) ≡ false) (high low : ℕ) (p : high ≡ hex_value (get_or s i 0)) (q : low ≡ hex_value (get_or s (i + 1) 0)) where
-      pub hex-stop : (k : ℕ) → (eqb high 16 || eqb low 16) ≡ true → hex_from k (drop i s) i ≡ stopped i
+    module _ (full : blank (get_or s i 0) ≡ false) where
+      stop : (k : ℕ) → (ltb (hex_value (get_or s i 0)) 16 && ltb (hex_value (get_or s (i + 1) 0)) 16) ≡ false → hex_from k (drop i s) i ≡ stopped i
       unfolding hex_from
-      hex-stop zero e = refl
-      hex-stop (suc k) e = ap (λ (l : List ℕ). hex_from (suc k) l i) two ∙ pick_no _ _ _ full ∙ pick_no _ _ _ (rw (← p, ← q) (no-digits high low e))
+      stop zero e = refl
+      stop (suc k) e = ap (λ (l : List ℕ). hex_from (suc k) l i) two ∙ pick_no _ _ _ full ∙ pick_no _ _ _ e
 
+      -- one of the two is no digit
+      pub first-stops : (k : ℕ) → hex_value (get_or s i 0) ≡ 16 → hex_from k (drop i s) i ≡ stopped i
+      first-stops k e = stop k (and-left-fails _ (ltb (hex_value (get_or s (i + 1) 0)) 16) (le-ltb _ 16 (omega arith)))
+
+      pub second-stops : (k : ℕ) → hex_value (get_or s (i + 1) 0) ≡ 16 → hex_from k (drop i s) i ≡ stopped i
+      second-stops k e = stop k (and-right-fails (ltb (hex_value (get_or s i 0)) 16) _ (le-ltb _ 16 (omega arith)))
+
+    module _ (full : blank (get_or s i 0) ≡ false) (high low : ℕ) (p : hex_value (get_or s i 0) ≡ high) (q : hex_value (get_or s (i + 1) 0) ≡ low) where
       pub hex-byte : (k : ℕ) → (k ≡ 0 → ⊥) → (high < 16) × (low < 16) → hex_from k (drop i s) i ≡ with_byte (16 * high + low) (hex_from (k - 1) (drop (i + 2) s) (i + 2))
       unfolding hex_from
       hex-byte zero n e = absurd (n refl)
@@ -93,7 +85,7 @@ module _ (s : List ℕ) (i : ℕ) where
           let j : suc k - 1 ≡ k = omega arith in
           let m : i + 2 ≡ suc (suc i) = omega arith in
           ap (λ (l : List ℕ). hex_from (suc k) l i) two ∙ pick_no _ _ _ full
-          ∙ pick_yes _ _ _ (rw (← p, ← q) (and-join (lt-ltb high 16 e.0) (lt-ltb low 16 e.1))) ∙ rw (← p, ← q, j, m)
+          ∙ pick_yes _ _ _ (rw (p, q) (and-join (lt-ltb high 16 e.0) (lt-ltb low 16 e.1))) ∙ rw (p, q, j, m)
 
       pub byte-read : {whole : Hexed} {room : List ℕ} {n : ℕ} → HexSofar whole room n (hex_from (70 - n) (drop i s) i) → n < 70 → n < length room → (high < 16) × (low < 16)
           → HexSofar whole (set room n (16 * high + low)) (n + 1) (hex_from (70 - (n + 1)) (drop (i + 2) s) (i + 2))

@@ -13,11 +13,11 @@ use crate::serial::moved;
 use dayfile::{Found, Read, Wrote, found_at, read_at};
 use text::put_text;
 
-// What one part came to: the place after what was put and the running serial then, or a fault.
+// What one part came to: the place after what was put, and the running serial then.
 #[derive(Clone, Copy)]
-enum Step {
-    Puts(usize, u16),
-    Fails(u8),
+struct Placed {
+    after: usize,
+    running: u16,
 }
 
 fn told(place: usize, lines: usize, count: usize, running: u16, fault: u8) -> Taken
@@ -36,18 +36,16 @@ fn told(place: usize, lines: usize, count: usize, running: u16, fault: u8) -> Ta
 pub fn line_end(text: &[u8], at: usize) -> usize
     ensures { result ≡ at + line_length (drop at text.now) }
 {
-    let mut i = at;
-    while i < text.len() {
+    for i in at..text.len() {
         if text[i] == b'\n' {
             return i + 1;
         }
-        i += 1;
     }
-    i
+    at.max(text.len())
 }
 
 // Puts the bytes that a line means.
-fn line_into(line: &[u8], running: u16, room: &mut [u8], at: usize) -> Step
+fn line_into(line: &[u8], running: u16, room: &mut [u8], at: usize) -> Result<Placed, u8>
     requires { at + 70 ≤ length room.old }
     ensures { Stepped (line_turned running line.now) room.old at result room.new }
 {
@@ -56,9 +54,12 @@ fn line_into(line: &[u8], running: u16, room: &mut [u8], at: usize) -> Step
         Wrote::Written(n) => {
             let after = put_text(room, at, &bytes[..n]);
             let next = moved(running, &bytes[..n]);
-            Step::Puts(after, next)
+            Ok(Placed {
+                after,
+                running: next,
+            })
         }
-        Wrote::Refused(fault) => Step::Fails(fault),
+        Wrote::Refused(fault) => Err(fault),
     }
 }
 
@@ -72,6 +73,7 @@ pub fn bytes_of_text(text: &[u8], last: bool, running: u16, room: &mut [u8]) -> 
     let mut lines: usize = 0;
     let mut count: usize = 0;
     let mut next = running;
+    // A `while`: a turn goes on by its line's length, and a line left for the next piece ends it.
     while place < text.len() {
         let end = line_end(text, place);
         let whole = last | (text[end - 1] == b'\n');
@@ -79,14 +81,14 @@ pub fn bytes_of_text(text: &[u8], last: bool, running: u16, room: &mut [u8]) -> 
             return told(place, lines, count, next, 0);
         }
         match line_into(&text[place..end], next, room, count) {
-            Step::Fails(fault) => {
+            Err(fault) => {
                 return told(place, lines, count, next, fault);
             }
-            Step::Puts(after, serial) => {
+            Ok(placed) => {
                 place = end;
                 lines += 1;
-                count = after;
-                next = serial;
+                count = placed.after;
+                next = placed.running;
             }
         }
     }
@@ -94,6 +96,7 @@ pub fn bytes_of_text(text: &[u8], last: bool, running: u16, room: &mut [u8]) -> 
 }
 
 // Where a part ends, and whether it is there as a whole.
+// No Option: the place counts in either case.
 #[derive(Clone, Copy)]
 struct End {
     place: usize,
@@ -121,7 +124,7 @@ fn record_end(bytes: &[u8], at: usize) -> End
 }
 
 // Puts the line of a record, or of a cut end.
-fn record_into(bytes: &[u8], running: u16, room: &mut [u8], at: usize) -> Step
+fn record_into(bytes: &[u8], running: u16, room: &mut [u8], at: usize) -> Result<Placed, u8>
     requires { (at + 205 ≤ length room.old) × (length bytes.now ≤ 70) }
     ensures { Stepped (record_turned running bytes.now) room.old at result room.new }
 {
@@ -132,7 +135,10 @@ fn record_into(bytes: &[u8], running: u16, room: &mut [u8], at: usize) -> Step
         Read::Cut => put_raw(room, at, bytes),
         Read::End => put_raw(room, at, bytes),
     };
-    Step::Puts(after, next)
+    Ok(Placed {
+        after,
+        running: next,
+    })
 }
 
 // Puts the lines of the records of a piece of a day file at a room's start: of as many records as the room surely holds,
@@ -145,6 +151,7 @@ pub fn text_of_bytes(bytes: &[u8], last: bool, running: u16, room: &mut [u8]) ->
     let mut lines: usize = 0;
     let mut count: usize = 0;
     let mut next = running;
+    // A `while`: a turn goes on by its record's length.
     while place < bytes.len() {
         let found = record_end(bytes, place);
         let end = found.place;
@@ -152,14 +159,14 @@ pub fn text_of_bytes(bytes: &[u8], last: bool, running: u16, room: &mut [u8]) ->
             return told(place, lines, count, next, 0);
         }
         match record_into(&bytes[place..end], next, room, count) {
-            Step::Fails(fault) => {
+            Err(fault) => {
                 return told(place, lines, count, next, fault);
             }
-            Step::Puts(after, serial) => {
+            Ok(placed) => {
                 place = end;
                 lines += 1;
-                count = after;
-                next = serial;
+                count = placed.after;
+                next = placed.running;
             }
         }
     }

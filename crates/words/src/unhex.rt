@@ -1,25 +1,21 @@
 // Bytes in hexadecimal, read at a place of a line.
-ghost use Rattle.std.specs.Prelude.{◌≡◌, ◌≤◌, length, drop};
+ghost use Rattle.std.specs.Prelude.{◌≡◌, ◌<◌, ◌≤◌, length, drop, MatchOption};
 ghost use Rattle.words.specs.Hex.{hex_value, hex_from};
 ghost use Rattle.words.specs.Inner.{Unhexed};
 
 use crate::scan::is_blank;
 
-// What a digit says, or 16.
-fn hex_value(b: u8) -> u8
-    ensures value { result ≡ hex_value b }
-    ensures upper_bound { result ≤ 16 }
+// What a digit says.
+#[tactic(auto, unfolding(crate::specs::Hex::hex_value, sums::specs::Choice::pick))]
+fn hex_value(b: u8) -> Option<u8>
+    ensures { MatchOption result (hex_value b ≡ 16) (λ d. (hex_value b ≡ d) × (d < 16)) }
 {
-    if (48 <= b) & (b < 58) {
-        return b - 48;
+    match b {
+        b'0'..=b'9' => Some(b - b'0'),
+        b'A'..=b'F' => Some(b - b'A' + 10),
+        b'a'..=b'f' => Some(b - b'a' + 10),
+        _ => None,
     }
-    if (65 <= b) & (b < 71) {
-        return b - 55;
-    }
-    if (97 <= b) & (b < 103) {
-        return b - 87;
-    }
-    16
 }
 
 // How many bytes were read, and the place after them.
@@ -36,6 +32,7 @@ pub(crate) fn hex_at(line: &[u8], at: usize, room: &mut [u8]) -> Count
 {
     let mut n: usize = 0;
     let mut i = at;
+    // A `while`: a blank moves the place alone, a byte both.
     while n < 70 {
         if line.len() <= i {
             return Count { count: n, next: i };
@@ -47,11 +44,12 @@ pub(crate) fn hex_at(line: &[u8], at: usize, room: &mut [u8]) -> Count
             i += 1;
             continue;
         }
-        let high = hex_value(line[i]);
-        let low = hex_value(line[i + 1]);
-        if (high == 16) | (low == 16) {
+        let Some(high) = hex_value(line[i]) else {
             return Count { count: n, next: i };
-        }
+        };
+        let Some(low) = hex_value(line[i + 1]) else {
+            return Count { count: n, next: i };
+        };
         room[n] = 16 * high + low;
         n += 1;
         i += 2;

@@ -43,7 +43,7 @@ fn tell_number(rt: &HostRuntime, n: u64, mark: u8) {
 fn tell_line(rt: &HostRuntime, line: u64, fault: u8) {
     tell(rt, b"write: line ");
     tell_number(rt, line, b':');
-    tell_number(rt, fault as u64, b',');
+    tell_number(rt, u64::from(fault), b',');
     tell_fault(rt, fault);
 }
 
@@ -64,7 +64,7 @@ fn main(rt: HostRuntime) {
         &rt,
         b"write: writes the day file that the text in the file TEXT says, a record a line; lines without a serial get the running one, which begins with the next serial of the book in the file FROM, or with 0; a line that says nothing is told on standard error, and nothing is written\nusage: write TEXT [FROM] > DAYFILE\n",
     );
-    if help.asked {
+    if help.is_some() {
         return;
     }
     if streams::standard::too_many_words(&rt, b"write", 2) {
@@ -77,6 +77,5 @@ fn main(rt: HostRuntime) {
     if from.failed {
         return;
     }
-    let table = from.table;
-    run(&rt, table.serial);
+    run(&rt, from.table.serial);
 }

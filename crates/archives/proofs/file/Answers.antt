@@ -14,7 +14,7 @@ use Rattle.archives.proofs.file.Goals as goal
 
 pub loop-i-init : goal.loop-i-init
 unfolding filed_to
-loop-i-init c = (holds_same _ _ c.end_line-before.ensures.holds.within, omega arith, omega arith, refl)
+loop-i-init c = (holds_same _ _ c.end_line-before.ensures.holds.within, omega arith, refl)
 
 pub with_entry-count-requires : goal.with_entry-count-requires
 with_entry-count-requires c =
@@ -29,10 +29,10 @@ loop-i-preserved c =
     let l = w.loop-i in
     let a = w.args in
     let e = ap (λ (f : List ℕ). with_line f (entry_at a.entries.now l.i)) l.invariant.0.is in
-    (rw (add-one l.i) (holds_as e w.with_entry-count.ensures.holds), omega arith, omega (arith, w.with_entry-count.ensures.upper_bound), search rules)
+    (rw (add-one l.i) (holds_as e w.with_entry-count.ensures.holds), omega (arith, w.with_entry-count.ensures.upper_bound), search rules)
 
 pub shape_of-room : goal.shape_of-room
-shape_of-room c = c.loop-i.invariant.3 ∙ c.end_line-before.auto.room
+shape_of-room c = c.loop-i.invariant.2 ∙ c.end_line-before.auto.room
 
 pub returns : goal.returns
 returns c =
@@ -42,36 +42,3 @@ returns c =
     let e : l.i ≡ length a.entries.now / 3 = omega arith in
     let q = ap (λ (f : List ℕ). filed_to f a.entries.now (length a.entries.now / 3)) d.end_line-before.ensures.holds.is in
     record { holds = holds_as q (rw e at l.invariant.0); put_value = ap (λ (k : ℕ). ltb k l.count) (sym (held-length d.end_line-before.ensures.holds)) }
-
-pub overflow_mul-k : goal.overflow_mul-k
-overflow_mul-k c = omega arith
-
-pub offset_bounds-entries-k : goal.offset_bounds-entries-k
-offset_bounds-entries-k c = omega arith
-
-pub bounds-entries-k : goal.bounds-entries-k
-bounds-entries-k c = omega arith
-
-pub overflow_add-k : goal.overflow_add-k
-overflow_add-k c = omega arith
-
-pub offset_bounds-entries-k-in-loop-i : goal.offset_bounds-entries-k-in-loop-i
-offset_bounds-entries-k-in-loop-i c = omega arith
-
-pub bounds-entries-k-in-loop-i : goal.bounds-entries-k-in-loop-i
-bounds-entries-k-in-loop-i c = omega arith
-
-pub overflow_add-k-in-loop-i : goal.overflow_add-k-in-loop-i
-overflow_add-k-in-loop-i c = omega arith
-
-pub offset_bounds-entries-k-in-loop-i-2 : goal.offset_bounds-entries-k-in-loop-i-2
-offset_bounds-entries-k-in-loop-i-2 c = omega arith
-
-pub bounds-entries-k-in-loop-i-2 : goal.bounds-entries-k-in-loop-i-2
-bounds-entries-k-in-loop-i-2 c = omega arith
-
-pub overflow_add-i : goal.overflow_add-i
-overflow_add-i c = omega arith
-
-pub loop-i-smaller : goal.loop-i-smaller
-loop-i-smaller c = omega arith

@@ -7,6 +7,8 @@ use native.Mathlib.Omega.{arith}
 use lib.ListN.{get_or}
 use Rattle.sums.specs.Sum.{sum}
 use Rattle.sums.proofs.Sums.{sum_step, sum-most, sum-zero, only-most}
+use Rattle.gaps.proofs.Passing.{one_if}
+use Rattle.archiving.proofs.Entries.{retired-in}
 use Rattle.archiving.proofs.retired.Invariants.{gone}
 use Rattle.archiving.proofs.retired.Goals as goal
 
@@ -15,34 +17,22 @@ few : (live : List Bool) (i : ℕ) → sum i (gone live) ≤ i
 few live i = omega (arith, sum-most i 1 (gone live) (λ j l. only-most (not (get_or live j false)) 1))
 
 pub loop-i-init : goal.loop-i-init
-loop-i-init c = (omega arith, sym (sum-zero 0 (gone c.args.live.now) (λ i l. absurd (omega arith))))
-
-pub bounds-live-i : goal.bounds-live-i
-bounds-live-i c = omega (arith, c.requires)
+loop-i-init c = sym (sum-zero 0 (gone c.args.t.now.marks.live) (λ i l. absurd (omega arith)))
 
 pub overflow_add-many : goal.overflow_add-many
 overflow_add-many c =
-    let l = c.loop-i in
-    let live = c.args.live.now in
-    omega (arith, l.invariant, few live l.i, c.requires, c.only_if-many.ensures, only-most (not (get_or live l.i false)) 1)
+    let live = c.args.t.now.marks.live in
+    let x = not (get_or live c.loop-i.i false) in
+    omega (arith, few live c.loop-i.i, c.from-many.ensures, one_if x, only-most x 1)
 
 pub loop-i-preserved : goal.loop-i-preserved
 loop-i-preserved c =
-    let l = c.loop-i in
-    let live = c.args.live.now in
-    (omega arith, rw (l.invariant.1, c.only_if-many.ensures) (sym (sum_step l.i (gone live))))
-
-pub overflow_cast-result : goal.overflow_cast-result
-overflow_cast-result c = let l = c.loop-i in omega (arith, l.invariant, few c.args.live.now l.i, c.requires)
+    let live = c.args.t.now.marks.live in
+    rw (c.loop-i.invariant, c.from-many.ensures, one_if (not (get_or live c.loop-i.i false))) (sym (sum_step c.loop-i.i (gone live)))
 
 pub returns : goal.returns
 returns c =
-    let l = c.loop-i in
-    let e : l.i ≡ c.args.count = omega (arith, l.invariant.0, c.loop-i-test.false) in
-    l.invariant.1 ∙ ap (λ n. sum n (gone c.args.live.now)) e
-
-pub overflow_add-i : goal.overflow_add-i
-overflow_add-i c = omega arith
-
-pub loop-i-smaller : goal.loop-i-smaller
-loop-i-smaller c = omega arith
+    let t = c.args.t.now in
+    let e : c.loop-i.i ≡ t.count = omega (arith, c.loop-i-test.false) in
+    c.loop-i.invariant ∙ ap (λ n. sum n (gone t.marks.live)) e
+    ∙ retired-in t.count t.serial t.marks t.amounts t.modes t.needs t.next t.numbers c.requires

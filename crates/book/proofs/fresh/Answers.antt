@@ -6,7 +6,8 @@ use Prim.Native.Nat.{ℕ, zero, suc, ◌+◌, ◌*◌}
 use lib.ListN.{get_or, set, replicate}
 use Rattle.sums.proofs.Lists.{list-is, get_d-same}
 use Rattle.rows.specs.Rows.{no_row, row_at, fresh_book}
-use Rattle.table.specs.Words.{word_at, row_from, Marks, marks_from, row_in, rows_of}
+use Rattle.table.specs.declared.Marks.{Marks}
+use Rattle.table.specs.Words.{word_at, row_from, marks_from, row_in, rows_of}
 use Rattle.table.proofs.Gathered.{row-eq}
 use Rattle.table.proofs.Turning.{turned-from}
 use Rattle.book.proofs.fresh.Goals as goal

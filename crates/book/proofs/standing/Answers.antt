@@ -1,218 +1,89 @@
 -- `book::standing` meets its contract: 1, 7 for a number that no row held has, 7 for a retired account, or the figures by the kept need (K3).
-use mathlib.Core.Bool.{true, false, and-false}
+use mathlib.Core.Bool.{Bool, true, false, and-false}
+use lib.ListN.{get_or}
 use mathlib.Core.Path.{◌≡◌, sym, ap, ◌∙◌}
-use Prim.Native.Nat.{ℕ}
+use Prim.Native.Nat.{ℕ, ◌≤◌, ◌<◌}
 use native.Mathlib.Omega.{arith}
-use borrow.Author.Tests.{lt-ltb, le-ltb, not-true, not-false}
-use Rattle.rows.specs.Rows.{row_at, mode_at, view, is_live}
-use Rattle.rows.specs.KeptNeeds.{kept_need}
-use Rattle.rows.specs.Inner.{Ranged}
+use borrow.Author.Tests.{lt-ltb, le-ltb}
+use Rattle.rows.specs.Rows.{row_at, mode_at, place_of, view, is_live}
 use Rattle.table.specs.declared.Table.{Table}
-use Rattle.table.specs.Words.{marks_of, turned_back, row_in}
+use Rattle.table.specs.Words.{turned_back}
 use Rattle.table.proofs.Gathered.{row-in}
-use Rattle.table.proofs.Seen.{seen-view, seen-ranged}
 use Rattle.book.specs.Sound.{sound_b}
 use Rattle.book.specs.Asked.{standing_refusal, figures_of}
 use Rattle.book.proofs.RowTests.{sound-test-ranged}
 use Rattle.book.proofs.SoundTest.{sound→}
-use Rattle.book.proofs.SoundInPlace.{sound-serial}
 use Rattle.book.proofs.StandingRefusals.{unsound-refused, dead-refused, live-answered, standing_by}
 use Rattle.book.proofs.standing.Goals as goal
 
+-- past the first test the book is sound
+sound : (t : Table) {x : Bool} → x ≡ sound_b (turned_back t) → x ≡ true → sound_b (turned_back t) ≡ true
+sound t e h = sym e ∙ h
+
+most : (t : Table) → sound_b (turned_back t) ≡ true → t.count ≤ 256
+most t h = (sound-test-ranged (turned_back t) h).most
+
+-- a place whose row isn't live, or that no row has
+dead : (t : Table) (account : ℕ) {place : ℕ} → sound_b (turned_back t) ≡ true → place ≡ place_of (turned_back t) account
+    → is_live (turned_back t) place ≡ false → standing_refusal (turned_back t) account ≡ 7
+dead t account h e l = dead-refused (turned_back t) account h (ap (is_live (turned_back t)) (sym e) ∙ l)
+
+live-at : (t : Table) (place : ℕ) → sound_b (turned_back t) ≡ true → place < t.count → (row_at (turned_back t) place).live ≡ get_or t.marks.live place false
+live-at t place h l = ap (λ r. r.live) (row-in t.marks t.amounts place (omega (arith, most t h)))
+
 pub returns-then-not-table_sound : goal.returns-then-not-table_sound
 returns-then-not-table_sound c =
-    let tested : c.table_sound.result ≡ sound_b (turned_back c.args.t) =
-    let t = c.args.t in
-    c.table_sound.ensures ∙ sound-serial t.count t.serial (marks_of t) t.amounts t.modes t.needs t.next t.numbers
-    in
-    let a = c.args in
-    let b = turned_back a.t in
-    standing_by b a.account 1
-    (unsound-refused b a.account (sym tested ∙ not-true _ c.if-not-table_sound.true-raw))
-    c.refused.ensures
+    let b = turned_back c.args.t in
+    standing_by b c.args.account 1 (unsound-refused b c.args.account (sym c.table_sound.ensures ∙ c.if-not-table_sound.true)) c.refused.ensures
 
 pub place_among-place-requires : goal.place_among-place-requires
 place_among-place-requires c =
-    let tested : c.table_sound.result ≡ sound_b (turned_back c.args.t) =
-    let t = c.args.t in
-    c.table_sound.ensures ∙ sound-serial t.count t.serial (marks_of t) t.amounts t.modes t.needs t.next t.numbers
-    in
-    let holds : sound_b (turned_back c.args.t) ≡ true =
-    sym tested ∙ not-false _ c.if-not-table_sound.false-raw
-    in
-    let s = sound→ (turned_back c.args.t) holds in
+    let s = sound→ _ (sound c.args.t c.table_sound.ensures c.if-not-table_sound.false) in
     record { most = s.most; up = s.numbered.rises }
 
-pub returns-then-place-count : goal.returns-then-place-count
-returns-then-place-count c =
-    let handed : Table =
-    c.args.t
-    in
-    let place : ℕ =
-    c.place_among-place.result
-    in
-    let tested : c.table_sound.result ≡ sound_b (turned_back c.args.t) =
+pub returns-then-place-t : goal.returns-then-place-t
+returns-then-place-t c =
     let t = c.args.t in
-    c.table_sound.ensures ∙ sound-serial t.count t.serial (marks_of t) t.amounts t.modes t.needs t.next t.numbers
-    in
-    let holds : sound_b (turned_back c.args.t) ≡ true =
-    sym tested ∙ not-false _ c.if-not-table_sound.false-raw
-    in
-    let dead : is_live (turned_back handed) place ≡ false → standing_refusal (turned_back handed) c.args.account ≡ 7 =
-    λ e. let b = turned_back handed in
-    dead-refused b c.args.account holds (ap (is_live b) (sym c.place_among-place.ensures) ∙ e)
-    in
-    let at = c in
-    let b = turned_back handed in
-    standing_by b at.args.account 7 (dead (simp (le-ltb place b.count c.if-place-count.true))) c.refused-then-place-count.ensures
+    let h = sound t c.table_sound.ensures c.if-not-table_sound.false in
+    standing_by _ c.args.account 7 (dead t c.args.account h c.place_among-place.ensures (simp (le-ltb c.place_among-place.result t.count c.if-place-t.true)))
+    c.refused-then-place-t.ensures
 
 pub bounds-t-i : goal.bounds-t-i
-bounds-t-i c =
-    let tested : c.table_sound.result ≡ sound_b (turned_back c.args.t) =
-    let t = c.args.t in
-    c.table_sound.ensures ∙ sound-serial t.count t.serial (marks_of t) t.amounts t.modes t.needs t.next t.numbers
-    in
-    let holds : sound_b (turned_back c.args.t) ≡ true =
-    sym tested ∙ not-false _ c.if-not-table_sound.false-raw
-    in
-    let ranged : Ranged (turned_back c.args.t) =
-    sound-test-ranged (turned_back c.args.t) holds
-    in omega (arith, ranged.most)
+bounds-t-i c = omega (arith, most c.args.t (sound c.args.t c.table_sound.ensures c.if-not-table_sound.false))
 
 pub returns-then-not-t-i : goal.returns-then-not-t-i
 returns-then-not-t-i c =
-    let handed : Table =
-    c.args.t
-    in
-    let tested : c.table_sound.result ≡ sound_b (turned_back c.args.t) =
     let t = c.args.t in
-    c.table_sound.ensures ∙ sound-serial t.count t.serial (marks_of t) t.amounts t.modes t.needs t.next t.numbers
-    in
-    let holds : sound_b (turned_back c.args.t) ≡ true =
-    sym tested ∙ not-false _ c.if-not-table_sound.false-raw
-    in
-    let place : ℕ =
-    c.place_among-place.result
-    in
-    let dead : is_live (turned_back handed) place ≡ false → standing_refusal (turned_back handed) c.args.account ≡ 7 =
-    λ e. let b = turned_back handed in
-    dead-refused b c.args.account holds (ap (is_live b) (sym c.place_among-place.ensures) ∙ e)
-    in
-    let ranged : Ranged (turned_back c.args.t) =
-    sound-test-ranged (turned_back c.args.t) holds
-    in
-    let row : let t = handed in
-    row_at (turned_back t) place ≡ row_in (marks_of t) t.amounts place =
-    let t = handed in
-    row-in (marks_of t) t.amounts place (omega (arith, ranged.most, c.if-place-count.false))
-    in
-    let given = c in
-    let at = given in
-    standing_by (turned_back handed) at.args.account 7
-    (dead (simp (ap (λ r. r.live) row ∙ not-true _ c.if-not-t-i.true-raw, and-false)))
+    let h = sound t c.table_sound.ensures c.if-not-table_sound.false in
+    standing_by _ c.args.account 7
+    (dead t c.args.account h c.place_among-place.ensures (simp (live-at t c.place_among-place.result h c.if-place-t.false ∙ c.if-not-t-i.true, and-false)))
     c.refused-then-not-t-i.ensures
 
 pub bounds-t-i-2 : goal.bounds-t-i-2
-bounds-t-i-2 c =
-    let tested : c.table_sound.result ≡ sound_b (turned_back c.args.t) =
-    let t = c.args.t in
-    c.table_sound.ensures ∙ sound-serial t.count t.serial (marks_of t) t.amounts t.modes t.needs t.next t.numbers
-    in
-    let holds : sound_b (turned_back c.args.t) ≡ true =
-    sym tested ∙ not-false _ c.if-not-table_sound.false-raw
-    in
-    let ranged : Ranged (turned_back c.args.t) =
-    sound-test-ranged (turned_back c.args.t) holds
-    in omega (arith, ranged.most)
+bounds-t-i-2 c = omega (arith, most c.args.t (sound c.args.t c.table_sound.ensures c.if-not-table_sound.false))
 
--- the kept need is the one worked out afresh
 pub offset_bounds-t-i : goal.offset_bounds-t-i
-offset_bounds-t-i c =
-    let tested : c.table_sound.result ≡ sound_b (turned_back c.args.t) =
-    let t = c.args.t in
-    c.table_sound.ensures ∙ sound-serial t.count t.serial (marks_of t) t.amounts t.modes t.needs t.next t.numbers
-    in
-    let holds : sound_b (turned_back c.args.t) ≡ true =
-    sym tested ∙ not-false _ c.if-not-table_sound.false-raw
-    in
-    let ranged : Ranged (turned_back c.args.t) =
-    sound-test-ranged (turned_back c.args.t) holds
-    in omega (arith, ranged.most)
+offset_bounds-t-i c = omega (arith, most c.args.t (sound c.args.t c.table_sound.ensures c.if-not-table_sound.false))
 
 pub bounds-t-i-3 : goal.bounds-t-i-3
-bounds-t-i-3 c =
-    let tested : c.table_sound.result ≡ sound_b (turned_back c.args.t) =
-    let t = c.args.t in
-    c.table_sound.ensures ∙ sound-serial t.count t.serial (marks_of t) t.amounts t.modes t.needs t.next t.numbers
-    in
-    let holds : sound_b (turned_back c.args.t) ≡ true =
-    sym tested ∙ not-false _ c.if-not-table_sound.false-raw
-    in
-    let ranged : Ranged (turned_back c.args.t) =
-    sound-test-ranged (turned_back c.args.t) holds
-    in omega (arith, ranged.most)
+bounds-t-i-3 c = omega (arith, most c.args.t (sound c.args.t c.table_sound.ensures c.if-not-table_sound.false))
 
+-- the kept need is the one worked out afresh
 pub figures-requires : goal.figures-requires
 figures-requires c =
-    let tested : c.table_sound.result ≡ sound_b (turned_back c.args.t) =
     let t = c.args.t in
-    c.table_sound.ensures ∙ sound-serial t.count t.serial (marks_of t) t.amounts t.modes t.needs t.next t.numbers
-    in
-    let holds : sound_b (turned_back c.args.t) ≡ true =
-    sym tested ∙ not-false _ c.if-not-table_sound.false-raw
-    in
-    let ranged : Ranged (turned_back c.args.t) =
-    sound-test-ranged (turned_back c.args.t) holds
-    in
-    let handed : Table =
-    c.args.t
-    in
-    let place : ℕ =
-    c.place_among-place.result
-    in
-    let given = c in
-    let at = given in
-    let t = handed in
-    let v = seen-view t.count t.serial (marks_of t) t.amounts t.modes t.needs t.next t.numbers in
-    let s = sound→ (turned_back t) holds in (
-      seen-ranged t.count t.serial (marks_of t) t.amounts t.modes t.needs t.next t.numbers ranged,
-      rw v s.shaped,
-      given.if-place-count.false,
-      s.kept place (omega (arith, s.most, given.if-place-count.false)) ∙ ap (λ w. kept_need w place) (sym v),
-    )
+    let h = sound t c.table_sound.ensures c.if-not-table_sound.false in
+    let r = sound-test-ranged (turned_back t) h in
+    let s = sound→ (turned_back t) h in
+    (record { table = r.table; most = r.most; ranges = r.ranges }, s.shaped, c.if-place-t.false, s.kept c.place_among-place.result (omega (arith, s.most, c.if-place-t.false)))
 
 pub returns : goal.returns
 returns c =
-    let tested : c.table_sound.result ≡ sound_b (turned_back c.args.t) =
     let t = c.args.t in
-    c.table_sound.ensures ∙ sound-serial t.count t.serial (marks_of t) t.amounts t.modes t.needs t.next t.numbers
-    in
-    let holds : sound_b (turned_back c.args.t) ≡ true =
-    sym tested ∙ not-false _ c.if-not-table_sound.false-raw
-    in
-    let handed : Table =
-    c.args.t
-    in
-    let place : ℕ =
-    c.place_among-place.result
-    in
-    let ranged : Ranged (turned_back c.args.t) =
-    sound-test-ranged (turned_back c.args.t) holds
-    in
-    let row : let t = handed in
-    row_at (turned_back t) place ≡ row_in (marks_of t) t.amounts place =
-    let t = handed in
-    row-in (marks_of t) t.amounts place (omega (arith, ranged.most, c.if-place-count.false))
-    in
-    let live = c in
-    let given = live in
-    let at = given in
-    let t = handed in
     let b = turned_back t in
-    let n = at.args.account in
-    let e = at.place_among-place.ensures in
-    standing_by b n 0
-    (live-answered b n holds (ap (is_live b) (sym e) ∙ simp (lt-ltb place t.count given.if-place-count.false, ap (λ r. r.live) row ∙ not-false _ live.if-not-t-i.false-raw)))
-    (c.figures.ensures
-    ∙ ap (λ v. figures_of v (mode_at b place) place) (seen-view t.count t.serial (marks_of t) t.amounts t.modes t.needs t.next t.numbers)
-    ∙ ap (λ p. figures_of (view b) (mode_at b p) p) e)
+    let h = sound t c.table_sound.ensures c.if-not-table_sound.false in
+    let e = c.place_among-place.ensures in
+    let place = c.place_among-place.result in
+    standing_by b c.args.account 0
+    (live-answered b c.args.account h (ap (is_live b) (sym e) ∙ simp (lt-ltb place t.count c.if-place-t.false, live-at t place h c.if-place-t.false ∙ c.if-not-t-i.false)))
+    (c.figures.ensures ∙ ap (λ p. figures_of (view b) (mode_at b p) p) e)

@@ -1,8 +1,5 @@
-use Rattle.std.proofs.Common.{◌≡◌, ◌-◌, ◌≤◌, length}
+use Rattle.std.proofs.Common.{◌≡◌, ◌≤◌, length}
 use Rattle.calls.proofs.run.Given as goal
 
 abbrev pub invariant-loop-answered : goal.invariant-loop-answered
 invariant-loop-answered l = (l.at ≤ l.end) × (l.end ≤ length l.space) × (length l.space ≡ 262144) × (l.put ≤ 196608) × (length l.room ≡ 393216)
-
-abbrev pub decreases-loop-answered : goal.decreases-loop-answered
-decreases-loop-answered l = 18446744073709551615 - l.answered

@@ -1,8 +1,10 @@
-use Rattle.std.proofs.Common.{ℕ, ◌≤◌, refl, sym, ◌∙◌, arith}
+use Rattle.std.proofs.Common.{ℕ, ◌≤◌, sym, ◌∙◌, arith}
 use lib.ListN.{length-replicate}
 use Rattle.sums.specs.Choice.{pick}
 use Rattle.sums.proofs.Choices.{or-fails}
-use Rattle.table.specs.Words.{marks_of}
+use borrow.Author.Rules.{rules}
+use Rattle.table.specs.Facts.{Sized}
+use Rattle.table.proofs.Turning.{turned-from}
 use Rattle.book.proofs.SoundTest.{sound←}
 use Rattle.steps.proofs.Entering.{enterable, sound-enters}
 use Rattle.text.proofs.Puts.{puts-length, puts-at-start}
@@ -13,14 +15,13 @@ use Rattle.feed.proofs.TurnText.{takes-some, no_length}
 use Rattle.feed.proofs.Feeding.{piece-of, came-over, nothing_read, no-day-came, read-upto, last-turn-came, turn-fed, turn-reads-some, place-within, read-within, done-within}
 use Rattle.feed.proofs.in_turns.Goals as goal
 
-pub enter-entered-requires : goal.enter-entered-requires
-enter-entered-requires c =
-    let t = c.args.t in enterable t.count t.serial (marks_of t) t.amounts t.modes t.needs t.next t.numbers c.requires c.sizes.ensures
+pub enter-at-requires : goal.enter-at-requires
+enter-at-requires c = enterable _ c.requires record { sorts = search rules; lives = search rules; tms = search rules; words = search rules }
 
 pub loop-space-init : goal.loop-space-init
 loop-space-init c =
-    let t = c.args.t in
-    let h = sound-enters t.count t.serial (marks_of t) t.amounts t.modes t.needs t.next t.numbers c.requires c.sizes.ensures c.size.ensures c.size-2.ensures _ c.enter-entered.ensures in
+    let sized : Sized c.args.t.marks c.args.t.amounts = record { sorts = search rules; lives = search rules; tms = search rules; words = search rules } in
+    let h = (sound-enters _ c.requires sized c.enter-at.ensures.at c.enter-at.ensures.enters).0 in
     (nothing_read c.args.printing c.args.explained _ _ (sound← _ h.sound) (sym c.blank-space.ensures), h, length-replicate {A = ℕ} 16384 0)
 
 pub overflow_sub-read : goal.overflow_sub-read
@@ -35,7 +36,8 @@ hand_over-put-requires c =
 pub returns-then-got-put : goal.returns-then-got-put
 unfolding pick
 returns-then-got-put c =
-    came-over c.args.printing c.args.explained refl (no-day-came _ _ _ c.loop-space.invariant.0.sound c.no_day.ensures)
+    let sized : Sized c.args.t.marks c.args.t.amounts = record { sorts = search rules; lives = search rules; tms = search rules; words = search rules } in
+    came-over c.args.printing c.args.explained (sound-enters _ c.requires sized c.enter-at.ensures.at c.enter-at.ensures.enters).1 (no-day-came _ _ _ c.loop-space.invariant.0.sound c.no_day.ensures)
 
 pub overflow_add-read : goal.overflow_add-read
 overflow_add-read c =
@@ -119,4 +121,7 @@ returns c =
     let h = c.hand_over-put in
     let few : h.result.count ≤ 16384 = omega (arith, h.ensures.0, t.ensures.puts.within, size) in
     let shown = all-taken h.result _ h.ensures.0 h.ensures.1 (or-fails f.result.failed h.result.failed c.if-got-put.false).1 ∙ (puts-at-start t.ensures.puts).0 in
-    came-over c.args.printing c.args.explained refl (last-turn-came p _ shown _ c.stops.result c.stops.ensures c.if-stops.true _ (sym c.leave-table.ensures))
+    let sized : Sized c.args.t.marks c.args.t.amounts = record { sorts = search rules; lives = search rules; tms = search rules; words = search rules } in
+    let left : Sized c.leave-table.result.marks c.leave-table.result.amounts = record { sorts = search rules; lives = search rules; tms = search rules; words = search rules } in
+    came-over c.args.printing c.args.explained (sound-enters _ c.requires sized c.enter-at.ensures.at c.enter-at.ensures.enters).1
+    (last-turn-came p _ shown _ c.stops.result c.stops.ensures c.if-stops.true _ (sym (turned-from _ _ left c.leave-table.ensures)))

@@ -13,9 +13,9 @@ put_lines-requires c = (c.fill.ensures, omega arith, omega arith)
 pub returns : goal.returns
 returns c =
     let asked : (let l = c in let a = l.args in
-    l.least-k.result ≡ fitting a.count a.numbers.now a.room.now) =
+    l.min-k.result ≡ fitting a.count a.numbers.now a.room.now) =
     let l = c in
-    l.least-k.ensures ∙ ap (min l.args.count) l.least.ensures
+    l.min-k.ensures ∙ ap (min l.args.count) l.min.ensures
     in
     let whole = puts-at-start c.put_lines.ensures in
     record { value = rw (← asked) whole.0; room_after = rw (← asked) whole.1 }

@@ -1,62 +1,36 @@
 -- `merging::look` meets its contract. The invariant: the records so far and those from the place on are the file's.
-use Rattle.std.proofs.Common.{ℕ, sym, refl, ap, ◌∙◌, arith, rules}
+use Rattle.std.proofs.Common.{ℕ, Some, sym, refl, ap, ◌∙◌, arith}
 use Rattle.dayfile.specs.Reading.{number_of}
 use Rattle.merging.proofs.Listing.{look-ends, look-stops, look-on, good-at}
 use Rattle.merging.proofs.look.Goals as goal
 
--- src/lib.rt:49:5
 pub loop-place-init : goal.loop-place-init
 loop-place-init c = (refl, omega arith, omega arith)
 
--- src/lib.rt:50:33
-pub read_at-requires : goal.read_at-requires
-read_at-requires c = search rules
-
--- src/lib.rt:50:13
-pub number_of-refusal-requires : goal.number_of-refusal-requires
-number_of-refusal-requires c = search rules
-
--- src/lib.rt:52:13
 pub returns-then-refusal-ne0 : goal.returns-then-refusal-ne0
 returns-then-refusal-ne0 c =
     let n = c.number_of-refusal.ensures ∙ ap number_of c.read_at.ensures.value in
     let l = c.loop-place in
-    ap (λ (k : ℕ). record { records = l.records; refusal = k }) n ∙ look-stops _ _ _ l.invariant.0 (omega arith) (λ z. c.if-refusal-ne0.true (n ∙ z))
+    ap (λ (k : ℕ). Some (record { index = l.index; refusal = k })) n ∙ look-stops _ _ _ l.invariant.0 (omega arith) (λ z. c.if-refusal-ne0.true (n ∙ z))
 
--- src/lib.rt:54:28
-pub overflow_add-place : goal.overflow_add-place
-overflow_add-place c = omega arith
-
--- src/lib.rt:54:23
 pub bounds-file-place : goal.bounds-file-place
 bounds-file-place c =
     let n = c.number_of-refusal.ensures ∙ ap number_of c.read_at.ensures.value in
     let g = good-at _ _ (omega arith) (sym n ∙ c.if-refusal-ne0.false) in
     omega (arith, g.within)
 
--- src/lib.rt:54:18
-pub size-place-requires : goal.size-place-requires
-size-place-requires c = search rules
-
--- src/lib.rt:54:9
 pub overflow_add-place-in-loop-place : goal.overflow_add-place-in-loop-place
 overflow_add-place-in-loop-place c =
     let n = c.number_of-refusal.ensures ∙ ap number_of c.read_at.ensures.value in
     let g = good-at _ _ (omega arith) (sym n ∙ c.if-refusal-ne0.false) in
     omega (arith, g.within, c.size-place.ensures)
 
--- src/lib.rt:55:9
-pub overflow_add-records : goal.overflow_add-records
-overflow_add-records c = omega arith
-
--- src/lib.rt:49:5
 pub loop-place-smaller : goal.loop-place-smaller
 loop-place-smaller c =
     let n = c.number_of-refusal.ensures ∙ ap number_of c.read_at.ensures.value in
     let g = good-at _ _ (omega arith) (sym n ∙ c.if-refusal-ne0.false) in
     omega (arith, g.within, c.size-place.ensures)
 
--- src/lib.rt:49:5
 pub loop-place-preserved : goal.loop-place-preserved
 loop-place-preserved c =
     let n = c.number_of-refusal.ensures ∙ ap number_of c.read_at.ensures.value in
@@ -64,6 +38,5 @@ loop-place-preserved c =
     let l = c.loop-place in
     (rw c.size-place.ensures (look-on _ _ _ l.invariant.0 (omega arith) (sym n ∙ c.if-refusal-ne0.false)), omega arith, omega (arith, g.within, c.size-place.ensures))
 
--- src/lib.rt:44:1
 pub returns : goal.returns
 returns c = look-ends _ _ _ c.loop-place.invariant.0 (omega arith)

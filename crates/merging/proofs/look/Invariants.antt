@@ -4,7 +4,7 @@ use Rattle.merging.proofs.Listing.{Looking}
 use Rattle.merging.proofs.look.Given as goal
 
 abbrev pub invariant-loop-place : goal.invariant-loop-place
-invariant-loop-place l = Looking l.file l.records l.place × (l.records ≤ l.place) × (l.place ≤ length l.file)
+invariant-loop-place l = Looking l.file l.index l.place × (l.index ≤ l.place) × (l.place ≤ length l.file)
 
 abbrev pub decreases-loop-place : goal.decreases-loop-place
 decreases-loop-place l = length l.file - l.place

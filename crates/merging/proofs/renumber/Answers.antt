@@ -7,7 +7,6 @@ use Rattle.merging.proofs.Joined.{listed-reads, all-good}
 use Rattle.merging.proofs.Renumbering.{at_first, turned, at_last}
 use Rattle.merging.proofs.renumber.Goals as goal
 
--- src/lib.rt:70:5
 pub loop-place-init : goal.loop-place-init
 loop-place-init c =
     let a = c.args in
@@ -18,56 +17,33 @@ loop-place-init c =
       refl,
     )
 
--- src/lib.rt:71:38
-pub overflow_add-place : goal.overflow_add-place
-overflow_add-place c = omega arith
-
--- src/lib.rt:71:33
 pub bounds-room-place : goal.bounds-room-place
 bounds-room-place c =
     let t = turned c.loop-place.invariant.0 (omega arith) in
     omega (arith, t.within)
 
--- src/lib.rt:71:28
-pub size-requires : goal.size-requires
-size-requires c = search rules
-
--- src/lib.rt:71:20
 pub overflow_add-next : goal.overflow_add-next
 overflow_add-next c =
     let t = turned c.loop-place.invariant.0 (omega arith) in
     omega (arith, t.within, c.size.ensures)
 
--- src/lib.rt:72:20
-pub overflow_add-place-in-loop-place : goal.overflow_add-place-in-loop-place
-overflow_add-place-in-loop-place c = omega arith
-
--- src/lib.rt:72:9
 pub put2-requires : goal.put2-requires
 put2-requires c =
     let t = turned c.loop-place.invariant.0 (omega arith) in
     omega (arith, t.within)
 
--- src/lib.rt:73:9
-pub wrapping_add_u16-serial-requires : goal.wrapping_add_u16-serial-requires
-wrapping_add_u16-serial-requires c = search rules
-
--- src/lib.rt:70:5
 pub loop-place-smaller : goal.loop-place-smaller
 loop-place-smaller c =
     let t = turned c.loop-place.invariant.0 (omega arith) in
     omega (arith, t.within, c.size.ensures)
 
--- src/lib.rt:70:5
 pub loop-place-preserved : goal.loop-place-preserved
 loop-place-preserved c =
     let t = turned c.loop-place.invariant.0 (omega arith) in
-    (rw (c.size.ensures, c.put2.ensures, c.wrapping_add_u16-serial.ensures.value) t.on, search rules)
+    (rw (c.size.ensures, c.put2.ensures) t.on, search rules)
 
--- src/lib.rt:64:1
 pub shape_of-room : goal.shape_of-room
 shape_of-room c = c.loop-place.invariant.1
 
--- src/lib.rt:64:1
 pub returns : goal.returns
 returns c = at_last c.loop-place.invariant.0 (omega arith)

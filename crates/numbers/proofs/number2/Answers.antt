@@ -1,20 +1,16 @@
 -- `numbers::number2` meets its contract.
-use Prim.Native.Nat.{◌+◌}
-use native.Mathlib.Omega.{arith}
-use Rattle.numbers.proofs.Numbers.{number-two}
+use Rattle.std.proofs.Common.{◌≡◌, ℕ, ◌≤◌, List, [], ◌∷◌, length, take, drop, ap, ◌∙◌, arith, length-drop}
+use Rattle.std.specs.Int.{w16, from_be_bytes}
+use Rattle.numbers.specs.Bytes.{number}
 use Rattle.numbers.proofs.number2.Goals as goal
 
-pub overflow_cast-result : goal.overflow_cast-result
-overflow_cast-result c = omega (arith, c.type_inv.piece c.args.place)
-
-pub overflow_mul-result : goal.overflow_mul-result
-overflow_mul-result c = omega (arith, c.type_inv.piece c.args.place)
-
-pub overflow_cast-result-2 : goal.overflow_cast-result-2
-overflow_cast-result-2 c = omega (arith, c.type_inv.piece (c.args.place + 1))
-
-pub overflow_add-result-2 : goal.overflow_add-result-2
-overflow_add-result-2 c = omega (arith, c.type_inv.piece c.args.place, c.type_inv.piece (c.args.place + 1))
+high-first : (l : List ℕ) → 2 ≤ length l → from_be_bytes w16 (take 2 l) ≡ number 2 l
+unfolding number
+high-first [] m = absurd (omega arith)
+high-first (a ∷ []) m = absurd (omega arith)
+high-first (a ∷ b ∷ l) m = omega arith
 
 pub returns : goal.returns
-returns c = number-two _ _ c.requires
+returns c =
+    c.from_be_bytes.ensures ∙ ap (from_be_bytes w16) c.bytes_at.ensures
+    ∙ high-first (drop c.args.place c.args.piece.now) (omega (arith, length-drop c.args.place c.args.piece.now))

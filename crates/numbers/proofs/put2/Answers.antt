@@ -1,11 +1,7 @@
 -- `numbers::put2` meets its contract.
-use native.Mathlib.Omega.{arith}
-use lib.ListN.{length-set}
-use Rattle.numbers.proofs.Rooms.{sets-two}
+use Rattle.std.proofs.Common.{◌∙◌}
+use Rattle.numbers.proofs.Rooms.{copied}
 use Rattle.numbers.proofs.put2.Goals as goal
 
 pub returns : goal.returns
-returns c = sets-two c.args.room.now c.args.place c.args.x
-
-pub bounds-room-place-2 : goal.bounds-room-place-2
-bounds-room-place-2 c = simp length-set (omega arith)
+returns c = copied _ _ c.args.place 2 c.args.x (c.copy_from_slice.ensures.after ∙ c.to_be_bytes.ensures) c.requires

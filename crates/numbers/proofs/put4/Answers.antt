@@ -1,8 +1,7 @@
 -- `numbers::put4` meets its contract.
-use Rattle.numbers.proofs.Rooms.{sets-both}
+use Rattle.std.proofs.Common.{◌∙◌}
+use Rattle.numbers.proofs.Rooms.{copied}
 use Rattle.numbers.proofs.put4.Goals as goal
 
 pub returns : goal.returns
-returns c =
-    let a = c.args in
-    sets-both _ _ _ 2 2 a.place a.x c.put2.ensures c.put2-2.ensures
+returns c = copied _ _ c.args.place 4 c.args.x (c.copy_from_slice.ensures.after ∙ c.to_be_bytes.ensures) c.requires

@@ -1,8 +1,7 @@
 -- `numbers::put8` meets its contract.
-use Rattle.numbers.proofs.Rooms.{sets-both}
+use Rattle.std.proofs.Common.{◌∙◌}
+use Rattle.numbers.proofs.Rooms.{copied}
 use Rattle.numbers.proofs.put8.Goals as goal
 
 pub returns : goal.returns
-returns c =
-    let a = c.args in
-    sets-both _ _ _ 4 4 a.place a.x c.put4.ensures c.put4-2.ensures
+returns c = copied _ _ c.args.place 8 c.args.x (c.copy_from_slice.ensures.after ∙ c.to_be_bytes.ensures) c.requires

@@ -1,6 +1,6 @@
 -- `passing::limits_at` meets its contract.
 use mathlib.Core.Path.{◌∙◌}
-use Rattle.table.specs.Words.{marks_from, row_in}
+use Rattle.table.specs.Words.{row_in}
 use Rattle.passing.proofs.OfBook.{free-in-most, limits-from}
 use Rattle.passing.proofs.limits_at.Goals as goal
 
@@ -18,7 +18,7 @@ raised_to-raised-requires c =
     let k = o in
     let s = k in
     let a = s.args in
-    let m = marks_from a.sort.now a.live.now a.tm.now in
+    let m = a.marks.now in
     let e = k.row_at-row.ensures in (
       rw e s.requires.own.margin,
       rw o.free_at-own.ensures (free-in-most m a.w.now a.needs.now a.i s.requires.own),
@@ -40,5 +40,5 @@ returns c =
     let o = p in
     let a = o.args in
     c.limits_of.ensures
-    ∙ limits-from (marks_from a.sort.now a.live.now a.tm.now) a.w.now a.modes.now a.needs.now a.i a.code a.named o.row_at-row.ensures o.free_at-own.ensures
+    ∙ limits-from a.marks.now a.w.now a.modes.now a.needs.now a.i a.code a.named o.row_at-row.ensures o.free_at-own.ensures
     p.free_at-its.ensures t.free_at-top.ensures h.is_short-short.ensures q.raised_to-raised.ensures

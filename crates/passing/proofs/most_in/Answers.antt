@@ -6,7 +6,8 @@ use native.Mathlib.Omega.{arith}
 use borrow.Author.Tests.{lt-ltb, le-ltb, not-true, not-false}
 use Rattle.rows.specs.declared.Book.{Book}
 use Rattle.rows.specs.Rows.{row_at, place_of, is_live}
-use Rattle.table.specs.Words.{Marks, marks_from, book_from, row_in}
+use Rattle.table.specs.declared.Marks.{Marks}
+use Rattle.table.specs.Words.{book_from, row_in}
 use Rattle.table.proofs.Gathered.{row-in}
 use Rattle.book.specs.Facts.{Sound}
 use Rattle.book.proofs.SoundTest.{sound←}
@@ -20,7 +21,7 @@ use Rattle.passing.proofs.most_in.Goals as goal
 pub returns-then-not-has_amount : goal.returns-then-not-has_amount
 returns-then-not-has_amount c serial next s =
     let marks : Marks =
-    marks_from c.args.sort.now c.args.live.now c.args.tm.now
+    c.args.marks.now
     in
     let book : ℕ → ℕ → Book =
     λ serial next. book_from c.args.count serial marks c.args.w.now c.args.modes.now c.args.needs.now next c.args.numbers.now
@@ -34,7 +35,7 @@ returns-then-not-has_amount c serial next s =
 pub returns-then-not-names_one : goal.returns-then-not-names_one
 returns-then-not-names_one c serial next s =
     let marks : Marks =
-    marks_from c.args.sort.now c.args.live.now c.args.tm.now
+    c.args.marks.now
     in
     let book : ℕ → ℕ → Book =
     λ serial next. book_from c.args.count serial marks c.args.w.now c.args.modes.now c.args.needs.now next c.args.numbers.now
@@ -57,7 +58,7 @@ place_among-place-requires c =
 pub returns-then-place-count : goal.returns-then-place-count
 returns-then-place-count c serial next s =
     let marks : Marks =
-    marks_from c.args.sort.now c.args.live.now c.args.tm.now
+    c.args.marks.now
     in
     let book : ℕ → ℕ → Book =
     λ serial next. book_from c.args.count serial marks c.args.w.now c.args.modes.now c.args.needs.now next c.args.numbers.now
@@ -83,13 +84,13 @@ returns-then-place-count c serial next s =
     ∙ sym (not_live (book serial next) asked (sound← _ s) has names
     (dead serial next (simp (le-ltb place a.args.count c.if-place-count.true))))
 
-pub bounds-live-i : goal.bounds-live-i
-bounds-live-i c = omega (arith, c.requires.sound.most, c.if-place-count.false)
+pub bounds-marks-i : goal.bounds-marks-i
+bounds-marks-i c = omega (arith, c.requires.sound.most, c.if-place-count.false)
 
-pub returns-then-not-live-i : goal.returns-then-not-live-i
-returns-then-not-live-i c serial next s =
+pub returns-then-not-marks-i : goal.returns-then-not-marks-i
+returns-then-not-marks-i c serial next s =
     let marks : Marks =
-    marks_from c.args.sort.now c.args.live.now c.args.tm.now
+    c.args.marks.now
     in
     let book : ℕ → ℕ → Book =
     λ serial next. book_from c.args.count serial marks c.args.w.now c.args.modes.now c.args.needs.now next c.args.numbers.now
@@ -116,9 +117,9 @@ returns-then-not-live-i c serial next s =
     let g = c in
     let at = g in
     let a = at in
-    c.refused-then-not-live-i.ensures
+    c.refused-then-not-marks-i.ensures
     ∙ sym (not_live (book serial next) asked (sound← _ s) has names
-    (dead serial next (simp (ap (λ r. r.live) (row serial next) ∙ not-true _ c.if-not-live-i.true-raw, and-false))))
+    (dead serial next (simp (ap (λ r. r.live) (row serial next) ∙ not-true _ c.if-not-marks-i.true-raw, and-false))))
 
 pub limits_at-l-requires : goal.limits_at-l-requires
 limits_at-l-requires c =
@@ -129,7 +130,7 @@ limits_at-l-requires c =
 pub largest_by-requires : goal.largest_by-requires
 largest_by-requires c =
     let marks : Marks =
-    marks_from c.args.sort.now c.args.live.now c.args.tm.now
+    c.args.marks.now
     in
     let book : ℕ → ℕ → Book =
     λ serial next. book_from c.args.count serial marks c.args.w.now c.args.modes.now c.args.needs.now next c.args.numbers.now
@@ -154,7 +155,7 @@ largest_by-requires c =
 pub returns : goal.returns
 returns c serial next s =
     let marks : Marks =
-    marks_from c.args.sort.now c.args.live.now c.args.tm.now
+    c.args.marks.now
     in
     let book : ℕ → ℕ → Book =
     λ serial next. book_from c.args.count serial marks c.args.w.now c.args.modes.now c.args.needs.now next c.args.numbers.now
@@ -190,7 +191,7 @@ returns c serial next s =
     let r = asked in
     let e = at.place_among-place.ensures in
     let there : is_live b (place_of b r.account) ≡ true =
-    ap (is_live b) (sym e) ∙ simp (lt-ltb place b.count g.if-place-count.false, ap (λ x. x.live) (row serial next) ∙ not-false _ v.if-not-live-i.false-raw) in
+    ap (is_live b) (sym e) ∙ simp (lt-ltb place b.count g.if-place-count.false, ap (λ x. x.live) (row serial next) ∙ not-false _ v.if-not-marks-i.false-raw) in
     c.largest_by.ensures
     ∙ ap (λ z. largest_by z c.least_of.result) (are serial next s)
     ∙ ap (largest_by (limits_in b place r.code r.named)) c.least_of.ensures

@@ -19,11 +19,11 @@ step_placed-requires c =
     let r : Record =
     naming c.place_among-a.result c.args.r
     in
-    let asks : (let a = c.args in Asks (alive_in a.live.now a.at.count c.place_among-a.result) a.at.serial (record { code = a.r.code; place = c.place_among-a.result; asked = c.asked_of-asked.result }) r) =
+    let asks : (let a = c.args in Asks (alive_in a.l.now.marks.live a.at.count c.place_among-a.result) a.at.serial (record { code = a.r.code; place = c.place_among-a.result; asked = c.asked_of-asked.result }) r) =
     record {
       coded = refl;
       placed = refl;
-      is = let a = c.args in ap meant c.asked_of-asked.ensures ∙ meant-own _ _ _ ∙ ap (λ (q : Record). asked_of (alive_in a.live.now a.at.count q.account) a.at.serial q) c.naming.ensures;
+      is = let a = c.args in ap meant c.asked_of-asked.ensures ∙ meant-own _ _ _ ∙ ap (λ (q : Record). asked_of (alive_in a.l.now.marks.live a.at.count q.account) a.at.serial q) c.naming.ensures;
     }
     in
     let t = c in
@@ -34,11 +34,11 @@ returns c =
     let r : Record =
     naming c.place_among-a.result c.args.r
     in
-    let asks : (let a = c.args in Asks (alive_in a.live.now a.at.count c.place_among-a.result) a.at.serial (record { code = a.r.code; place = c.place_among-a.result; asked = c.asked_of-asked.result }) r) =
+    let asks : (let a = c.args in Asks (alive_in a.l.now.marks.live a.at.count c.place_among-a.result) a.at.serial (record { code = a.r.code; place = c.place_among-a.result; asked = c.asked_of-asked.result }) r) =
     record {
       coded = refl;
       placed = refl;
-      is = let a = c.args in ap meant c.asked_of-asked.ensures ∙ meant-own _ _ _ ∙ ap (λ (q : Record). asked_of (alive_in a.live.now a.at.count q.account) a.at.serial q) c.naming.ensures;
+      is = let a = c.args in ap meant c.asked_of-asked.ensures ∙ meant-own _ _ _ ∙ ap (λ (q : Record). asked_of (alive_in a.l.now.marks.live a.at.count q.account) a.at.serial q) c.naming.ensures;
     }
     in
     let t = c in

@@ -20,7 +20,7 @@ step_placed-requires c =
     let r : Record =
     let a = c.args in naming c.place_among-a.result (record_at a.piece.now a.place a.h)
     in
-    let asks : (let a = c.args in Asks (alive_in a.live.now a.at.count c.place_among-a.result) a.at.serial (record { code = a.h.code; place = c.place_among-a.result; asked = c.asked_at-asked.result }) r) =
+    let asks : (let a = c.args in Asks (alive_in a.l.now.marks.live a.at.count c.place_among-a.result) a.at.serial (record { code = a.h.code; place = c.place_among-a.result; asked = c.asked_at-asked.result }) r) =
     record {
       coded = let a = c.args in code_read a.piece.now a.place a.h;
       placed = refl;
@@ -35,7 +35,7 @@ returns c =
     let r : Record =
     let a = c.args in naming c.place_among-a.result (record_at a.piece.now a.place a.h)
     in
-    let asks : (let a = c.args in Asks (alive_in a.live.now a.at.count c.place_among-a.result) a.at.serial (record { code = a.h.code; place = c.place_among-a.result; asked = c.asked_at-asked.result }) r) =
+    let asks : (let a = c.args in Asks (alive_in a.l.now.marks.live a.at.count c.place_among-a.result) a.at.serial (record { code = a.h.code; place = c.place_among-a.result; asked = c.asked_at-asked.result }) r) =
     record {
       coded = let a = c.args in code_read a.piece.now a.place a.h;
       placed = refl;
@@ -44,4 +44,4 @@ returns c =
     in
     let t = c in
     let a = t.args in
-    rw (← (t.place_among-a.ensures ∙ ap (place_among a.numbers.now a.at.count) t.requires.1.account)) (c.step_placed.ensures r asks)
+    rw (← (t.place_among-a.ensures ∙ ap (place_among a.l.now.numbers a.at.count) t.requires.1.account)) (c.step_placed.ensures r asks)

@@ -2,4 +2,4 @@
 use Rattle.table.proofs.turn_back.Goals as goal
 
 pub returns : goal.returns
-returns c = rw c.rows_of-table.ensures
+returns c = rw c.rows_of.ensures

@@ -1,34 +1,21 @@
--- `text::put_text` meets its contract. The invariant: the first i bytes stand in the room.
+-- `text::put_text` meets its contract.
+use mathlib.Core.List.{List, ◌++◌, append_assoc}
+use mathlib.Core.Path.{sym, ap, ◌∙◌, refl}
+use Prim.Native.Nat.{ℕ, ◌+◌, ◌-◌}
 use native.Mathlib.Omega.{arith}
-use Rattle.text.proofs.Puts.{puts_none, puts-length, byte_at, puts_whole}
+use lib.ListN.{length, take, drop}
+use lib.Seq.{sets-eq}
+use borrow.Rule.Slice.PartMut.{put_mid, Post-is}
 use Rattle.text.proofs.put_text.Goals as goal
 
-pub loop-i-init : goal.loop-i-init
-loop-i-init c = puts_none _ _ (omega arith) (omega arith)
-
-pub bounds-room-at : goal.bounds-room-at
-bounds-room-at c = omega (arith, puts-length c.loop-i.invariant)
-
-pub loop-i-preserved : goal.loop-i-preserved
-loop-i-preserved c = byte_at _ c.loop-i-test.true c.requires c.loop-i.invariant
-
-pub shape_of-room : goal.shape_of-room
-shape_of-room c = puts-length c.loop-i.invariant
-
 pub returns : goal.returns
-returns c = puts_whole _ c.loop-i-test.false c.loop-i.invariant
-
-pub bounds-text-i : goal.bounds-text-i
-bounds-text-i c = omega arith
-
-pub overflow_add-room : goal.overflow_add-room
-overflow_add-room c = omega arith
-
-pub overflow_add-i : goal.overflow_add-i
-overflow_add-i c = omega arith
-
-pub loop-i-smaller : goal.loop-i-smaller
-loop-i-smaller c = omega arith
-
-pub overflow_add-result : goal.overflow_add-result
-overflow_add-result c = omega arith
+returns c =
+    let room = c.args.room.now in
+    let text = c.args.text.now in
+    let at = c.args.at in
+    let end = at + length text in record {
+      holds = ap (put_mid at (end - at) room) c.copy_from_slice.ensures.after ∙ ap (λ (rest : List ℕ). take at room ++ (text ++ rest)) (Post-is at end room (omega arith))
+          ∙ sym (append_assoc (take at room) text (drop end room)) ∙ sym (sets-eq text room at c.requires);
+      next = refl;
+      within = c.requires;
+    }

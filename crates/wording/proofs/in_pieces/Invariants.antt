@@ -1,9 +1,6 @@
-use Rattle.std.proofs.Common.{◌-◌, ◌≡◌, length}
+use Rattle.std.proofs.Common.{◌≡◌, length}
 use Rattle.wording.proofs.Sofar.{Sofar}
 use Rattle.wording.proofs.in_pieces.Given as goal
 
 abbrev pub invariant-loop-turns : goal.invariant-loop-turns
 invariant-loop-turns l = Sofar l.spelling l.printing l.first l.space l.rest l.running l.lines l.printed l.ended l.turns × (length l.room ≡ 32768)
-
-abbrev pub decreases-loop-turns : goal.decreases-loop-turns
-decreases-loop-turns l = 281474976710656 - l.turns

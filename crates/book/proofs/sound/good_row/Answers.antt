@@ -6,7 +6,7 @@ use lib.ListN.{get_or}
 use borrow.Author.Tests.{lt-ltb, le-ltb}
 use Rattle.sums.proofs.Choices.{pick_first, pick_second}
 use Rattle.rows.specs.Inner.{Slot}
-use Rattle.table.specs.Words.{marks_from, row_in, book_from}
+use Rattle.table.specs.Words.{row_in, book_from}
 use Rattle.book.specs.Sound.{good_row, row_sound}
 use Rattle.book.proofs.SoundInPlace.{row-in-place}
 use Rattle.book.proofs.sound.good_row.Goals as goal
@@ -15,11 +15,11 @@ pub returns-then-i-n : goal.returns-then-i-n
 unfolding good_row
 returns-then-i-n c =
     let at_slot : (x : Bool) → let a = c.args in
-    let m = marks_from a.sort.now a.live.now a.tm.now in
+    let m = a.marks.now in
     x ≡ good_row a.n a.i (row_in m a.w.now a.i) (row_in m a.w.now c.slot.result) → x ≡ row_sound (book_from a.n 0 m a.w.now [] [] 0 []) a.i =
     λ x. let a = c.args in
-    let slot : Slot (get_or a.tm.now a.i 0) c.slot.result = rw c.mark_at-own.ensures at c.slot.ensures in
-    row-in-place a.n (marks_from a.sort.now a.live.now a.tm.now) a.w.now a.i c.slot.result c.requires slot
+    let slot : Slot (get_or a.marks.now.tm a.i 0) c.slot.result = rw c.mark_at-own.ensures at c.slot.ensures in
+    row-in-place a.n a.marks.now a.w.now a.i c.slot.result c.requires slot
     in
     let place = c in
     let marks = place in
@@ -35,11 +35,11 @@ pub returns-else-i-n : goal.returns-else-i-n
 unfolding good_row
 returns-else-i-n c =
     let at_slot : (x : Bool) → let a = c.args in
-    let m = marks_from a.sort.now a.live.now a.tm.now in
+    let m = a.marks.now in
     x ≡ good_row a.n a.i (row_in m a.w.now a.i) (row_in m a.w.now c.slot.result) → x ≡ row_sound (book_from a.n 0 m a.w.now [] [] 0 []) a.i =
     λ x. let a = c.args in
-    let slot : Slot (get_or a.tm.now a.i 0) c.slot.result = rw c.mark_at-own.ensures at c.slot.ensures in
-    row-in-place a.n (marks_from a.sort.now a.live.now a.tm.now) a.w.now a.i c.slot.result c.requires slot
+    let slot : Slot (get_or a.marks.now.tm a.i 0) c.slot.result = rw c.mark_at-own.ensures at c.slot.ensures in
+    row-in-place a.n a.marks.now a.w.now a.i c.slot.result c.requires slot
     in
     let else = c in
     let marks = else in

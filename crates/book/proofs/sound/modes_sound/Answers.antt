@@ -13,36 +13,24 @@ use Rattle.book.proofs.sound.modes_sound.Goals as goal
 pub loop-i-init : goal.loop-i-init
 loop-i-init c =
     let good : ℕ → Bool =
-    λ j. good_mode j (get_or c.args.sort.now j 0) (get_or c.args.live.now j false) (get_or c.args.modes.now j false)
-    in (omega arith, sym (all_none good))
+    λ j. good_mode j (get_or c.args.marks.now.sort j 0) (get_or c.args.marks.now.live j false) (get_or c.args.modes.now j false)
+    in sym (all_none good)
 
 pub loop-i-preserved : goal.loop-i-preserved
 loop-i-preserved c =
     let good : ℕ → Bool =
-    λ j. good_mode j (get_or c.args.sort.now j 0) (get_or c.args.live.now j false) (get_or c.args.modes.now j false)
+    λ j. good_mode j (get_or c.args.marks.now.sort j 0) (get_or c.args.marks.now.live j false) (get_or c.args.modes.now j false)
     in
     let at = c in
     let i = at.loop-i.i in
-    (omega arith, ap (λ x. x && good i) at.loop-i.invariant.1 ∙ sym (all-step i good))
+    ap (λ x. x && good i) at.loop-i.invariant ∙ sym (all-step i good)
 
 pub returns : goal.returns
 unfolding modes_at
 returns c =
     let good : ℕ → Bool =
-    λ j. good_mode j (get_or c.args.sort.now j 0) (get_or c.args.live.now j false) (get_or c.args.modes.now j false)
-    in c.loop-i.invariant.1 ∙ ap (λ (k : ℕ). all k good) (omega arith)
+    λ j. good_mode j (get_or c.args.marks.now.sort j 0) (get_or c.args.marks.now.live j false) (get_or c.args.modes.now j false)
+    in c.loop-i.invariant ∙ ap (λ (k : ℕ). all k good) (omega arith)
 
 pub bounds-modes-i : goal.bounds-modes-i
 bounds-modes-i c = omega arith
-
-pub bounds-sort-i : goal.bounds-sort-i
-bounds-sort-i c = omega arith
-
-pub bounds-live-i : goal.bounds-live-i
-bounds-live-i c = omega arith
-
-pub overflow_add-i : goal.overflow_add-i
-overflow_add-i c = omega arith
-
-pub loop-i-smaller : goal.loop-i-smaller
-loop-i-smaller c = omega arith

@@ -18,49 +18,40 @@ returns-then-next-gt65536 c = simp (lt-leb c.args.next 65536 c.if-next-gt65536.t
 pub loop-i-init : goal.loop-i-init
 loop-i-init c =
     let good : ℕ → Bool =
-    λ j. good_number c.args.count c.args.next j (get_or c.args.numbers (j - 1) 0) (get_or c.args.numbers j 0)
-    in (refl, omega arith, refl, sym (all_none good))
+    λ j. good_number c.args.count c.args.next j (get_or c.args.numbers.now (j - 1) 0) (get_or c.args.numbers.now j 0)
+    in (refl, sym (all_none good))
 
 pub loop-i-preserved : goal.loop-i-preserved
 loop-i-preserved c =
     let good : ℕ → Bool =
-    λ j. good_number c.args.count c.args.next j (get_or c.args.numbers (j - 1) 0) (get_or c.args.numbers j 0)
+    λ j. good_number c.args.count c.args.next j (get_or c.args.numbers.now (j - 1) 0) (get_or c.args.numbers.now j 0)
     in
     let at = c in
     let start = at in
     let i = at.loop-i.i in (
-      at.loop-i.invariant.0,
-      omega arith,
-      ap (λ (k : ℕ). get_or start.args.numbers k 0) (omega arith),
-      ap (λ x. x && c.good_number-ok.result) at.loop-i.invariant.3
+      ap (λ (k : ℕ). get_or start.args.numbers.now k 0) (omega arith),
+      ap (λ x. x && c.good_number-ok.result) at.loop-i.invariant.1
           ∙ ap (λ x. all i good && x) (c.good_number-ok.ensures
-          ∙ ap (λ (k : ℕ). good_number k start.args.next i at.loop-i.before (get_or start.args.numbers i 0)) at.loop-i.invariant.0
-          ∙ ap (λ (k : ℕ). good_number start.args.count start.args.next i k (get_or start.args.numbers i 0)) at.loop-i.invariant.2)
+          ∙ ap (λ (k : ℕ). good_number start.args.count start.args.next i k (get_or start.args.numbers.now i 0)) at.loop-i.invariant.0)
           ∙ sym (all-step i good),
     )
 
 pub returns : goal.returns
 unfolding numbers_sound
 returns c =
-    let wide : length c.args.numbers ≡ 256 =
+    let wide : length c.args.numbers.now ≡ 256 =
     search rules
     in
     let good : ℕ → Bool =
-    λ j. good_number c.args.count c.args.next j (get_or c.args.numbers (j - 1) 0) (get_or c.args.numbers j 0)
+    λ j. good_number c.args.count c.args.next j (get_or c.args.numbers.now (j - 1) 0) (get_or c.args.numbers.now j 0)
     in
     let at = c in
     let start = at in
     simp (le-leb start.args.next 65536 at.if-next-gt65536.false, eq-eqb _ 256 wide)
-    (at.loop-i.invariant.3 ∙ ap (λ (k : ℕ). all k good) (omega arith))
+    (at.loop-i.invariant.1 ∙ ap (λ (k : ℕ). all k good) (omega arith))
 
 pub offset_bounds-numbers-i : goal.offset_bounds-numbers-i
 offset_bounds-numbers-i c = omega arith
 
 pub bounds-numbers-i : goal.bounds-numbers-i
 bounds-numbers-i c = omega arith
-
-pub overflow_add-i : goal.overflow_add-i
-overflow_add-i c = omega arith
-
-pub loop-i-smaller : goal.loop-i-smaller
-loop-i-smaller c = omega arith

@@ -1,37 +1,7 @@
 -- `bookfile::listed::yeses` meets its contract.
-use mathlib.Core.Bool.{false}
-use mathlib.Core.Path.{ap}
-use Prim.Native.Nat.{◌+◌}
-use native.Mathlib.Omega.{arith}
-use Rattle.bookfile.specs.Reading.{yes_at}
-use Rattle.bookfile.proofs.Filling.{filled_none, filled_more, filled-all}
+use Rattle.std.proofs.Common.{rules, false}
+use Rattle.bookfile.proofs.Filling.{made}
 use Rattle.bookfile.proofs.listed.yeses.Goals as goal
 
-pub loop-i-init : goal.loop-i-init
-loop-i-init c = filled_none _ false 256
-
-pub loop-i-preserved : goal.loop-i-preserved
-loop-i-preserved c =
-    let piece = c.args.piece.now in
-    filled_more _ false 256 _ _ _ c.loop-i.invariant (omega arith) (ap (λ k. yes_at piece (k + c.args.offset)) c.sort_at.ensures.0)
-
 pub returns : goal.returns
-returns c = filled-all _ false 256 _ _ c.loop-i.invariant c.loop-i-test.false
-
-pub sort_at-requires : goal.sort_at-requires
-sort_at-requires c = omega arith
-
-pub overflow_add-list : goal.overflow_add-list
-overflow_add-list c = omega arith
-
-pub bounds-piece-sort_at : goal.bounds-piece-sort_at
-bounds-piece-sort_at c = omega arith
-
-pub bounds-list-i : goal.bounds-list-i
-bounds-list-i c = omega arith
-
-pub overflow_add-i : goal.overflow_add-i
-overflow_add-i c = omega arith
-
-pub loop-i-smaller : goal.loop-i-smaller
-loop-i-smaller c = omega arith
+returns c = made _ _ _ (λ i x state call. search rules) c.from_fn.result false 256 c.from_fn.ensures.items

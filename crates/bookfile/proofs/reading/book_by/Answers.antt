@@ -27,9 +27,11 @@ returns c =
     λ j. record {
       count = count j;
       serial = c2.number2.ensures j;
-      sort = c3.sorts.ensures j;
-      live = c4.yeses.ensures j;
-      tm = c5.tms.ensures j;
+      marks = record {
+        sort = c3.sorts.ensures j;
+        live = c4.yeses.ensures j;
+        tm = c5.tms.ensures j;
+      };
       modes = c6.yeses-2.ensures j;
       needs = c7.needs.ensures j;
       amounts = c8.amounts.ensures j;

@@ -1,50 +1,33 @@
 -- `bookfile::tested::all_yes_or_no` meets its contract.
-use mathlib.Core.Path.{◌≡◌, sym, ap, ap₂, ◌∙◌}
-use mathlib.Core.Bool.{◌&&◌}
-use Prim.Native.Nat.{◌+◌}
-use native.Mathlib.Omega.{arith}
-use lib.Dec.{leb}
-use lib.ListN.{get_or}
+use Rattle.std.proofs.Common.{◌≡◌, ℕ, ◌<◌, Bool, true, false, MatchBool, length, get_or, refl, sym, ap, ◌∙◌, arith, rules}
+use Rattle.std.specs.List.{range_with_len, AllWithin, HoldsAt}
+use Rattle.std.proofs.lemmas.Iterator.{cases_from_all, YieldsList-from_range}
+use Rattle.std.proofs.lemmas.List.FromFn.{length-range_with_len, get_or-range_with_len}
 use Rattle.sums.specs.Sum.{all}
-use Rattle.sums.proofs.Sums.{all_none, all-step}
+use Rattle.sums.proofs.Choices.{test-clash}
+use Rattle.sums.proofs.Sums.{all_from, all-at}
 use Rattle.bookfile.specs.Reading.{yes_or_no}
 use Rattle.bookfile.proofs.tested.all_yes_or_no.Goals as goal
 
-pub loop-i-init : goal.loop-i-init
-loop-i-init c = (omega arith, sym (all_none _))
+module _ (p : ℕ → Bool) (n : ℕ) where
+  number-at : (i : ℕ) → i < n → get_or (range_with_len 0 n) i 0 ≡ i
+  number-at i l = get_or-range_with_len 0 n i 0 l ∙ (omega arith)
 
-pub loop-i-preserved : goal.loop-i-preserved
-loop-i-preserved c =
-    let at = c in
-    let l = at.loop-i in
-    let a = at.args in
-    let own = yes_or_no a.v a.piece.now in
-    (omega arith, ap₂ (λ b s. b && (leb (get_or a.piece.now (s + 1) 0) 1 && leb (get_or a.piece.now (s + 84) 0) 1)) l.invariant.1 at.sort_at-sort.ensures.0 ∙ sym (all-step l.i own))
+  -- what the test answers of each number below n
+  all-asked : (r : Bool) → MatchBool r (AllWithin (λ i. p i ≡ true) (range_with_len 0 n) 0 (length (range_with_len 0 n))) ((k : ℕ) × (k < length (range_with_len 0 n)) × HoldsAt (λ i. p i ≡ false) (range_with_len 0 n) k)
+      → r ≡ all n p
+  all-asked true h =
+      sym (all_from n p (λ i l. ap p (sym (number-at i l)) ∙ h i 0 (omega arith) (omega (arith, length-range_with_len 0 n))))
+  all-asked false h = by (all n p) refl
+    where
+      l : h.0 < n
+      l = omega (arith, h.1, length-range_with_len 0 n)
+
+      by : (t : Bool) → all n p ≡ t → false ≡ t
+      by true e = test-clash (all-at n p e h.0 l) (ap p (sym (number-at h.0 l)) ∙ h.2 0)
+      by false e = refl
 
 pub returns : goal.returns
 returns c =
-    let l = c.loop-i in
-    let e : l.i ≡ 256 = omega arith in
-    let a = c.args in
-    l.invariant.1 ∙ ap (λ n. all n (yes_or_no a.v a.piece.now)) e
-
-pub sort_at-sort-requires : goal.sort_at-sort-requires
-sort_at-sort-requires c = omega arith
-
-pub overflow_add-all : goal.overflow_add-all
-overflow_add-all c = omega arith
-
-pub bounds-piece-sort : goal.bounds-piece-sort
-bounds-piece-sort c = omega arith
-
-pub overflow_add-all-in-loop-i : goal.overflow_add-all-in-loop-i
-overflow_add-all-in-loop-i c = omega arith
-
-pub bounds-piece-sort-in-loop-i : goal.bounds-piece-sort-in-loop-i
-bounds-piece-sort-in-loop-i c = omega arith
-
-pub overflow_add-i : goal.overflow_add-i
-overflow_add-i c = omega arith
-
-pub loop-i-smaller : goal.loop-i-smaller
-loop-i-smaller c = omega arith
+    let p = yes_or_no c.args.v c.args.piece.now in
+    all-asked p 256 _ (cases_from_all _ _ _ (λ i. p i ≡ true) (λ i. p i ≡ false) c.all.ensures.ran (YieldsList-from_range 0 256 256 (cc) (omega arith)) (λ i q k. search rules) (λ i q k. search rules))

@@ -11,7 +11,7 @@ use Rattle.bookfile.proofs.writing.put_amounts.Goals as goal
 
 pub loop-k-init : goal.loop-k-init
 unfolding joined
-loop-k-init c = (omega arith, refl, refl)
+loop-k-init c = (refl, refl)
 
 pub loop-k-preserved : goal.loop-k-preserved
 loop-k-preserved c =
@@ -19,36 +19,17 @@ loop-k-preserved c =
     let c0 = c1 in
     let l = c0.loop-k in
     let a = c0.args in (
-      omega arith,
-      c1.put8.auto.room ∙ l.invariant.1,
-      joined-put (amount_part a.amounts.now a.i) 8 (length-amount a.amounts.now a.i) _ _ _ a.place l.k l.invariant.2
+      c1.put8.auto.room ∙ l.invariant.0,
+      joined-put (amount_part a.amounts.now a.i) 8 (length-amount a.amounts.now a.i) _ _ _ a.place l.k l.invariant.1
           (c1.put8.ensures ∙ ap (λ x. sets l.room (a.place + 8 * l.k) (bytes_of 8 x)) c1.word_at.ensures),
     )
 
 pub shape_of-room : goal.shape_of-room
-shape_of-room c = c.loop-k.invariant.1
+shape_of-room c = c.loop-k.invariant.0
 
 pub returns : goal.returns
 returns c =
     let l = c.loop-k in
     let a = c.args in
     let e : l.k ≡ 10 = omega arith in
-    l.invariant.2 ∙ ap (λ n. sets a.room.now a.place (joined (amount_part a.amounts.now a.i) n)) e
-
-pub overflow_mul-k : goal.overflow_mul-k
-overflow_mul-k c = omega arith
-
-pub overflow_add-place : goal.overflow_add-place
-overflow_add-place c = omega arith
-
-pub word_at-requires : goal.word_at-requires
-word_at-requires c = omega arith
-
-pub put8-requires : goal.put8-requires
-put8-requires c = omega arith
-
-pub overflow_add-k : goal.overflow_add-k
-overflow_add-k c = omega arith
-
-pub loop-k-smaller : goal.loop-k-smaller
-loop-k-smaller c = omega arith
+    l.invariant.1 ∙ ap (λ n. sets a.room.now a.place (joined (amount_part a.amounts.now a.i) n)) e

@@ -44,15 +44,3 @@ returns c =
     put_then room _ _ (bytes_of 2 a.count) (bytes_of 2 a.serial ++ bytes_of 4 a.next) 4 2 c1.put2.ensures
     (put_then _ _ _ (bytes_of 2 a.serial) (bytes_of 4 a.next) 6 2 c2.put2-2.ensures c3.put4.ensures (length-bytes_of 2 a.serial))
     (length-bytes_of 2 a.count)
-
-pub bounds-room-1 : goal.bounds-room-1
-bounds-room-1 c = simp length-set (omega arith)
-
-pub bounds-room-2 : goal.bounds-room-2
-bounds-room-2 c = simp length-set (omega arith)
-
-pub bounds-room-3 : goal.bounds-room-3
-bounds-room-3 c = simp length-set (omega arith)
-
-pub put2-requires : goal.put2-requires
-put2-requires c = simp length-set (omega arith)

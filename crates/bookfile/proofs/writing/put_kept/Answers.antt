@@ -1,9 +1,8 @@
 -- `bookfile::writing::put_kept` meets its contract.
 use mathlib.Core.Path.{◌∙◌}
-use native.Mathlib.Omega.{arith}
 use lib.ListN.{length-set}
 use Rattle.numbers.specs.Bytes.{bytes_of}
-use Rattle.bookfile.proofs.Parts.{put_one}
+use Rattle.bookfile.proofs.Parts.{yes-byte, put_one}
 use Rattle.bookfile.proofs.writing.put_kept.Goals as goal
 
 pub shape_of-room : goal.shape_of-room
@@ -13,7 +12,4 @@ pub returns : goal.returns
 returns c =
     let c1 = c in
     let a = c1.args in
-    put_one a.room.now _ (bytes_of 8 a.need) a.place c1.yes_no.ensures c.put8.ensures
-
-pub put8-requires : goal.put8-requires
-put8-requires c = simp length-set (omega arith)
+    put_one a.room.now _ (bytes_of 8 a.need) a.place (c1.from.ensures ∙ yes-byte _) c.put8.ensures

@@ -1,9 +1,8 @@
 -- `bookfile::writing::put_marks` meets its contract.
 use mathlib.Core.Path.{◌∙◌}
-use native.Mathlib.Omega.{arith}
 use lib.ListN.{length-set}
 use Rattle.numbers.specs.Bytes.{bytes_of}
-use Rattle.bookfile.proofs.Parts.{put_two}
+use Rattle.bookfile.proofs.Parts.{yes-byte, put_two}
 use Rattle.bookfile.proofs.writing.put_marks.Goals as goal
 
 pub shape_of-room : goal.shape_of-room
@@ -13,10 +12,4 @@ pub returns : goal.returns
 returns c =
     let c1 = c in
     let a = c1.args in
-    put_two a.room.now _ (bytes_of 2 a.tm) a.place a.sort c1.yes_no.ensures c.put2.ensures
-
-pub bounds-room-place-2 : goal.bounds-room-place-2
-bounds-room-place-2 c = simp length-set (omega arith)
-
-pub put2-requires : goal.put2-requires
-put2-requires c = simp length-set (omega arith)
+    put_two a.room.now _ (bytes_of 2 a.tm) a.place a.sort (c1.from.ensures ∙ yes-byte _) c.put2.ensures

@@ -1,6 +1,5 @@
 -- `bookfile::writing::put_places` meets its contract: the first i places stand behind the head.
 use mathlib.Core.Path.{◌≡◌}
-use Prim.Native.Nat.{◌-◌, ◌≤◌}
 use lib.ListN.{length}
 use lib.Seq.{sets}
 use Rattle.bookfile.specs.Written.{size, joined, place_bytes}
@@ -9,7 +8,4 @@ use Rattle.bookfile.proofs.writing.put_places.Given as goal
 
 abbrev pub invariant-loop-i : goal.invariant-loop-i
 invariant-loop-i l =
-    (l.i ≤ 256) × (length l.room ≡ size) × (l.room ≡ sets l.initial.room 12 (joined (place_bytes Two l.t) l.i))
-
-abbrev pub decreases-loop-i : goal.decreases-loop-i
-decreases-loop-i l = 256 - l.i
+    (length l.room ≡ size) × (l.room ≡ sets l.initial.room 12 (joined (place_bytes Two l.t) l.i))

@@ -1,734 +1,110 @@
 -- `closeout::pays::fill` meets its contract. The invariant: the pass stands at account i.
-use mathlib.Core.Path.{◌≡◌, sym, ap, subst, ◌∙◌}
+use mathlib.Core.Path.{◌≡◌, refl, sym, ap, ◌∙◌}
 use mathlib.Core.List.{List}
-use Prim.Native.Nat.{ℕ, ◌+◌, ◌-◌, ◌<◌}
+use Prim.Native.Nat.{ℕ, ◌+◌, ◌-◌, ◌*◌, ◌≤◌, ◌<◌}
 use native.Mathlib.Omega.{arith}
-use lib.ListN.{length, get_or, set}
+use lib.ListN.{length, get_or, set, get_or-map}
+use Rattle.std.proofs.lemmas.List.{map-set}
 use Rattle.rows.specs.declared.Row.{Row}
-use Rattle.rows.specs.declared.Book.{Book}
 use Rattle.rows.specs.Rows.{row_at, account_of}
-use Rattle.table.specs.Words.{marks_from}
+use Rattle.rows.specs.Facts.{InRange}
+use Rattle.table.specs.declared.Table.{Table}
+use Rattle.table.specs.Words.{row_in, turned_back}
 use Rattle.table.proofs.Gathered.{row-in}
+use Rattle.book.specs.Facts.{Sound}
 use Rattle.closeout.specs.declared.pays.Both.{Both}
-use Rattle.closeout.specs.Inner.{rounds_by, after_own, held_book, Checked}
+use Rattle.closeout.specs.declared.pays.Purses.{Purses}
+use Rattle.closeout.specs.Inner.{rounds_by, after_own, four_of, put_at, Checked}
 use Rattle.closeout.proofs.DeemedUnder.{need-kept, under-kept}
 use Rattle.closeout.proofs.Pass.{Passed, pass-start, pass-finish, sum_fits, tm-has, tm-has₂, cm-has, cm-has₂, named-low, pass-turn}
+use Rattle.closeout.proofs.pays.fill.Invariants.{lefts, frees}
 use Rattle.closeout.proofs.pays.fill.Goals as goal
 
-pub bounds-losses-0 : goal.bounds-losses-0
-bounds-losses-0 c = let pre = c.requires in omega (arith, pre.each, pre.sound.shaped.some)
+-- what account m's purses have left, and purses once so much is paid from them
+abbrev purses_at : List Purses → ℕ → Purses
+purses_at ps m = get_or ps m (record { left = 0; free = 0 })
 
-pub after_own-start-requires : goal.after_own-start-requires
-after_own-start-requires c =
-    let book_of : Book =
-    let a = c.args in held_book a.count (marks_from a.sort.now a.live.now a.tm.now) a.w.now a.needs.now
-    in
-    let top : c.row_of-top.result ≡ row_at book_of 0 =
-    c.row_of-top.ensures ∙ sym (row-in _ _ 0 (omega arith))
-    in
-    let all_under : c.less.result ≡ get_or c.args.needs.now 0 0 - (row_at book_of 0).margin =
-    c.less.ensures ∙ ap (λ q. get_or c.args.needs.now 0 0 - q.margin) top
-    in
-    let s = c in
-    let some = s.requires.sound.shaped.some in
-    (rw top (s.requires.sound.ranges 0 some), under-kept book_of s.requires.sound 0 some all_under)
+abbrev less_by : Purses → ℕ → ℕ → Purses
+less_by x first second = record { left = x.left - first; free = x.free - second }
+
+-- a row held, as it is gathered from the table, and what is deemed under it
+module _ (t : Table) (s : Sound (turned_back t)) {i : ℕ} (l : i < t.count) {r : Row} (e : r ≡ row_in t.marks t.amounts i) where
+  row : r ≡ row_at (turned_back t) i
+  row = e ∙ sym (row-in t.marks t.amounts i (omega (arith, s.most)))
+
+  low : r.tm < 256
+  low = omega (arith, ap (λ q. q.tm) row, s.most, named-low (turned_back t) s i l)
+
+  its-under : {under : ℕ} → under ≡ get_or t.needs i 0 - r.margin → under ≡ get_or t.needs i 0 - (row_at (turned_back t) i).margin
+  its-under u = rw row at u
+
+  asked : {under : ℕ} → under ≡ get_or t.needs i 0 - r.margin → InRange r × (under ≤ 2_560_000_000_000_000)
+  asked u = (rw row (s.ranges i l), under-kept (turned_back t) s i l (its-under u))
+
+-- its turn
+module _ (t : Table) (ps : List Purses) (cm : Purses) {losses room₀ room : List ℕ} {cm' tm' : Purses} {open-sum i under : ℕ} {r : Row} {p : Both} {room' : List ℕ}
+    (checked : Checked (turned_back t) losses room₀) (l : i < t.count)
+    (at : Passed (turned_back t) losses room₀ room (lefts ps) (frees ps) cm.left cm.free open-sum i)
+    (e : r ≡ row_in t.marks t.amounts i) (u : under ≡ get_or t.needs i 0 - r.margin)
+    (paid : p ≡ rounds_by (account_of r) (get_or losses i 0) under (purses_at ps r.tm).left cm.left (purses_at ps r.tm).free cm.free)
+    (put : room' ≡ put_at room (4 * i) (four_of p)) (same : length room' ≡ length room)
+    (tm-less : tm' ≡ less_by (purses_at ps r.tm) p.first.tm p.second.tm) (cm-less : cm' ≡ less_by cm p.first.cm p.second.cm) where
+  left_at : get_or (lefts ps) r.tm 0 ≡ (purses_at ps r.tm).left
+  left_at = get_or-map (λ x. x.left) ps r.tm (record { left = 0; free = 0 })
+
+  free_at : get_or (frees ps) r.tm 0 ≡ (purses_at ps r.tm).free
+  free_at = get_or-map (λ x. x.free) ps r.tm (record { left = 0; free = 0 })
+
+  in-two : Passed (turned_back t) losses room₀ room' (set (set (lefts ps) r.tm (get_or (lefts ps) r.tm 0 - p.first.tm)) i p.first.left)
+      (set (set (frees ps) r.tm (get_or (frees ps) r.tm 0 - p.second.tm)) i p.second.left) (cm.left - p.first.cm) (cm.free - p.second.cm) (open-sum + p.second.unpaid) (i + 1)
+  in-two =
+      let its-row = row t checked.sound l e in
+      let in-lists : p ≡ rounds_by (account_of r) (get_or losses i 0) under (get_or (lefts ps) r.tm 0) cm.left (get_or (frees ps) r.tm 0) cm.free =
+      paid ∙ (λ j. rounds_by (account_of r) (get_or losses i 0) under (sym left_at j) cm.left (sym free_at j) cm.free) in
+      rw its-row (pass-turn checked.sound l at under (need-kept (turned_back t) checked.sound i l (its-under t checked.sound l e u)) (rw its-row at in-lists) put same)
+
+  turn : Passed (turned_back t) losses room₀ room' (lefts (set (set ps r.tm tm') i (record { left = p.first.left; free = p.second.left })))
+      (frees (set (set ps r.tm tm') i (record { left = p.first.left; free = p.second.left }))) cm'.left cm'.free (open-sum + p.second.unpaid) (i + 1)
+  turn = rw (tm-less, cm-less) (simp map-set (rw (← left_at, ← free_at) in-two))
+
+  turn-fits : open-sum + p.second.unpaid ≤ 256 * 10_000_000_000_000
+  turn-fits = omega (arith, checked.sound.most, sum_fits in-two checked.small (omega arith))
+
+pub after_own-cm-requires : goal.after_own-cm-requires
+after_own-cm-requires c = let s = c.requires.sound in asked c.args.t.now s s.shaped.some c.row_at-top.ensures c.saturating_sub.ensures
 
 pub loop-i-init : goal.loop-i-init
 loop-i-init c =
-    let book_of : Book =
-    let a = c.args in held_book a.count (marks_from a.sort.now a.live.now a.tm.now) a.w.now a.needs.now
-    in
-    let top : c.row_of-top.result ≡ row_at book_of 0 =
-    c.row_of-top.ensures ∙ sym (row-in _ _ 0 (omega arith))
-    in
-    let all_under : c.less.result ≡ get_or c.args.needs.now 0 0 - (row_at book_of 0).margin =
-    c.less.ensures ∙ ap (λ q. get_or c.args.needs.now 0 0 - q.margin) top
-    in
-    let s = c in
-    let pre = s.requires in (
-      pass-start book_of s.args.losses.now _ _ _ _ pre.sound (ap length c.zeros-left.ensures) (ap length c.zeros-free.ensures)
-          (need-kept book_of pre.sound 0 pre.sound.shaped.some all_under)
-          (c.after_own-start.ensures ∙ ap (λ q. after_own (account_of q) (get_or s.args.losses.now 0 0) c.less.result) top),
-      omega arith,
-    )
+    let a = c.args in
+    let b = turned_back a.t.now in
+    let s = c.requires.sound in
+    let under = its-under a.t.now s s.shaped.some c.row_at-top.ensures c.saturating_sub.ensures in
+    pass-start b a.losses.now a.room.now _ _ c.saturating_sub.result s refl refl (need-kept b s 0 s.shaped.some under)
+    (c.after_own-cm.ensures
+    ∙ ap (λ q. after_own (account_of q) (get_or a.losses.now 0 0) c.saturating_sub.result) (row a.t.now s s.shaped.some c.row_at-top.ensures))
 
-pub row_of-r-requires : goal.row_of-r-requires
-row_of-r-requires c =
-    let book_of : Book =
-    let a = c.args in held_book a.count (marks_from a.sort.now a.live.now a.tm.now) a.w.now a.needs.now
-    in
-    let Bk : Book =
-    book_of
-    in
-    let Ls : List ℕ =
-    c.args.losses.now
-    in
-    let R₀ : List ℕ =
-    c.args.room.now
-    in
-    let checked : Checked Bk Ls R₀ =
-    c.requires
-    in
-    let inside : c.loop-i.i < Bk.count =
-    omega arith
-    in
-    let here-low : c.loop-i.i < 256 =
-    omega (arith, checked.sound.most, inside)
-    in here-low
-
-pub offset_bounds-needs-i : goal.offset_bounds-needs-i
-offset_bounds-needs-i c =
-    let book_of : Book =
-    let a = c.args in held_book a.count (marks_from a.sort.now a.live.now a.tm.now) a.w.now a.needs.now
-    in
-    let Bk : Book =
-    book_of
-    in
-    let Ls : List ℕ =
-    c.args.losses.now
-    in
-    let R₀ : List ℕ =
-    c.args.room.now
-    in
-    let checked : Checked Bk Ls R₀ =
-    c.requires
-    in
-    let inside : c.loop-i.i < Bk.count =
-    omega arith
-    in
-    let here-low : c.loop-i.i < 256 =
-    omega (arith, checked.sound.most, inside)
-    in omega (arith, here-low)
-
-pub bounds-needs-i : goal.bounds-needs-i
-bounds-needs-i c =
-    let book_of : Book =
-    let a = c.args in held_book a.count (marks_from a.sort.now a.live.now a.tm.now) a.w.now a.needs.now
-    in
-    let Bk : Book =
-    book_of
-    in
-    let Ls : List ℕ =
-    c.args.losses.now
-    in
-    let R₀ : List ℕ =
-    c.args.room.now
-    in
-    let checked : Checked Bk Ls R₀ =
-    c.requires
-    in
-    let inside : c.loop-i.i < Bk.count =
-    omega arith
-    in
-    let here-low : c.loop-i.i < 256 =
-    omega (arith, checked.sound.most, inside)
-    in omega (arith, here-low)
-
-pub offset_bounds-losses-i : goal.offset_bounds-losses-i
-offset_bounds-losses-i c =
-    let book_of : Book =
-    let a = c.args in held_book a.count (marks_from a.sort.now a.live.now a.tm.now) a.w.now a.needs.now
-    in
-    let Bk : Book =
-    book_of
-    in
-    let Ls : List ℕ =
-    c.args.losses.now
-    in
-    let R₀ : List ℕ =
-    c.args.room.now
-    in
-    let checked : Checked Bk Ls R₀ =
-    c.requires
-    in
-    let inside : c.loop-i.i < Bk.count =
-    omega arith
-    in
-    let here-low : c.loop-i.i < 256 =
-    omega (arith, checked.sound.most, inside)
-    in omega (arith, here-low)
-
-pub bounds-losses-i : goal.bounds-losses-i
-bounds-losses-i c =
-    let book_of : Book =
-    let a = c.args in held_book a.count (marks_from a.sort.now a.live.now a.tm.now) a.w.now a.needs.now
-    in
-    let Bk : Book =
-    book_of
-    in
-    let Ls : List ℕ =
-    c.args.losses.now
-    in
-    let R₀ : List ℕ =
-    c.args.room.now
-    in
-    let checked : Checked Bk Ls R₀ =
-    c.requires
-    in omega (arith, checked.each)
-
-pub bounds-left-t : goal.bounds-left-t
-bounds-left-t c =
-    let book_of : Book =
-    let a = c.args in held_book a.count (marks_from a.sort.now a.live.now a.tm.now) a.w.now a.needs.now
-    in
-    let Bk : Book =
-    book_of
-    in
-    let Ls : List ℕ =
-    c.args.losses.now
-    in
-    let R₀ : List ℕ =
-    c.args.room.now
-    in
-    let checked : Checked Bk Ls R₀ =
-    c.requires
-    in
-    let inside : c.loop-i.i < Bk.count =
-    omega arith
-    in
-    let here-low : c.loop-i.i < 256 =
-    omega (arith, checked.sound.most, inside)
-    in
-    let row : c.row_of-r.result ≡ row_at Bk c.loop-i.i =
-    c.row_of-r.ensures ∙ sym (row-in _ _ c.loop-i.i here-low)
-    in
-    let low : c.row_of-r.result.tm < 256 =
-    let t = c in
-    omega (arith, ap (λ q. q.tm) row, checked.sound.most, inside, named-low Bk checked.sound t.loop-i.i inside)
-    in omega (arith, low)
-
-pub bounds-free-t : goal.bounds-free-t
-bounds-free-t c =
-    let book_of : Book =
-    let a = c.args in held_book a.count (marks_from a.sort.now a.live.now a.tm.now) a.w.now a.needs.now
-    in
-    let Bk : Book =
-    book_of
-    in
-    let Ls : List ℕ =
-    c.args.losses.now
-    in
-    let R₀ : List ℕ =
-    c.args.room.now
-    in
-    let checked : Checked Bk Ls R₀ =
-    c.requires
-    in
-    let inside : c.loop-i.i < Bk.count =
-    omega arith
-    in
-    let here-low : c.loop-i.i < 256 =
-    omega (arith, checked.sound.most, inside)
-    in
-    let row : c.row_of-r.result ≡ row_at Bk c.loop-i.i =
-    c.row_of-r.ensures ∙ sym (row-in _ _ c.loop-i.i here-low)
-    in
-    let low : c.row_of-r.result.tm < 256 =
-    let t = c in
-    omega (arith, ap (λ q. q.tm) row, checked.sound.most, inside, named-low Bk checked.sound t.loop-i.i inside)
-    in omega (arith, low)
+pub bounds-purses-m : goal.bounds-purses-m
+bounds-purses-m c = low c.args.t.now c.requires.sound c.loop-i-test.true c.row_at-r.ensures
 
 pub rounds-p-requires : goal.rounds-p-requires
-rounds-p-requires c =
-    let book_of : Book =
-    let a = c.args in held_book a.count (marks_from a.sort.now a.live.now a.tm.now) a.w.now a.needs.now
-    in
-    let Bk : Book =
-    book_of
-    in
-    let Ls : List ℕ =
-    c.args.losses.now
-    in
-    let R₀ : List ℕ =
-    c.args.room.now
-    in
-    let checked : Checked Bk Ls R₀ =
-    c.requires
-    in
-    let inside : c.loop-i.i < Bk.count =
-    omega arith
-    in
-    let here-low : c.loop-i.i < 256 =
-    omega (arith, checked.sound.most, inside)
-    in
-    let row : c.row_of-r.result ≡ row_at Bk c.loop-i.i =
-    c.row_of-r.ensures ∙ sym (row-in _ _ c.loop-i.i here-low)
-    in
-    let deemed-under : (let t = c in
-    c.less-under.result ≡ get_or t.args.needs.now t.loop-i.i 0 - (row_at Bk t.loop-i.i).margin) =
-    let r = c in
-    let t = r in
-    c.less-under.ensures ∙ ap (λ q. get_or t.args.needs.now t.loop-i.i 0 - q.margin) row
-    in
-    let r = c in
-    let at = r in
-    (rw row (checked.sound.ranges _ inside), under-kept Bk checked.sound _ inside deemed-under)
+rounds-p-requires c = asked c.args.t.now c.requires.sound c.loop-i-test.true c.row_at-r.ensures c.saturating_sub-under.ensures
 
-pub overflow_mul-i : goal.overflow_mul-i
-overflow_mul-i c =
-    let book_of : Book =
-    let a = c.args in held_book a.count (marks_from a.sort.now a.live.now a.tm.now) a.w.now a.needs.now
-    in
-    let Bk : Book =
-    book_of
-    in
-    let Ls : List ℕ =
-    c.args.losses.now
-    in
-    let R₀ : List ℕ =
-    c.args.room.now
-    in
-    let checked : Checked Bk Ls R₀ =
-    c.requires
-    in
-    let inside : c.loop-i.i < Bk.count =
-    omega arith
-    in
-    let here-low : c.loop-i.i < 256 =
-    omega (arith, checked.sound.most, inside)
-    in omega (arith, here-low)
+pub less-requires : goal.less-requires
+less-requires c = (tm-has _ _ _ _ _ _ _ c.rounds-p.ensures, tm-has₂ _ _ _ _ _ _ _ c.rounds-p.ensures)
 
-pub put-requires : goal.put-requires
-put-requires c =
-    let book_of : Book =
-    let a = c.args in held_book a.count (marks_from a.sort.now a.live.now a.tm.now) a.w.now a.needs.now
-    in
-    let Bk : Book =
-    book_of
-    in
-    let Ls : List ℕ =
-    c.args.losses.now
-    in
-    let R₀ : List ℕ =
-    c.args.room.now
-    in
-    let checked : Checked Bk Ls R₀ =
-    c.requires
-    in
-    let here : Passed Bk Ls R₀ c.loop-i.room c.loop-i.left c.loop-i.free c.loop-i.cm c.loop-i.cm_free
-    c.loop-i.uncovered c.loop-i.i =
-    c.loop-i.invariant.0
-    in omega (arith, checked.wide, here.wide)
+pub bounds-purses-m-in-loop-i : goal.bounds-purses-m-in-loop-i
+bounds-purses-m-in-loop-i c = low c.args.t.now c.requires.sound c.loop-i-test.true c.row_at-r.ensures
 
-pub bounds-left-t-in-loop-i : goal.bounds-left-t-in-loop-i
-bounds-left-t-in-loop-i c =
-    let book_of : Book =
-    let a = c.args in held_book a.count (marks_from a.sort.now a.live.now a.tm.now) a.w.now a.needs.now
-    in
-    let Bk : Book =
-    book_of
-    in
-    let Ls : List ℕ =
-    c.args.losses.now
-    in
-    let R₀ : List ℕ =
-    c.args.room.now
-    in
-    let checked : Checked Bk Ls R₀ =
-    c.requires
-    in
-    let inside : c.loop-i.i < Bk.count =
-    omega arith
-    in
-    let here-low : c.loop-i.i < 256 =
-    omega (arith, checked.sound.most, inside)
-    in
-    let row : c.row_of-r.result ≡ row_at Bk c.loop-i.i =
-    c.row_of-r.ensures ∙ sym (row-in _ _ c.loop-i.i here-low)
-    in
-    let low : c.row_of-r.result.tm < 256 =
-    let t = c in
-    omega (arith, ap (λ q. q.tm) row, checked.sound.most, inside, named-low Bk checked.sound t.loop-i.i inside)
-    in omega (arith, low)
-
-pub overflow_sub-left : goal.overflow_sub-left
-overflow_sub-left c = tm-has _ _ _ _ _ _ _ c.rounds-p.ensures
-
-pub bounds-left-t-in-loop-i-2 : goal.bounds-left-t-in-loop-i-2
-bounds-left-t-in-loop-i-2 c =
-    let book_of : Book =
-    let a = c.args in held_book a.count (marks_from a.sort.now a.live.now a.tm.now) a.w.now a.needs.now
-    in
-    let Bk : Book =
-    book_of
-    in
-    let Ls : List ℕ =
-    c.args.losses.now
-    in
-    let R₀ : List ℕ =
-    c.args.room.now
-    in
-    let checked : Checked Bk Ls R₀ =
-    c.requires
-    in
-    let inside : c.loop-i.i < Bk.count =
-    omega arith
-    in
-    let here-low : c.loop-i.i < 256 =
-    omega (arith, checked.sound.most, inside)
-    in
-    let row : c.row_of-r.result ≡ row_at Bk c.loop-i.i =
-    c.row_of-r.ensures ∙ sym (row-in _ _ c.loop-i.i here-low)
-    in
-    let low : c.row_of-r.result.tm < 256 =
-    let t = c in
-    omega (arith, ap (λ q. q.tm) row, checked.sound.most, inside, named-low Bk checked.sound t.loop-i.i inside)
-    in omega (arith, low)
-
-pub offset_bounds-left-i : goal.offset_bounds-left-i
-offset_bounds-left-i c =
-    let book_of : Book =
-    let a = c.args in held_book a.count (marks_from a.sort.now a.live.now a.tm.now) a.w.now a.needs.now
-    in
-    let Bk : Book =
-    book_of
-    in
-    let Ls : List ℕ =
-    c.args.losses.now
-    in
-    let R₀ : List ℕ =
-    c.args.room.now
-    in
-    let checked : Checked Bk Ls R₀ =
-    c.requires
-    in
-    let inside : c.loop-i.i < Bk.count =
-    omega arith
-    in
-    let here-low : c.loop-i.i < 256 =
-    omega (arith, checked.sound.most, inside)
-    in omega (arith, here-low)
-
-pub bounds-left-i : goal.bounds-left-i
-bounds-left-i c =
-    let book_of : Book =
-    let a = c.args in held_book a.count (marks_from a.sort.now a.live.now a.tm.now) a.w.now a.needs.now
-    in
-    let Bk : Book =
-    book_of
-    in
-    let Ls : List ℕ =
-    c.args.losses.now
-    in
-    let R₀ : List ℕ =
-    c.args.room.now
-    in
-    let checked : Checked Bk Ls R₀ =
-    c.requires
-    in
-    let inside : c.loop-i.i < Bk.count =
-    omega arith
-    in
-    let here-low : c.loop-i.i < 256 =
-    omega (arith, checked.sound.most, inside)
-    in omega (arith, here-low)
-
-pub bounds-free-t-in-loop-i : goal.bounds-free-t-in-loop-i
-bounds-free-t-in-loop-i c =
-    let book_of : Book =
-    let a = c.args in held_book a.count (marks_from a.sort.now a.live.now a.tm.now) a.w.now a.needs.now
-    in
-    let Bk : Book =
-    book_of
-    in
-    let Ls : List ℕ =
-    c.args.losses.now
-    in
-    let R₀ : List ℕ =
-    c.args.room.now
-    in
-    let checked : Checked Bk Ls R₀ =
-    c.requires
-    in
-    let inside : c.loop-i.i < Bk.count =
-    omega arith
-    in
-    let here-low : c.loop-i.i < 256 =
-    omega (arith, checked.sound.most, inside)
-    in
-    let row : c.row_of-r.result ≡ row_at Bk c.loop-i.i =
-    c.row_of-r.ensures ∙ sym (row-in _ _ c.loop-i.i here-low)
-    in
-    let low : c.row_of-r.result.tm < 256 =
-    let t = c in
-    omega (arith, ap (λ q. q.tm) row, checked.sound.most, inside, named-low Bk checked.sound t.loop-i.i inside)
-    in omega (arith, low)
-
-pub overflow_sub-free : goal.overflow_sub-free
-overflow_sub-free c = tm-has₂ _ _ _ _ _ _ _ c.rounds-p.ensures
-
-pub bounds-free-t-in-loop-i-2 : goal.bounds-free-t-in-loop-i-2
-bounds-free-t-in-loop-i-2 c =
-    let book_of : Book =
-    let a = c.args in held_book a.count (marks_from a.sort.now a.live.now a.tm.now) a.w.now a.needs.now
-    in
-    let Bk : Book =
-    book_of
-    in
-    let Ls : List ℕ =
-    c.args.losses.now
-    in
-    let R₀ : List ℕ =
-    c.args.room.now
-    in
-    let checked : Checked Bk Ls R₀ =
-    c.requires
-    in
-    let inside : c.loop-i.i < Bk.count =
-    omega arith
-    in
-    let here-low : c.loop-i.i < 256 =
-    omega (arith, checked.sound.most, inside)
-    in
-    let row : c.row_of-r.result ≡ row_at Bk c.loop-i.i =
-    c.row_of-r.ensures ∙ sym (row-in _ _ c.loop-i.i here-low)
-    in
-    let low : c.row_of-r.result.tm < 256 =
-    let t = c in
-    omega (arith, ap (λ q. q.tm) row, checked.sound.most, inside, named-low Bk checked.sound t.loop-i.i inside)
-    in omega (arith, low)
-
-pub offset_bounds-free-i : goal.offset_bounds-free-i
-offset_bounds-free-i c =
-    let book_of : Book =
-    let a = c.args in held_book a.count (marks_from a.sort.now a.live.now a.tm.now) a.w.now a.needs.now
-    in
-    let Bk : Book =
-    book_of
-    in
-    let Ls : List ℕ =
-    c.args.losses.now
-    in
-    let R₀ : List ℕ =
-    c.args.room.now
-    in
-    let checked : Checked Bk Ls R₀ =
-    c.requires
-    in
-    let inside : c.loop-i.i < Bk.count =
-    omega arith
-    in
-    let here-low : c.loop-i.i < 256 =
-    omega (arith, checked.sound.most, inside)
-    in omega (arith, here-low)
-
-pub bounds-free-i : goal.bounds-free-i
-bounds-free-i c =
-    let book_of : Book =
-    let a = c.args in held_book a.count (marks_from a.sort.now a.live.now a.tm.now) a.w.now a.needs.now
-    in
-    let Bk : Book =
-    book_of
-    in
-    let Ls : List ℕ =
-    c.args.losses.now
-    in
-    let R₀ : List ℕ =
-    c.args.room.now
-    in
-    let checked : Checked Bk Ls R₀ =
-    c.requires
-    in
-    let inside : c.loop-i.i < Bk.count =
-    omega arith
-    in
-    let here-low : c.loop-i.i < 256 =
-    omega (arith, checked.sound.most, inside)
-    in omega (arith, here-low)
-
-pub overflow_sub-cm : goal.overflow_sub-cm
-overflow_sub-cm c = cm-has _ _ _ _ _ _ _ c.rounds-p.ensures
-
-pub overflow_sub-cm_free : goal.overflow_sub-cm_free
-overflow_sub-cm_free c = cm-has₂ _ _ _ _ _ _ _ c.rounds-p.ensures
+pub less-cm-requires : goal.less-cm-requires
+less-cm-requires c = (cm-has _ _ _ _ _ _ _ c.rounds-p.ensures, cm-has₂ _ _ _ _ _ _ _ c.rounds-p.ensures)
 
 pub overflow_add-uncovered : goal.overflow_add-uncovered
 overflow_add-uncovered c =
-    let book_of : Book =
-    let a = c.args in held_book a.count (marks_from a.sort.now a.live.now a.tm.now) a.w.now a.needs.now
-    in
-    let Bk : Book =
-    book_of
-    in
-    let Ls : List ℕ =
-    c.args.losses.now
-    in
-    let R₀ : List ℕ =
-    c.args.room.now
-    in
-    let checked : Checked Bk Ls R₀ =
-    c.requires
-    in
-    let inside : c.loop-i.i < Bk.count =
-    omega arith
-    in
-    let here-low : c.loop-i.i < 256 =
-    omega (arith, checked.sound.most, inside)
-    in
-    let here : Passed Bk Ls R₀ c.loop-i.room c.loop-i.left c.loop-i.free c.loop-i.cm c.loop-i.cm_free
-    c.loop-i.uncovered c.loop-i.i =
-    c.loop-i.invariant.0
-    in
-    let row : c.row_of-r.result ≡ row_at Bk c.loop-i.i =
-    c.row_of-r.ensures ∙ sym (row-in _ _ c.loop-i.i here-low)
-    in
-    let deemed-under : (let t = c in
-    c.less-under.result ≡ get_or t.args.needs.now t.loop-i.i 0 - (row_at Bk t.loop-i.i).margin) =
-    let r = c in
-    let t = r in
-    c.less-under.ensures ∙ ap (λ q. get_or t.args.needs.now t.loop-i.i 0 - q.margin) row
-    in
-    let named : ℕ =
-    c.row_of-r.result.tm
-    in
-    let paid : Both =
-    c.rounds-p.result
-    in
-    let next : Passed Bk Ls R₀ c.put.new.room
-    (set (set c.loop-i.left named (get_or c.loop-i.left named 0 - paid.first.tm)) c.loop-i.i paid.first.left)
-    (set (set c.loop-i.free named (get_or c.loop-i.free named 0 - paid.second.tm)) c.loop-i.i paid.second.left)
-    (c.loop-i.cm - paid.first.cm) (c.loop-i.cm_free - paid.second.cm) (c.loop-i.uncovered + paid.second.unpaid) (c.loop-i.i + 1) =
-    let t = c in
-    let l = t.loop-i in
-    let r = c in
-    let p = paid in
-    let put = c.put in
-    let under = c in
-    subst (λ (q : Row). Passed Bk Ls R₀ put.new.room
-    (set (set l.left q.tm (get_or l.left q.tm 0 - p.first.tm)) l.i p.first.left)
-    (set (set l.free q.tm (get_or l.free q.tm 0 - p.second.tm)) l.i p.second.left)
-    (l.cm - p.first.cm) (l.cm_free - p.second.cm) (l.uncovered + p.second.unpaid) (l.i + 1)) (sym row)
-    (pass-turn checked.sound inside here under.less-under.result (need-kept Bk checked.sound _ inside deemed-under)
-    (c.rounds-p.ensures ∙ ap (λ q. rounds_by (account_of q) (get_or Ls l.i 0) under.less-under.result (get_or l.left q.tm 0) l.cm (get_or l.free q.tm 0) l.cm_free) row)
-    put.ensures put.auto.room)
-    in omega (arith, here-low, sum_fits next checked.small (omega (arith, inside)))
-
-pub overflow_add-i : goal.overflow_add-i
-overflow_add-i c =
-    let book_of : Book =
-    let a = c.args in held_book a.count (marks_from a.sort.now a.live.now a.tm.now) a.w.now a.needs.now
-    in
-    let Bk : Book =
-    book_of
-    in
-    let Ls : List ℕ =
-    c.args.losses.now
-    in
-    let R₀ : List ℕ =
-    c.args.room.now
-    in
-    let checked : Checked Bk Ls R₀ =
-    c.requires
-    in
-    let inside : c.loop-i.i < Bk.count =
-    omega arith
-    in
-    let here-low : c.loop-i.i < 256 =
-    omega (arith, checked.sound.most, inside)
-    in omega (arith, here-low)
-
-pub loop-i-smaller : goal.loop-i-smaller
-loop-i-smaller c =
-    let book_of : Book =
-    let a = c.args in held_book a.count (marks_from a.sort.now a.live.now a.tm.now) a.w.now a.needs.now
-    in
-    let Bk : Book =
-    book_of
-    in
-    let inside : c.loop-i.i < Bk.count =
-    omega arith
-    in omega (arith, inside)
+    omega (arith, turn-fits c.args.t.now c.loop-i.purses c.loop-i.cm c.requires c.loop-i-test.true c.loop-i.invariant c.row_at-r.ensures c.saturating_sub-under.ensures c.rounds-p.ensures c.put.ensures c.put.auto.room c.less.ensures c.less-cm.ensures)
 
 pub loop-i-preserved : goal.loop-i-preserved
 loop-i-preserved c =
-    let book_of : Book =
-    let a = c.args in held_book a.count (marks_from a.sort.now a.live.now a.tm.now) a.w.now a.needs.now
-    in
-    let Bk : Book =
-    book_of
-    in
-    let inside : c.loop-i.i < Bk.count =
-    omega arith
-    in
-    let Ls : List ℕ =
-    c.args.losses.now
-    in
-    let R₀ : List ℕ =
-    c.args.room.now
-    in
-    let checked : Checked Bk Ls R₀ =
-    c.requires
-    in
-    let here : Passed Bk Ls R₀ c.loop-i.room c.loop-i.left c.loop-i.free c.loop-i.cm c.loop-i.cm_free
-    c.loop-i.uncovered c.loop-i.i =
-    c.loop-i.invariant.0
-    in
-    let here-low : c.loop-i.i < 256 =
-    omega (arith, checked.sound.most, inside)
-    in
-    let row : c.row_of-r.result ≡ row_at Bk c.loop-i.i =
-    c.row_of-r.ensures ∙ sym (row-in _ _ c.loop-i.i here-low)
-    in
-    let deemed-under : (let t = c in
-    c.less-under.result ≡ get_or t.args.needs.now t.loop-i.i 0 - (row_at Bk t.loop-i.i).margin) =
-    let r = c in
-    let t = r in
-    c.less-under.ensures ∙ ap (λ q. get_or t.args.needs.now t.loop-i.i 0 - q.margin) row
-    in
-    let named : ℕ =
-    c.row_of-r.result.tm
-    in
-    let paid : Both =
-    c.rounds-p.result
-    in
-    let next : Passed Bk Ls R₀ c.put.new.room
-    (set (set c.loop-i.left named (get_or c.loop-i.left named 0 - paid.first.tm)) c.loop-i.i paid.first.left)
-    (set (set c.loop-i.free named (get_or c.loop-i.free named 0 - paid.second.tm)) c.loop-i.i paid.second.left)
-    (c.loop-i.cm - paid.first.cm) (c.loop-i.cm_free - paid.second.cm) (c.loop-i.uncovered + paid.second.unpaid) (c.loop-i.i + 1) =
-    let t = c in
-    let l = t.loop-i in
-    let r = c in
-    let p = paid in
-    let put = c.put in
-    let under = c in
-    subst (λ (q : Row). Passed Bk Ls R₀ put.new.room
-    (set (set l.left q.tm (get_or l.left q.tm 0 - p.first.tm)) l.i p.first.left)
-    (set (set l.free q.tm (get_or l.free q.tm 0 - p.second.tm)) l.i p.second.left)
-    (l.cm - p.first.cm) (l.cm_free - p.second.cm) (l.uncovered + p.second.unpaid) (l.i + 1)) (sym row)
-    (pass-turn checked.sound inside here under.less-under.result (need-kept Bk checked.sound _ inside deemed-under)
-    (c.rounds-p.ensures ∙ ap (λ q. rounds_by (account_of q) (get_or Ls l.i 0) under.less-under.result (get_or l.left q.tm 0) l.cm (get_or l.free q.tm 0) l.cm_free) row)
-    put.ensures put.auto.room)
-    in (next, omega (arith, inside))
-
-pub shape_of-room : goal.shape_of-room
-shape_of-room c = c.loop-i.invariant.0.wide
+    turn c.args.t.now c.loop-i.purses c.loop-i.cm c.requires c.loop-i-test.true c.loop-i.invariant c.row_at-r.ensures c.saturating_sub-under.ensures c.rounds-p.ensures c.put.ensures c.put.auto.room c.less.ensures c.less-cm.ensures
 
 pub returns : goal.returns
-returns c = pass-finish c.loop-i.invariant.0 (omega arith) c.requires.wide
-
-pub row_of-top-requires : goal.row_of-top-requires
-row_of-top-requires c = omega arith
-
-pub bounds-needs-0 : goal.bounds-needs-0
-bounds-needs-0 c = omega arith
-
-pub overflow_cast-t : goal.overflow_cast-t
-overflow_cast-t c = omega arith
-
-pub offset_bounds-left-t : goal.offset_bounds-left-t
-offset_bounds-left-t c = omega arith
-
-pub offset_bounds-free-t : goal.offset_bounds-free-t
-offset_bounds-free-t c = omega arith
-
-pub offset_bounds-left-t-in-loop-i : goal.offset_bounds-left-t-in-loop-i
-offset_bounds-left-t-in-loop-i c = omega arith
-
-pub offset_bounds-left-t-in-loop-i-2 : goal.offset_bounds-left-t-in-loop-i-2
-offset_bounds-left-t-in-loop-i-2 c = omega arith
-
-pub offset_bounds-free-t-in-loop-i : goal.offset_bounds-free-t-in-loop-i
-offset_bounds-free-t-in-loop-i c = omega arith
-
-pub offset_bounds-free-t-in-loop-i-2 : goal.offset_bounds-free-t-in-loop-i-2
-offset_bounds-free-t-in-loop-i-2 c = omega arith
+returns c = pass-finish c.loop-i.invariant (omega arith) c.requires.wide

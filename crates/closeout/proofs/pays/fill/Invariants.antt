@@ -1,14 +1,18 @@
 -- `closeout::pays::fill` meets its contract. The invariant: the pass stands at account i.
-use Prim.Native.Nat.{◌-◌, ◌≤◌}
-use Rattle.table.specs.Words.{marks_from}
-use Rattle.closeout.specs.Inner.{held_book}
+use mathlib.Core.List.{List}
+use Prim.Native.Nat.{ℕ}
+use Rattle.std.specs.Prelude.{map}
+use Rattle.closeout.specs.declared.pays.Purses.{Purses}
+use Rattle.table.specs.Words.{turned_back}
 use Rattle.closeout.proofs.Pass.{Passed}
 use Rattle.closeout.proofs.pays.fill.Given as goal
 
-abbrev pub invariant-loop-i : goal.invariant-loop-i
-invariant-loop-i l =
-    Passed (held_book l.count (marks_from l.sort l.live l.tm) l.w l.needs) l.losses l.initial.room l.room l.left l.free l.cm l.cm_free l.uncovered l.i × (l.i ≤ l.count)
+-- what each account's purses have left in round one, and in round two
+abbrev pub lefts : List Purses → List ℕ
+lefts = map (λ x. x.left)
 
-abbrev pub decreases-loop-i : goal.decreases-loop-i
-decreases-loop-i l =
-    l.count - l.i
+abbrev pub frees : List Purses → List ℕ
+frees = map (λ x. x.free)
+
+abbrev pub invariant-loop-i : goal.invariant-loop-i
+invariant-loop-i l = Passed (turned_back l.t) l.losses l.initial.room l.room (lefts l.purses) (frees l.purses) l.cm.left l.cm.free l.uncovered l.i

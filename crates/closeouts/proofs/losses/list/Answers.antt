@@ -33,9 +33,8 @@ loop-i-preserved c =
     let l = c.loop-i in
     let most = count-within (length c.args.bytes.now) in (
       l.invariant.0,
-      omega (arith, c.loop-i-test.true),
-      length-set l.list l.i c.number8.result ∙ l.invariant.2,
-      filled-step (loss_in _) l.list 0 l.i c.number8.result (omega (arith, l.invariant.0, l.invariant.2, most, c.loop-i-test.true)) l.invariant.3 c.number8.ensures,
+      length-set l.list l.i c.number8.result ∙ l.invariant.1,
+      filled-step (loss_in _) l.list 0 l.i c.number8.result (omega (arith, l.invariant.0, l.invariant.1, most, c.loop-i-test.true)) l.invariant.2 c.number8.ensures,
     )
 
 pub returns-clause-count_bound : goal.returns-clause-count_bound
@@ -48,4 +47,4 @@ pub returns-clause-list_value : goal.returns-clause-list_value
 returns-clause-list_value c =
     let l = c.loop-i in
     let most = count-within (length c.args.bytes.now) in
-    first-places _ l.list _ l.invariant.0 (omega (arith, l.invariant.0, l.invariant.2, most)) (λ j q. l.invariant.3 j (omega (arith, q, c.loop-i-test.false)))
+    first-places _ l.list _ l.invariant.0 (omega (arith, l.invariant.0, l.invariant.1, most)) (λ j q. l.invariant.2 j (omega (arith, q, c.loop-i-test.false)))

@@ -7,12 +7,8 @@ use borrow.Author.Tests.{eq-eqb, ne_eqb}
 use Rattle.sums.proofs.Choices.{pick_first, pick_second}
 use Rattle.sums.specs.Sum.{any}
 use Rattle.sums.proofs.Sums.{any_none, any_step}
-use Rattle.table.specs.Words.{marks_from}
 use Rattle.codes.specs.Own.{client_in, has_live_client_in}
 use Rattle.codes.proofs.own.has_live_client.Goals as goal
-
-pub bounds-sort-a : goal.bounds-sort-a
-bounds-sort-a c = omega (arith, c.requires)
 
 pub returns-then-its-ne1 : goal.returns-then-its-ne1
 unfolding has_live_client_in
@@ -21,36 +17,18 @@ returns-then-its-ne1 c = pick_second _ (ne_eqb _ 1 c.if-its-ne1.true) refl
 pub loop-i-init : goal.loop-i-init
 loop-i-init c =
     let a = c.args in
-    (refl, omega arith, sym (any_none (client_in (marks_from a.sort.now a.live.now a.tm.now) a.a)))
-
-pub bounds-sort-i : goal.bounds-sort-i
-bounds-sort-i c = omega (arith, c.requires)
-
-pub offset_bounds-tm-i : goal.offset_bounds-tm-i
-offset_bounds-tm-i c = omega (arith, c.requires)
-
-pub bounds-tm-i : goal.bounds-tm-i
-bounds-tm-i c = omega (arith, c.requires)
-
-pub bounds-live-i : goal.bounds-live-i
-bounds-live-i c = omega (arith, c.requires)
+    sym (any_none (client_in a.marks.now a.a))
 
 pub loop-i-preserved : goal.loop-i-preserved
 loop-i-preserved c =
     let s = c.args in
-    let f = client_in (marks_from s.sort.now s.live.now s.tm.now) s.a in
+    let f = client_in s.marks.now s.a in
     let l = c.loop-i in
-    (refl, omega arith, ap (λ (x : Bool). x || f l.i) l.invariant.2 ∙ sym (any_step l.i f))
+    ap (λ (x : Bool). x || f l.i) l.invariant ∙ sym (any_step l.i f)
 
 pub returns : goal.returns
 unfolding has_live_client_in
 returns c =
     let s = c.args in
-    let f = client_in (marks_from s.sort.now s.live.now s.tm.now) s.a in
-    pick_first _ (eq-eqb _ 1 c.if-its-ne1.false) (c.loop-i.invariant.2 ∙ ap (λ (k : ℕ). any k f) (omega arith))
-
-pub overflow_add-i : goal.overflow_add-i
-overflow_add-i c = omega arith
-
-pub loop-i-smaller : goal.loop-i-smaller
-loop-i-smaller c = omega arith
+    let f = client_in s.marks.now s.a in
+    pick_first _ (eq-eqb _ 1 c.if-its-ne1.false) (c.loop-i.invariant ∙ ap (λ (k : ℕ). any k f) (omega arith))

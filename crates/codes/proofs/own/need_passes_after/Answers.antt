@@ -3,7 +3,6 @@ use mathlib.Core.Path.{◌≡◌, sym, ap, ◌∙◌}
 use native.Mathlib.Omega.{arith}
 use Rattle.rows.specs.Rows.{account_of}
 use Rattle.rows.specs.Facts.{InRange}
-use Rattle.table.specs.Words.{Marks, marks_from}
 use Rattle.codes.specs.Own.{account_in, deemed_under_in}
 use Rattle.codes.proofs.Made.{change-in-range, held-in-range, margin-in, need-passes-is, deemed-under-most}
 use Rattle.codes.proofs.own.need_passes_after.Goals as goal
@@ -30,10 +29,7 @@ deemed_under_after_at-after-requires c =
 
 pub need_passes_with-requires : goal.need_passes_with-requires
 need_passes_with-requires c =
-    let marks : Marks =
-    marks_from c.args.sort.now c.args.live.now c.args.tm.now
-    in
-    let top-is : c.account_of-top.result ≡ account_in marks c.args.w.now 0 =
+    let top-is : c.account_of-top.result ≡ account_in c.args.marks.now c.args.w.now 0 =
     c.account_of-top.ensures ∙ ap account_of c.row_at.ensures
     in
     let new_in : InRange c.with_margin-new.result =
@@ -47,15 +43,12 @@ need_passes_with-requires c =
 
 pub returns : goal.returns
 returns c =
-    let marks : Marks =
-    marks_from c.args.sort.now c.args.live.now c.args.tm.now
-    in
-    let top-is : c.account_of-top.result ≡ account_in marks c.args.w.now 0 =
+    let top-is : c.account_of-top.result ≡ account_in c.args.marks.now c.args.w.now 0 =
     c.account_of-top.ensures ∙ ap account_of c.row_at.ensures
     in
     let b = c in
     let n = b in
     let t = n in
     let s = t in
-    sym (need-passes-is marks s.args.w.now (deemed_under_in s.args.w.now s.args.needs.now) s.args.i s.args.y _ _ _ _ _ _ _ s.requires.2 n.with_margin-new.ensures b.account_of-old.ensures
+    sym (need-passes-is s.args.marks.now s.args.w.now (deemed_under_in s.args.w.now s.args.needs.now) s.args.i s.args.y _ _ _ _ _ _ _ s.requires.2 n.with_margin-new.ensures b.account_of-old.ensures
     b.account_of.ensures top-is c.deemed_under_after_at-after.ensures c.need_passes_with.ensures)

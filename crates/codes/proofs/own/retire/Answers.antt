@@ -5,7 +5,6 @@ use native.Mathlib.Omega.{arith}
 use borrow.Author.Tests.{eq-eqb, ne_eqb}
 use Rattle.sums.proofs.Choices.{or_left, or_right}
 use Rattle.rows.specs.Ranges.{no_amounts}
-use Rattle.table.specs.Words.{marks_from}
 use Rattle.table.proofs.RowsPut.{live-put}
 use Rattle.codes.specs.Own.{has_live_client_in, retire_lines}
 use Rattle.codes.proofs.Made.{first-line-holds, first-line-fails, no-line-gives-0, opens_not, refused-answers, put-answers}
@@ -20,14 +19,14 @@ returns-then-not-no_amounts c =
     ap not (sym c.no_amounts.ensures)
     in
     let a = c.args in
-    refused-answers 14 (λ q. retire_lines q a.a (has_live_client_in (marks_from a.sort.now a.live.now a.tm.now) a.count a.a)) _ c.row_at-row.ensures
+    refused-answers 14 (λ q. retire_lines q a.a (has_live_client_in a.marks.now a.count a.a)) _ c.row_at-row.ensures
     (first-line-fails 8 _ _ 14 (ne_eqb _ 0 c.if-a-eq0.false) (first-line-holds 14 _ _ (or_left _ (none_is ∙ c.if-not-no_amounts.true-raw)))) (λ z. omega arith)
 
 pub returns-then-has_live_client : goal.returns-then-has_live_client
 returns-then-has_live_client c =
     let row-at = c.row_at-row in
     let a = c.args in
-    refused-answers 14 (λ q. retire_lines q a.a (has_live_client_in (marks_from a.sort.now a.live.now a.tm.now) a.count a.a)) _ row-at.ensures
+    refused-answers 14 (λ q. retire_lines q a.a (has_live_client_in a.marks.now a.count a.a)) _ row-at.ensures
     (first-line-fails 8 _ _ 14 (ne_eqb _ 0 c.if-a-eq0.false) (first-line-holds 14 _ _ (or_right (not (no_amounts row-at.result)) (sym c.has_live_client.ensures ∙ c.if-has_live_client.true)))) (λ z. omega arith)
 
 pub returns : goal.returns
@@ -37,7 +36,7 @@ returns c =
     in
     let pre = c.requires in
     let a = c.args in
-    let m = marks_from a.sort.now a.live.now a.tm.now in
+    let m = a.marks.now in
     put-answers (λ q. retire_lines q a.a (has_live_client_in m a.count a.a)) _ c.row_at-row.ensures
     (first-line-fails 8 _ _ 0 (ne_eqb _ 0 c.if-a-eq0.false) (first-line-fails 14 _ _ 0 (rw (none_is ∙ c.if-not-no_amounts.false-raw) (sym c.has_live_client.ensures ∙ c.if-has_live_client.false)) no-line-gives-0))
     (rw c.with_live-gone.ensures (live-put m a.w.now a.a pre.0 pre.1 false))

@@ -9,7 +9,6 @@ use Rattle.sums.specs.Table.{Line}
 use Rattle.sums.proofs.Choices.{and-join}
 use Rattle.rows.specs.declared.Row.{Row}
 use Rattle.rows.specs.Rows.{with_margin}
-use Rattle.table.specs.Words.{Marks, marks_from}
 use Rattle.codes.specs.Own.{deemed_under_in, need_passes_in, margin_lines}
 use Rattle.codes.proofs.Made.{first-line-holds, first-line-fails, no-line-gives-0, refused-answers, put-answers, margin-anew}
 use Rattle.codes.proofs.own.set_margin.Goals as goal
@@ -20,11 +19,8 @@ need_passes_after-requires c = let r = c in (r.requires.0, r.requires.1, r.row_a
 
 pub returns-then-need_passes_after : goal.returns-then-need_passes_after
 returns-then-need_passes_after c =
-    let marks : Marks =
-    marks_from c.args.sort.now c.args.live.now c.args.tm.now
-    in
     let passed : Bool =
-    need_passes_in marks c.args.w.now (deemed_under_in c.args.w.now c.args.needs.now) c.args.i c.args.y
+    need_passes_in c.args.marks.now c.args.w.now (deemed_under_in c.args.w.now c.args.needs.now) c.args.i c.args.y
     in
     let own : Row → List Line =
     λ q. margin_lines q c.args.y passed
@@ -44,11 +40,8 @@ bounds-w-i c = omega (arith, c.requires.0.inside)
 
 pub returns : goal.returns
 returns c =
-    let marks : Marks =
-    marks_from c.args.sort.now c.args.live.now c.args.tm.now
-    in
     let passed : Bool =
-    need_passes_in marks c.args.w.now (deemed_under_in c.args.w.now c.args.needs.now) c.args.i c.args.y
+    need_passes_in c.args.marks.now c.args.w.now (deemed_under_in c.args.w.now c.args.needs.now) c.args.i c.args.y
     in
     let own : Row → List Line =
     λ q. margin_lines q c.args.y passed

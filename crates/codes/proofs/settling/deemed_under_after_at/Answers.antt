@@ -5,7 +5,6 @@ use native.Mathlib.Omega.{arith}
 use lib.ListN.{get_or}
 use Rattle.rows.specs.Rows.{account_of}
 use Rattle.rows.specs.Facts.{InRange}
-use Rattle.table.specs.Words.{marks_from}
 use Rattle.codes.specs.Own.{account_in, deemed_under_at, deemed_under_in}
 use Rattle.codes.proofs.Made.{under-is, deemed-under-eq}
 use Rattle.codes.proofs.settling.deemed_under_after_at.Goals as goal
@@ -54,7 +53,7 @@ deemed_under_after-requires c =
 
 pub returns : goal.returns
 returns c =
-    let member_is : (let a = c.args in c.account_of-its.result ≡ account_in (marks_from a.sort.now a.live.now a.tm.now) a.w.now a.old.tm) =
+    let member_is : (let a = c.args in c.account_of-its.result ≡ account_in a.marks.now a.w.now a.old.tm) =
     c.account_of-its.ensures ∙ ap account_of c.row_at.ensures
     in
     let under : ℕ → ℕ =

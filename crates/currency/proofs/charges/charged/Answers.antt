@@ -1,46 +1,33 @@
 -- `currency::charges::charged` meets its contract.
-use native.Mathlib.Omega.{arith}
-use borrow.Author.Rules.{rules}
+use Rattle.std.proofs.Common.{length, ap, ◌∙◌, arith}
+use Rattle.std.proofs.Math.Seq.{take-length}
+use Rattle.currency.specs.Charges.{first_fault, charges}
 use Rattle.currency.proofs.Steps.{no-fault-step, charge-step, charges-end}
 use Rattle.currency.proofs.charges.charged.Goals as goal
 
-pub loop-i-init : goal.loop-i-init
-loop-i-init c = (search rules, omega arith, omega arith, c.requires.1, omega arith)
+pub loop-position-init : goal.loop-position-init
+loop-position-init c =
+    let e = take-length c.args.positions.now in
+    (omega arith, ap first_fault e ∙ c.requires.1, omega (arith, ap charges e))
 
 pub charge-sum-requires : goal.charge-sum-requires
 charge-sum-requires c =
-    let at = c in
-    let a = at.args in
-    (no-fault-step a.positions a.number at.loop-i.i _ (omega arith) (omega arith) at.loop-i.invariant.3).0
+    let l = c.args.positions.now in
+    (no-fault-step l (length l) c.loop-position.position-index _ (omega arith) (omega arith) c.loop-position.invariant.1).0
 
 pub overflow_add-sum : goal.overflow_add-sum
 overflow_add-sum c =
-    let at = c in
-    let a = at.args in
-    let s = charge-step a.positions a.number at.loop-i.i _ (omega arith) c.charge-sum.result c.charge-sum.ensures (omega arith) at.loop-i.invariant.3 in
+    let l = c.args.positions.now in
+    let s = charge-step l (length l) c.loop-position.position-index _ (omega arith) c.charge-sum.result c.charge-sum.ensures (omega arith) c.loop-position.invariant.1 in
     record { fits = omega (arith, s.0) }
 
-pub loop-i-preserved : goal.loop-i-preserved
-loop-i-preserved c =
-    let at = c in
-    let a = at.args in
-    let s = charge-step a.positions a.number at.loop-i.i _ (omega arith) c.charge-sum.result c.charge-sum.ensures (omega arith) at.loop-i.invariant.3 in
-    (at.loop-i.invariant.0, omega arith, omega (arith, s.0), s.1, omega (arith, at.loop-i.invariant.4, s.2))
+pub loop-position-preserved : goal.loop-position-preserved
+loop-position-preserved c =
+    let l = c.args.positions.now in
+    let s = charge-step l (length l) c.loop-position.position-index _ (omega arith) c.charge-sum.result c.charge-sum.ensures (omega arith) c.loop-position.invariant.1 in
+    (omega (arith, s.0), s.1, omega (arith, c.loop-position.invariant.2, s.2))
 
 pub returns : goal.returns
 returns c =
-    let at = c in
-    let a = at.args in
-    omega (arith, at.loop-i.invariant.4, charges-end a.positions a.number at.loop-i.i (omega arith) (omega arith))
-
-pub offset_bounds-positions-i : goal.offset_bounds-positions-i
-offset_bounds-positions-i c = omega arith
-
-pub bounds-positions-i : goal.bounds-positions-i
-bounds-positions-i c = omega arith
-
-pub overflow_add-i : goal.overflow_add-i
-overflow_add-i c = omega arith
-
-pub loop-i-smaller : goal.loop-i-smaller
-loop-i-smaller c = omega arith
+    let l = c.args.positions.now in
+    omega (arith, c.loop-position.invariant.2, charges-end l (length l) c.loop-position.position-index (omega arith) (omega arith))

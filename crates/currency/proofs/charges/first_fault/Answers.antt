@@ -1,41 +1,21 @@
 -- `currency::charges::first_fault` meets its contract.
-use mathlib.Core.Path.{refl, sym, ◌∙◌}
-use native.Mathlib.Omega.{arith}
-use borrow.Author.Rules.{rules}
+use Rattle.std.proofs.Common.{length, sym, ap, ◌∙◌, arith}
+use Rattle.std.proofs.Math.Seq.{take-length}
+use Rattle.currency.specs.Charges.{first_fault}
 use Rattle.currency.proofs.Steps.{fault-here, fault-later, fault-end}
 use Rattle.currency.proofs.charges.first_fault.Goals as goal
 
-pub loop-i-init : goal.loop-i-init
-loop-i-init c = (search rules, refl)
+pub loop-position-init : goal.loop-position-init
+loop-position-init c = ap first_fault (sym (take-length c.args.positions.now))
 
 pub returns-then-fault-ne0 : goal.returns-then-fault-ne0
 returns-then-fault-ne0 c =
-    let at = c in
-    let a = at.args in
     let f = c.fault_of-fault.ensures in
-    f ∙ sym (at.loop-i.invariant.1 ∙ fault-here a.positions a.number at.loop-i.i _ (omega arith) (omega arith) (λ e. c.if-fault-ne0.true (f ∙ e)))
+    f ∙ sym (c.loop-position.invariant ∙ fault-here c.args.positions.now (length c.args.positions.now) c.loop-position.position-index _ (omega arith) (omega arith) (λ e. c.if-fault-ne0.true (f ∙ e)))
 
-pub loop-i-preserved : goal.loop-i-preserved
-loop-i-preserved c =
-    let at = c in
-    let a = at.args in
-    let f = c.fault_of-fault.ensures in
-    (at.loop-i.invariant.0, at.loop-i.invariant.1 ∙ fault-later a.positions a.number at.loop-i.i _ (omega arith) (omega arith) (sym f ∙ c.if-fault-ne0.false))
+pub loop-position-preserved : goal.loop-position-preserved
+loop-position-preserved c =
+    c.loop-position.invariant ∙ fault-later c.args.positions.now (length c.args.positions.now) c.loop-position.position-index _ (omega arith) (omega arith) (sym c.fault_of-fault.ensures ∙ c.if-fault-ne0.false)
 
 pub returns : goal.returns
-returns c =
-    let at = c in
-    let a = at.args in
-    sym (at.loop-i.invariant.1 ∙ fault-end a.positions a.number at.loop-i.i (omega arith) (omega arith))
-
-pub offset_bounds-positions-i : goal.offset_bounds-positions-i
-offset_bounds-positions-i c = omega arith
-
-pub bounds-positions-i : goal.bounds-positions-i
-bounds-positions-i c = omega arith
-
-pub overflow_add-i : goal.overflow_add-i
-overflow_add-i c = omega arith
-
-pub loop-i-smaller : goal.loop-i-smaller
-loop-i-smaller c = omega arith
+returns c = sym (c.loop-position.invariant ∙ fault-end c.args.positions.now (length c.args.positions.now) c.loop-position.position-index (omega arith) (omega arith))

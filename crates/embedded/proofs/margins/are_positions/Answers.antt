@@ -4,7 +4,7 @@ use borrow.Author.Tests.{ne_eqb, lt-leb}
 use lib.Dec.{eqb}
 use lib.ListN.{length}
 use Rattle.sums.proofs.Choices.{and-left-fails, and-right-fails}
-use Rattle.embedded.proofs.Making.{right}
+use Rattle.embedded.proofs.Making.{right, all_known}
 use Rattle.embedded.proofs.margins.are_positions.Goals as goal
 
 pub returns-then-sides-products : goal.returns-then-sides-products
@@ -24,4 +24,4 @@ returns-then-products-gt-MOST c =
 pub returns : goal.returns
 returns c =
     let a = c.args in
-    right a.products.now a.sides.now a.notionals.now c.if-sides-products.false c.if-notionals-products.false c.if-products-gt-MOST.false c.sides_known.ensures
+    right a.products.now a.sides.now a.notionals.now c.if-sides-products.false c.if-notionals-products.false c.if-products-gt-MOST.false (all_known _ _ c.sides_known.ensures)

@@ -9,7 +9,7 @@ use Rattle.exposure.proofs.Listing.{client-within, two-more}
 use Rattle.exposure.proofs.lists.put_all.Goals as goal
 
 pub loop-i-init : goal.loop-i-init
-loop-i-init c = (c.requires.0, c.requires.1, omega arith, λ k l. absurd (omega arith))
+loop-i-init c = (c.requires.0, c.requires.1, λ k l. absurd (omega arith))
 
 pub client-exposure-requires : goal.client-exposure-requires
 client-exposure-requires c =
@@ -25,8 +25,7 @@ loop-i-preserved c =
     let v = at.loop-i.invariant in (
       v.0,
       simp length-set v.1,
-      omega arith,
-      two-more a.form a.figures.now at.loop-i.i at.loop-i.room a.n d.client-exposure.result.refusal d.client-exposure.result.amount v.1 (omega arith) v.3
+      two-more a.form a.figures.now at.loop-i.i at.loop-i.room a.n d.client-exposure.result.refusal d.client-exposure.result.amount v.1 (omega arith) v.2
           (ap (λ e. e.refusal) d.client-exposure.ensures) (ap (λ e. e.amount) d.client-exposure.ensures),
     )
 
@@ -34,34 +33,4 @@ pub returns : goal.returns
 returns c =
     let at = c in
     let a = at.args in
-    sym (list-is (number_in_room a.form a.figures.now) (2 * a.n) 0 at.loop-i.room at.loop-i.invariant.1 (λ k l. at.loop-i.invariant.3 k (omega arith)))
-
-pub overflow_mul-room : goal.overflow_mul-room
-overflow_mul-room c = omega arith
-
-pub offset_bounds-room-i : goal.offset_bounds-room-i
-offset_bounds-room-i c = omega arith
-
-pub bounds-room-i : goal.bounds-room-i
-bounds-room-i c = omega arith
-
-pub overflow_mul-room-in-loop-i : goal.overflow_mul-room-in-loop-i
-overflow_mul-room-in-loop-i c = omega arith
-
-pub overflow_add-room : goal.overflow_add-room
-overflow_add-room c = omega arith
-
-pub offset_bounds-room-i-in-loop-i : goal.offset_bounds-room-i-in-loop-i
-offset_bounds-room-i-in-loop-i c = omega arith
-
-pub bounds-room-i-in-loop-i : goal.bounds-room-i-in-loop-i
-bounds-room-i-in-loop-i c = simp length-set (omega arith)
-
-pub overflow_add-i : goal.overflow_add-i
-overflow_add-i c = omega arith
-
-pub loop-i-smaller : goal.loop-i-smaller
-loop-i-smaller c = omega arith
-
-pub shape_of-room : goal.shape_of-room
-shape_of-room c = omega arith
+    sym (list-is (number_in_room a.form a.figures.now) (2 * a.n) 0 at.loop-i.room at.loop-i.invariant.1 (λ k l. at.loop-i.invariant.2 k (omega arith)))

@@ -21,5 +21,5 @@ returns-then-refusal-ne0 c = rw (alone c.args.refusal _ _ _ _ (omega (arith, c.i
 pub returns : goal.returns
 unfolding word_line
 returns c =
-    let n = c.accounts-n.ensures ∙ ap accounts c.lesser.ensures in
+    let n = c.accounts-n.ensures ∙ ap accounts c.min.ensures in
     rw (whole c.args.refusal _ _ _ _ (omega (arith, c.if-refusal-ne0.false))) (and_then _ _ (rw n at c.put_losses-at.ensures.puts) c.put_labelled-2.ensures)

@@ -5,19 +5,19 @@ use Rattle.statement.proofs.Reading.{within0, within1, within2, within3, within4
 use Rattle.statement.proofs.records.parts_at.Goals as goal
 
 pub number8_if-requires : goal.number8_if-requires
-number8_if-requires c = let s = c in (within0 _ _ _ _ _ _ _ _ (ones-five s.args.named s.requires.1) s.requires.0, bit-lt 0 s.args.named)
+number8_if-requires c = (within0 _ _ _ _ _ _ _ _ (ones-five c.args.named c.requires.1) c.requires.0, bit-lt 0 c.args.named)
 
 pub number8_if-requires-2 : goal.number8_if-requires-2
-number8_if-requires-2 c = let s = c in (within1 _ _ _ _ _ _ _ _ (ones-five s.args.named s.requires.1) s.requires.0, bit-lt 1 s.args.named)
+number8_if-requires-2 c = (within1 _ _ _ _ _ _ _ _ (ones-five c.args.named c.requires.1) c.requires.0, bit-lt 1 c.args.named)
 
 pub number8_if-requires-3 : goal.number8_if-requires-3
-number8_if-requires-3 c = let s = c in (within2 _ _ _ _ _ _ _ _ (ones-five s.args.named s.requires.1) s.requires.0, bit-lt 2 s.args.named)
+number8_if-requires-3 c = (within2 _ _ _ _ _ _ _ _ (ones-five c.args.named c.requires.1) c.requires.0, bit-lt 2 c.args.named)
 
 pub number8_if-requires-4 : goal.number8_if-requires-4
-number8_if-requires-4 c = let s = c in (within3 _ _ _ _ _ _ _ _ (ones-five s.args.named s.requires.1) s.requires.0, bit-lt 3 s.args.named)
+number8_if-requires-4 c = (within3 _ _ _ _ _ _ _ _ (ones-five c.args.named c.requires.1) c.requires.0, bit-lt 3 c.args.named)
 
 pub number8_if-requires-5 : goal.number8_if-requires-5
-number8_if-requires-5 c = let s = c in (within4 _ _ _ _ _ _ _ _ (ones-five s.args.named s.requires.1) s.requires.0, bit-lt 4 s.args.named)
+number8_if-requires-5 c = (within4 _ _ _ _ _ _ _ _ (ones-five c.args.named c.requires.1) c.requires.0, bit-lt 4 c.args.named)
 
 pub returns : goal.returns
 returns c =

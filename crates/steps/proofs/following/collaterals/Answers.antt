@@ -5,7 +5,7 @@ use Rattle.steps.specs.Dues.{collateral_in}
 use Rattle.steps.proofs.following.collaterals.Goals as goal
 
 pub loop-i-init : goal.loop-i-init
-loop-i-init c = (omega arith, refl, λ j l. absurd (omega arith))
+loop-i-init c = (refl, λ j l. absurd (omega arith))
 
 pub collateral_at-requires : goal.collateral_at-requires
 collateral_at-requires c = c.requires c.loop-i.i (omega arith)
@@ -14,19 +14,13 @@ pub loop-i-preserved : goal.loop-i-preserved
 loop-i-preserved c =
     let l = c.loop-i in
     let v = l.invariant in
-    (omega arith, length-set l.kept l.i _ ∙ v.1, filled-step (collateral_in c.args.w.now) l.kept 0 l.i c.collateral_at.result (omega arith) v.2 c.collateral_at.ensures)
+    (length-set l.kept l.i _ ∙ v.0, filled-step (collateral_in c.args.w.now) l.kept 0 l.i c.collateral_at.result (omega arith) v.1 c.collateral_at.ensures)
 
 pub returns : goal.returns
-returns c = let v = c.loop-i.invariant in record { size = v.1; each = λ j l. v.2 j (omega arith) }
+returns c = let v = c.loop-i.invariant in record { size = v.0; each = λ j l. v.1 j (omega arith) }
 
 pub offset_bounds-kept-i : goal.offset_bounds-kept-i
 offset_bounds-kept-i c = omega arith
 
 pub bounds-kept-i : goal.bounds-kept-i
 bounds-kept-i c = omega arith
-
-pub overflow_add-i : goal.overflow_add-i
-overflow_add-i c = omega arith
-
-pub loop-i-smaller : goal.loop-i-smaller
-loop-i-smaller c = omega arith

@@ -1,3 +1,4 @@
+use Rattle.std.proofs.Common.{refl}
 use Rattle.steps.proofs.following.rise.Goals as goal
 
 pub returns : goal.returns
@@ -9,4 +10,5 @@ returns c =
       need = rw (l.less.ensures, l.less-n.ensures, w);
       over = rw e;
       mode = rw (c.mode_after.ensures, c.mode_of.ensures, e, w);
+      rest = refl;
     }

@@ -1,15 +1,13 @@
-use Rattle.std.proofs.Common.{◌≤◌, length, sym, ap, ◌∙◌, arith}
+use Rattle.std.proofs.Common.{◌≤◌, length, ap, ◌∙◌, arith}
 use Rattle.streams.specs.Names.{name_of}
-use Rattle.streams.proofs.NamesPut.{anew-from}
+use Rattle.streams.proofs.NamesPut.{name-anew}
 use Rattle.streams.proofs.beside.create_beside.Goals as goal
 
-pub loop-tried-preserved : goal.loop-tried-preserved
-loop-tried-preserved c =
-    let t = c.create_try-tried-in-loop-tried in
-    let v = c.loop-tried in
-    let b = c.args.name.now in
-    let h : 2 ≤ length b = omega (arith, c.requires) in (
-      omega (arith, t.ensures.tries_value, c.loop-tried-test.true),
-      anew-from b t.result.tries v.tried.tries h v.invariant.1 (t.ensures.name_after ∙ ap (λ n. name_of n v.name) (sym t.ensures.tries_value)),
-      t.auto.name ∙ v.invariant.2,
+pub loop-tries-preserved : goal.loop-tries-preserved
+loop-tries-preserved c =
+    let l = c.loop-tries in
+    let t = c.create_try-tried in
+    let h : 2 ≤ length l.name = omega (arith, c.requires, l.invariant.1) in (
+      λ k. ap (name_of k) t.ensures.name_after ∙ name-anew k l.tries l.name h ∙ l.invariant.0 k,
+      t.auto.name ∙ l.invariant.1,
     )

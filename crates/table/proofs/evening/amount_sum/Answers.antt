@@ -9,7 +9,7 @@ use Rattle.table.proofs.evening.amount_sum.Goals as goal
 
 pub loop-i-init : goal.loop-i-init
 unfolding amount_sum sum
-loop-i-init c = (refl, omega arith, refl)
+loop-i-init c = (refl, refl)
 
 pub overflow_add-sum-in-loop-i : goal.overflow_add-sum-in-loop-i
 unfolding amount_sum
@@ -26,12 +26,12 @@ unfolding amount_sum
 loop-i-preserved c =
     let start = c in
     let i = c.loop-i.i in
-    (refl, omega arith, omega (arith, sum_step i (word_at start.args.w.now start.args.k)))
+    (refl, omega (arith, sum_step i (word_at start.args.w.now start.args.k)))
 
 pub returns : goal.returns
 returns c =
     let a = c.args in
-    c.loop-i.invariant.2 ∙ ap (amount_sum a.w.now a.k) (omega arith)
+    c.loop-i.invariant.1 ∙ ap (amount_sum a.w.now a.k) (omega arith)
 
 pub overflow_mul-run : goal.overflow_mul-run
 overflow_mul-run c = omega arith
@@ -44,9 +44,3 @@ offset_bounds-w-run c = omega arith
 
 pub bounds-w-run : goal.bounds-w-run
 bounds-w-run c = omega arith
-
-pub overflow_add-i : goal.overflow_add-i
-overflow_add-i c = omega arith
-
-pub loop-i-smaller : goal.loop-i-smaller
-loop-i-smaller c = omega arith

@@ -1,6 +1,6 @@
 -- `table::modes::look_all` meets its contract. The invariant: the accounts passed are looked at, and no other place is on (`Passed`).
 use mathlib.Core.Bool.{true}
-use mathlib.Core.Path.{◌≡◌, refl, ◌∙◌}
+use mathlib.Core.Path.{◌≡◌, ◌∙◌}
 use Prim.Native.Nat.{◌<◌}
 use native.Mathlib.Omega.{arith}
 use Rattle.rows.specs.declared.Rule.TheVariants.{New}
@@ -17,8 +17,8 @@ use Rattle.table.proofs.modes.look_all.Goals as goal
 pub loop-i-init : goal.loop-i-init
 loop-i-init c =
     let seen : View =
-    view (seen_book c.args.count c.args.sort.now c.args.tm.now c.args.w.now)
-    in (refl, omega arith, pass-start seen c.args.modes.now)
+    view (seen_book c.args.count c.args.marks.now c.args.w.now)
+    in pass-start seen c.args.modes.now
 
 pub account_at-a-requires : goal.account_at-a-requires
 account_at-a-requires c =
@@ -47,7 +47,7 @@ bounds-modes-i c =
 pub look-requires : goal.look-requires
 look-requires c =
     let seen : View =
-    view (seen_book c.args.count c.args.sort.now c.args.tm.now c.args.w.now)
+    view (seen_book c.args.count c.args.marks.now c.args.w.now)
     in
     let at = c in
     let start = at in
@@ -60,7 +60,7 @@ look-requires c =
       omega (arith, collateral-most New _ h),
       omega (
         arith,
-        under-cap (in_tenths seen) 100_000_000_000_000 (bounded-in true New (seen_book a.count a.sort.now a.tm.now a.w.now) pre.ranged.0)
+        under-cap (in_tenths seen) 100_000_000_000_000 (bounded-in true New (seen_book a.count a.marks.now a.w.now) pre.ranged.0)
             (shaped_in true pre.ranged.1) a.excess.now pre.none_beyond.1 i,
       ),
     )
@@ -71,16 +71,10 @@ bounds-after-i c =
     omega (arith, c.requires.ranged.0.most)
     in inside
 
-pub overflow_add-i : goal.overflow_add-i
-overflow_add-i c =
-    let inside : c.loop-i.i < 256 =
-    omega (arith, c.requires.ranged.0.most)
-    in omega (arith, inside)
-
 pub loop-i-preserved : goal.loop-i-preserved
 loop-i-preserved c =
     let seen : View =
-    view (seen_book c.args.count c.args.sort.now c.args.tm.now c.args.w.now)
+    view (seen_book c.args.count c.args.marks.now c.args.w.now)
     in
     let inside : c.loop-i.i < 256 =
     omega (arith, c.requires.ranged.0.most)
@@ -90,22 +84,15 @@ loop-i-preserved c =
     let start = account in
     let pre = start.requires in
     let v = seen in
-    let a = start.args in (
-      refl,
-      omega arith,
-      pass_step v a.modes.now l.after l.i c.look.result inside l.invariant.2
-          (rw account.account_at-a.ensures at c.look.ensures ∙ look-by v pre.ranged.1 a.excess.now pre.none_beyond.1 a.modes.now l.i (omega arith)),
-    )
+    let a = start.args in pass_step v a.modes.now l.after l.i c.look.result inside l.invariant
+    (rw account.account_at-a.ensures at c.look.ensures ∙ look-by v pre.ranged.1 a.excess.now pre.none_beyond.1 a.modes.now l.i (omega arith))
 
 pub returns : goal.returns
 returns c =
     let seen : View =
-    view (seen_book c.args.count c.args.sort.now c.args.tm.now c.args.w.now)
+    view (seen_book c.args.count c.args.marks.now c.args.w.now)
     in
     let l = c.loop-i in
     let start = c in
     let all : l.i ≡ start.args.count = omega arith in
-    pass-end seen start.args.modes.now l.after start.requires.ranged.1.some start.requires.none_beyond.0 (rw all at l.invariant.2)
-
-pub loop-i-smaller : goal.loop-i-smaller
-loop-i-smaller c = omega arith
+    pass-end seen start.args.modes.now l.after start.requires.ranged.1.some start.requires.none_beyond.0 (rw all at l.invariant)

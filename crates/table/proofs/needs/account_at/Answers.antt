@@ -1,5 +1,4 @@
 -- `table::needs::account_at` meets its contract: the account's words are in range, so that its collateral fits a word.
-use mathlib.Core.List.{[]}
 use mathlib.Core.Path.{◌≡◌, sym, ap, ◌∙◌}
 use Prim.Native.Nat.{ℕ, ◌+◌}
 use native.Mathlib.Omega.{arith}
@@ -10,7 +9,7 @@ use Rattle.rows.specs.Rows.{counted, account_by}
 use Rattle.rows.specs.Ranges.{ceilings}
 use Rattle.rows.specs.Facts.{InRange, KindsWithin}
 use Rattle.rows.proofs.Counted.{counted-most}
-use Rattle.table.specs.Words.{marks_from, row_in}
+use Rattle.table.specs.Words.{row_in}
 use Rattle.table.proofs.Gathered.{row-in}
 use Rattle.table.proofs.needs.account_at.Goals as goal
 
@@ -21,8 +20,8 @@ made rule row k e f g h = cc
 
 pub overflow_add-result : goal.overflow_add-result
 overflow_add-result c =
-    let held : InRange (row_in (marks_from c.args.sort.now [] c.args.tm.now) c.args.w.now c.args.i) =
-    rw (row-in (marks_from c.args.sort.now [] c.args.tm.now) c.args.w.now c.args.i c.requires.0) at c.requires.1
+    let held : InRange (row_in c.args.marks.now c.args.w.now c.args.i) =
+    rw (row-in c.args.marks.now c.args.w.now c.args.i c.requires.0) at c.requires.1
     in
     let most : KindsWithin c.kinds_at-a.result ceilings =
     let h = held in rw c.kinds_at-a.ensures (omega arith)
@@ -30,8 +29,8 @@ overflow_add-result c =
 
 pub overflow_add-result-2 : goal.overflow_add-result-2
 overflow_add-result-2 c =
-    let held : InRange (row_in (marks_from c.args.sort.now [] c.args.tm.now) c.args.w.now c.args.i) =
-    rw (row-in (marks_from c.args.sort.now [] c.args.tm.now) c.args.w.now c.args.i c.requires.0) at c.requires.1
+    let held : InRange (row_in c.args.marks.now c.args.w.now c.args.i) =
+    rw (row-in c.args.marks.now c.args.w.now c.args.i c.requires.0) at c.requires.1
     in
     let most : KindsWithin c.kinds_at-a.result ceilings =
     let h = held in rw c.kinds_at-a.ensures (omega arith)
@@ -39,8 +38,8 @@ overflow_add-result-2 c =
 
 pub overflow_add-result-3 : goal.overflow_add-result-3
 overflow_add-result-3 c =
-    let held : InRange (row_in (marks_from c.args.sort.now [] c.args.tm.now) c.args.w.now c.args.i) =
-    rw (row-in (marks_from c.args.sort.now [] c.args.tm.now) c.args.w.now c.args.i c.requires.0) at c.requires.1
+    let held : InRange (row_in c.args.marks.now c.args.w.now c.args.i) =
+    rw (row-in c.args.marks.now c.args.w.now c.args.i c.requires.0) at c.requires.1
     in
     let most : KindsWithin c.kinds_at-a.result ceilings =
     let h = held in rw c.kinds_at-a.ensures (omega arith)
@@ -48,8 +47,8 @@ overflow_add-result-3 c =
 
 pub counted_of-requires : goal.counted_of-requires
 counted_of-requires c =
-    let held : InRange (row_in (marks_from c.args.sort.now [] c.args.tm.now) c.args.w.now c.args.i) =
-    rw (row-in (marks_from c.args.sort.now [] c.args.tm.now) c.args.w.now c.args.i c.requires.0) at c.requires.1
+    let held : InRange (row_in c.args.marks.now c.args.w.now c.args.i) =
+    rw (row-in c.args.marks.now c.args.w.now c.args.i c.requires.0) at c.requires.1
     in
     let most : KindsWithin c.kinds_at-a.result ceilings =
     let h = held in rw c.kinds_at-a.ensures (omega arith)
@@ -57,8 +56,8 @@ counted_of-requires c =
 
 pub overflow_add-result-4 : goal.overflow_add-result-4
 overflow_add-result-4 c =
-    let held : InRange (row_in (marks_from c.args.sort.now [] c.args.tm.now) c.args.w.now c.args.i) =
-    rw (row-in (marks_from c.args.sort.now [] c.args.tm.now) c.args.w.now c.args.i c.requires.0) at c.requires.1
+    let held : InRange (row_in c.args.marks.now c.args.w.now c.args.i) =
+    rw (row-in c.args.marks.now c.args.w.now c.args.i c.requires.0) at c.requires.1
     in
     let most : KindsWithin c.kinds_at-a.result ceilings =
     let h = held in rw c.kinds_at-a.ensures (omega arith)
@@ -79,6 +78,6 @@ returns c =
     let at = c in
     let k = at in
     let a = k.args in
-    let m = marks_from a.sort.now [] a.tm.now in
+    let m = a.marks.now in
     made a.rule (row_in m a.w.now a.i) k.kinds_at-a.result k.kinds_at-a.ensures at.word_at.ensures at.word_at-2.ensures c.counted_of.ensures
     ∙ sym (ap (account_by a.rule) (row-in m a.w.now a.i k.requires.0))

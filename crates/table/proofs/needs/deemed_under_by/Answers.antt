@@ -18,7 +18,7 @@ returns c =
     let sums = c in
     let start = sums in
     let a = start.args in
-    let v = view_as a.tenths (view_by a.rule (seen_book a.count a.sort.now a.tm.now a.w.now)) in
+    let v = view_as a.tenths (view_by a.rule (seen_book a.count a.marks.now a.w.now)) in
     let clients = sums.client_sums.new.under in
     subst (λ (all : ℕ). DeemedUnder v (set clients 0 all)) (sym c.members_sum-all.ensures)
     (under_first v (shaped_in a.tenths start.requires.1) start.requires.0.most clients sums.client_sums.ensures)

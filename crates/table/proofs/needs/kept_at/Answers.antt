@@ -15,13 +15,13 @@ returns-then-count-i c = sym (pick_yes _ _ _ (le-leb _ _ c.if-count-i.true))
 
 pub account_at-a-requires : goal.account_at-a-requires
 account_at-a-requires c =
-    let given : (c.args.i < 256) × InRange (row_at (seen_book 0 c.args.sort.now c.args.tm.now c.args.w.now) c.args.i) =
+    let given : (c.args.i < 256) × InRange (row_at (seen_book 0 c.args.marks.now c.args.w.now) c.args.i) =
     let h = c.requires.0 in (omega (arith, h.most, c.if-count-i.false), h.ranges c.args.i c.if-count-i.false)
     in given
 
 pub overflow_add-result : goal.overflow_add-result
 overflow_add-result c =
-    let given : (c.args.i < 256) × InRange (row_at (seen_book 0 c.args.sort.now c.args.tm.now c.args.w.now) c.args.i) =
+    let given : (c.args.i < 256) × InRange (row_at (seen_book 0 c.args.marks.now c.args.w.now) c.args.i) =
     let h = c.requires.0 in (omega (arith, h.most, c.if-count-i.false), h.ranges c.args.i c.if-count-i.false)
     in
     let e = c in
@@ -32,12 +32,12 @@ returns-then-i-eq0 c =
     let e = c in
     let a = e.args in
     ap (λ x. x.margin + a.under) c.account_at-a.ensures
-    ∙ ap (λ j. (row_at (seen_book 0 a.sort.now a.tm.now a.w.now) j).margin + a.under) c.if-i-eq0.true
+    ∙ ap (λ j. (row_at (seen_book 0 a.marks.now a.w.now) j).margin + a.under) c.if-i-eq0.true
     ∙ sym (pick_no _ _ _ (lt-leb _ _ e.if-count-i.false) ∙ pick_yes _ _ _ (eq-eqb _ 0 c.if-i-eq0.true))
 
 pub need_to_keep-requires : goal.need_to_keep-requires
 need_to_keep-requires c =
-    let given : (c.args.i < 256) × InRange (row_at (seen_book 0 c.args.sort.now c.args.tm.now c.args.w.now) c.args.i) =
+    let given : (c.args.i < 256) × InRange (row_at (seen_book 0 c.args.marks.now c.args.w.now) c.args.i) =
     let h = c.requires.0 in (omega (arith, h.most, c.if-count-i.false), h.ranges c.args.i c.if-count-i.false)
     in rw c.account_at-a.ensures (omega (arith, given.1.margin), omega (arith, c.requires.1))
 

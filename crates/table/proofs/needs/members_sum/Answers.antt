@@ -1,5 +1,5 @@
 -- `table::needs::members_sum` meets its contract. The invariant: the sum is what the TMs and CPs among the accounts passed are deemed, which fits a word.
-use mathlib.Core.Path.{◌≡◌, refl, ap, ◌∙◌}
+use mathlib.Core.Path.{◌≡◌, ap, ◌∙◌}
 use Prim.Native.Nat.{ℕ}
 use native.Mathlib.Omega.{arith}
 use Rattle.rows.specs.declared.Account.{Account}
@@ -19,11 +19,11 @@ both p q = cc
 pub loop-i-init : goal.loop-i-init
 loop-i-init c =
     let book_of : Book =
-    seen_book c.args.count c.args.sort.now c.args.tm.now c.args.w.now
+    seen_book c.args.count c.args.marks.now c.args.w.now
     in
     let seen : View =
     view_as c.args.tenths (view_by c.args.rule book_of)
-    in (refl, omega arith, omega (arith, members-none seen))
+    in omega (arith, members-none seen)
 
 pub account_as-a-requires : goal.account_as-a-requires
 account_as-a-requires c =
@@ -40,7 +40,7 @@ bounds-under-i c = omega (arith, c.requires.0.most)
 pub member_due-sum-requires : goal.member_due-sum-requires
 member_due-sum-requires c =
     let book_of : Book =
-    seen_book c.args.count c.args.sort.now c.args.tm.now c.args.w.now
+    seen_book c.args.count c.args.marks.now c.args.w.now
     in
     let seen : View =
     view_as c.args.tenths (view_by c.args.rule book_of)
@@ -58,7 +58,7 @@ member_due-sum-requires c =
 pub overflow_add-sum : goal.overflow_add-sum
 overflow_add-sum c =
     let book_of : Book =
-    seen_book c.args.count c.args.sort.now c.args.tm.now c.args.w.now
+    seen_book c.args.count c.args.marks.now c.args.w.now
     in
     let seen : View =
     view_as c.args.tenths (view_by c.args.rule book_of)
@@ -88,7 +88,7 @@ overflow_add-sum c =
 pub loop-i-preserved : goal.loop-i-preserved
 loop-i-preserved c =
     let book_of : Book =
-    seen_book c.args.count c.args.sort.now c.args.tm.now c.args.w.now
+    seen_book c.args.count c.args.marks.now c.args.w.now
     in
     let seen : View =
     view_as c.args.tenths (view_by c.args.rule book_of)
@@ -98,19 +98,13 @@ loop-i-preserved c =
     let i = c.loop-i.i in
     let most = start.requires.0.most in
     c.member_due-sum.ensures ∙ both c.account_as-a.ensures (start.requires.1.each i (omega arith))
-    in (refl, omega arith, omega (arith, adds, members_step seen c.loop-i.i))
+    in omega (arith, adds, members_step seen c.loop-i.i)
 
 pub returns : goal.returns
 returns c =
     let book_of : Book =
-    seen_book c.args.count c.args.sort.now c.args.tm.now c.args.w.now
+    seen_book c.args.count c.args.marks.now c.args.w.now
     in
     let seen : View =
     view_as c.args.tenths (view_by c.args.rule book_of)
-    in c.loop-i.invariant.2 ∙ ap (members_below seen) (omega arith)
-
-pub overflow_add-i : goal.overflow_add-i
-overflow_add-i c = omega arith
-
-pub loop-i-smaller : goal.loop-i-smaller
-loop-i-smaller c = omega arith
+    in c.loop-i.invariant ∙ ap (members_below seen) (omega arith)

@@ -1,6 +1,6 @@
 -- `table::needs::needs_afresh` meets its contract. The invariant: the places passed have the need to keep, the others what is deemed under their account.
 use mathlib.Core.Path.{◌≡◌}
-use Prim.Native.Nat.{ℕ, ◌-◌, ◌≤◌, ◌<◌}
+use Prim.Native.Nat.{ℕ, ◌≤◌, ◌<◌}
 use lib.ListN.{length, get_or}
 use Rattle.rows.specs.Rows.{view_by}
 use Rattle.rows.specs.DeemedUnder.{DeemedUnder}
@@ -10,8 +10,5 @@ use Rattle.table.proofs.needs.needs_afresh.Given as goal
 
 abbrev pub invariant-loop-i : goal.invariant-loop-i
 invariant-loop-i l =
-    (l.i ≤ 256) × DeemedUnder (view_by l.rule (seen_book l.count l.sort l.tm l.w)) l.initial.needs × (length l.needs ≡ 256)
-    × ((j : ℕ) → j < l.i → get_or l.needs j 0 ≡ kept_need (view_by l.rule (seen_book l.count l.sort l.tm l.w)) j) × ((j : ℕ) → l.i ≤ j → get_or l.needs j 0 ≡ get_or l.initial.needs j 0)
-
-abbrev pub decreases-loop-i : goal.decreases-loop-i
-decreases-loop-i l = 256 - l.i
+    DeemedUnder (view_by l.rule (seen_book l.count l.marks l.w)) l.initial.needs × (length l.needs ≡ 256)
+    × ((j : ℕ) → j < l.i → get_or l.needs j 0 ≡ kept_need (view_by l.rule (seen_book l.count l.marks l.w)) j) × ((j : ℕ) → l.i ≤ j → get_or l.needs j 0 ≡ get_or l.initial.needs j 0)

@@ -18,23 +18,23 @@ pub needs_afresh-requires : goal.needs_afresh-requires
 needs_afresh-requires c = (c.requires.0, c.requires.1, c.requires.2, refl)
 
 pub loop-i-init : goal.loop-i-init
-loop-i-init c = (omega arith, sym (all_none _))
+loop-i-init c = sym (all_none _)
 
 pub loop-i-preserved : goal.loop-i-preserved
 loop-i-preserved c =
     let afresh = c in
     let l = c.loop-i in
     let p = same afresh.args.needs.now afresh.needs_afresh.new.needs in
-    (omega arith, ap (λ x. x && p l.i) l.invariant.1 ∙ sym (all-step l.i p))
+    ap (λ x. x && p l.i) l.invariant ∙ sym (all-step l.i p)
 
 pub returns : goal.returns
 unfolding all_kept
 returns c =
     let afresh = c in
     let a = afresh.args in
-    let v = view_by a.rule (seen_book a.count a.sort.now a.tm.now a.w.now) in
+    let v = view_by a.rule (seen_book a.count a.marks.now a.w.now) in
     let fresh = afresh.needs_afresh.new.needs in
-    c.loop-i.invariant.1 ∙ ap (λ (k : ℕ). all k (same a.needs.now fresh)) (omega arith)
+    c.loop-i.invariant ∙ ap (λ (k : ℕ). all k (same a.needs.now fresh)) (omega arith)
     ∙ all-eq 256 (same a.needs.now fresh) (λ j. eqb (get_or a.needs.now j 0) (kept_need v j))
     (λ j l. ap (eqb (get_or a.needs.now j 0)) (ap (λ n. get_or n j 0) afresh.needs_afresh.ensures ∙ afresh-at v j l))
 
@@ -49,9 +49,3 @@ offset_bounds-fresh-i c = omega arith
 
 pub bounds-fresh-i : goal.bounds-fresh-i
 bounds-fresh-i c = omega arith
-
-pub overflow_add-i : goal.overflow_add-i
-overflow_add-i c = omega arith
-
-pub loop-i-smaller : goal.loop-i-smaller
-loop-i-smaller c = omega arith

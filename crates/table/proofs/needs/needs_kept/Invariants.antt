@@ -2,7 +2,7 @@
 use mathlib.Core.Bool.{Bool}
 use mathlib.Core.List.{List}
 use mathlib.Core.Path.{◌≡◌}
-use Prim.Native.Nat.{ℕ, ◌-◌, ◌≤◌}
+use Prim.Native.Nat.{ℕ}
 use lib.Dec.{eqb}
 use lib.ListN.{get_or}
 use Rattle.sums.specs.Sum.{all}
@@ -12,7 +12,5 @@ abbrev pub same : List ℕ → List ℕ → ℕ → Bool
 same needs fresh j = eqb (get_or needs j 0) (get_or fresh j 0)
 
 abbrev pub invariant-loop-i : goal.invariant-loop-i
-invariant-loop-i l = (l.i ≤ 256) × (l.ok ≡ all l.i (same l.needs l.fresh))
-
-abbrev pub decreases-loop-i : goal.decreases-loop-i
-decreases-loop-i l = 256 - l.i
+invariant-loop-i l =
+    l.ok ≡ all l.i (same l.needs l.fresh)

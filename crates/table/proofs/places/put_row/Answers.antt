@@ -3,4 +3,4 @@ use mathlib.Core.Path.{refl}
 use Rattle.table.proofs.places.put_row.Goals as goal
 
 pub returns : goal.returns
-returns c = record { sort_after = refl; live_after = refl; tm_after = refl; w_after = c.put_amounts.ensures }
+returns c = record { marks_after = refl; w_after = c.put_amounts.ensures }

@@ -5,33 +5,26 @@ use Rattle.text.proofs.Saying.{no-digits, some-digits, all_said, stops, goes_on}
 use Prim.Native.Nat.{◌+◌}
 use native.Mathlib.Omega.{arith}
 use lib.ListN.{drop}
+use Rattle.std.proofs.lemmas.Bool.Decides.{nat_tests}
 use Rattle.text.proofs.decimals.number_of.Goals as goal
 
-pub returns-then-word-eq0 : goal.returns-then-word-eq0
-returns-then-word-eq0 c = no-digits _ c.if-word-eq0.true
+pub returns-then-is_empty : goal.returns-then-is_empty
+returns-then-is_empty c = no-digits _ (grind (arith, nat_tests, c.if-is_empty.ensures))
 
-pub loop-i-init : goal.loop-i-init
-loop-i-init c = (omega arith, some-digits _ c.if-word-eq0.false)
+pub loop-byte-init : goal.loop-byte-init
+loop-byte-init c = some-digits _ (λ e. grind (arith, nat_tests, c.if-is_empty.ensures, e))
 
-pub returns-then-digit-eq10 : goal.returns-then-digit-eq10
-returns-then-digit-eq10 c =
-    let d = c in
-    let at = d in
-    let word = at.args.word.now in
-    sym (at.loop-i.invariant.1 ∙ stops word at.loop-i.n at.loop-i.i (omega arith) (sym d.digit_of-digit.ensures.value ∙ c.if-digit-eq10.true))
+pub returns-in_err-digit_of : goal.returns-in_err-digit_of
+returns-in_err-digit_of c =
+    let l = c.loop-byte in
+    c.from_residual.ensures ∙ sym (l.invariant ∙ stops c.args.word.now l.n l.byte-index (omega arith) c.in_err-digit_of.ensures)
 
-pub loop-i-preserved : goal.loop-i-preserved
-loop-i-preserved c =
-    let d = c in
-    let at = d in
-    let word = at.args.word.now in
-    let digit = d.digit_of-digit.ensures.value in
-    let more = c.with_digit-n.ensures ∙ ap (with_digit at.loop-i.n) digit in (
-      omega arith,
-      at.loop-i.invariant.1 ∙ goes_on word at.loop-i.n at.loop-i.i (omega arith) (λ e. c.if-digit-eq10.false (digit ∙ e)) ∙ ap (λ m. said m (drop (at.loop-i.i + 1) word)) (sym more),
-    )
+pub loop-byte-preserved : goal.loop-byte-preserved
+loop-byte-preserved c =
+    let l = c.loop-byte in
+    let digit = c.in_ok-digit_of.ensures in
+    l.invariant ∙ goes_on c.args.word.now l.n l.byte-index (omega arith) (omega (arith, digit.0, digit.1))
+    ∙ ap (λ m. said m (drop (l.byte-index + 1) c.args.word.now)) (ap (with_digit l.n) digit.0 ∙ sym c.with_digit-n.ensures)
 
 pub returns : goal.returns
-returns c =
-    let at = c in
-    sym (at.loop-i.invariant.1 ∙ all_said at.args.word.now at.loop-i.n at.loop-i.i (omega arith))
+returns c = sym (c.loop-byte.invariant ∙ all_said c.args.word.now c.loop-byte.n c.loop-byte.byte-index (omega arith))

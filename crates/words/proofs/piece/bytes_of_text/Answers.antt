@@ -58,20 +58,20 @@ line_into-requires c =
     let l = e in
     text-enough l.loop-place.invariant.0 e.loop-place-test.true e.line_end-end.ensures i.if-whole-room.false
 
-pub shape_of-room-in-Fails : goal.shape_of-room-in-Fails
-shape_of-room-in-Fails c =
+pub shape_of-room-in-Err : goal.shape_of-room-in-Err
+shape_of-room-in-Err c =
     let d = c in
     let l = d in
     omega (arith, d.line_into.auto.room, text-room l.loop-place.invariant.0)
 
-pub returns-in-Fails : goal.returns-in-Fails
-returns-in-Fails c =
+pub returns-in-Err : goal.returns-in-Err
+returns-in-Err c =
     let d = c in
     let i = d in
     let e = i in
     let l = e in
-    let whole = as-told c.told-in-Fails.ensures
-    (text-failed l.loop-place.invariant.0 e.loop-place-test.true e.line_end-end.ensures i.if-whole-room.false d.line_into.ensures c.in-Fails.is) in
+    let whole = as-told c.told-in-Err.ensures
+    (text-failed l.loop-place.invariant.0 e.loop-place-test.true e.line_end-end.ensures i.if-whole-room.false d.line_into.ensures c.in-Err.is) in
     record { value = whole.0; room_after = whole.1 }
 
 pub overflow_add-lines : goal.overflow_add-lines
@@ -94,7 +94,7 @@ loop-place-preserved c =
     let e = i in
     let l = e in (
       text-went l.loop-place.invariant.0 e.loop-place-test.true e.line_end-end.ensures i.if-whole-room.false
-          d.line_into.ensures c.in-Puts.is,
+          d.line_into.ensures c.in-Ok.is,
       omega (arith, l.loop-place.invariant.1, line-more l.args.text.now l.loop-place.place _ e.loop-place-test.true e.line_end-end.ensures),
       line-within l.args.text.now l.loop-place.place _ e.loop-place-test.true e.line_end-end.ensures,
     )

@@ -1,27 +1,14 @@
-use Rattle.std.proofs.Common.{sym, refl, ◌∙◌, arith}
+use Rattle.std.proofs.Common.{◌≡◌, sym, ◌∙◌, arith}
 use Rattle.words.proofs.LinesAt.{length-end, length-stop, length-on}
 use Rattle.words.proofs.piece.line_end.Goals as goal
 
 pub returns-then-text-i-eq10 : goal.returns-then-text-i-eq10
-returns-then-text-i-eq10 c = let l = c in sym (l.loop-i.invariant ∙ length-stop _ l.loop-i.i (omega arith) c.if-text-i-eq10.true)
+returns-then-text-i-eq10 c = sym (c.loop-i.invariant.0 ∙ length-stop _ c.loop-i.i (omega arith) c.if-text-i-eq10.true)
 
 pub loop-i-preserved : goal.loop-i-preserved
-loop-i-preserved c = let l = c in l.loop-i.invariant ∙ length-on _ l.loop-i.i (omega arith) c.if-text-i-eq10.false
+loop-i-preserved c = (c.loop-i.invariant.0 ∙ length-on _ c.loop-i.i (omega arith) c.if-text-i-eq10.false, omega arith)
 
 pub returns : goal.returns
-returns c = sym (c.loop-i.invariant ∙ length-end _ c.loop-i.i (omega arith))
-
-pub loop-i-init : goal.loop-i-init
-loop-i-init c = refl
-
-pub bounds-text-i : goal.bounds-text-i
-bounds-text-i c = omega arith
-
-pub overflow_add-result : goal.overflow_add-result
-overflow_add-result c = omega arith
-
-pub overflow_add-i : goal.overflow_add-i
-overflow_add-i c = omega arith
-
-pub loop-i-smaller : goal.loop-i-smaller
-loop-i-smaller c = omega arith
+returns c =
+    let e : c.max.result ≡ c.loop-i.i = omega arith in
+    e ∙ sym (c.loop-i.invariant.0 ∙ length-end _ c.loop-i.i (omega arith))

@@ -47,20 +47,20 @@ record_into-requires c =
     let h = ends_at l.args.bytes.now l.loop-place.place (λ i. omega (arith, l.type_inv.bytes i)) e.loop-place-test.true e.record_end-found.ensures in
     (bytes-enough l.loop-place.invariant.0 h i.if-last-found.false, h.part.most)
 
-pub shape_of-room-in-Fails : goal.shape_of-room-in-Fails
-shape_of-room-in-Fails c =
+pub shape_of-room-in-Err : goal.shape_of-room-in-Err
+shape_of-room-in-Err c =
     let d = c in
     let l = d in
     omega (arith, d.record_into.auto.room, bytes-room l.loop-place.invariant.0)
 
-pub returns-in-Fails : goal.returns-in-Fails
-returns-in-Fails c =
+pub returns-in-Err : goal.returns-in-Err
+returns-in-Err c =
     let d = c in
     let i = d in
     let e = i in
     let l = e in
-    let whole = as-told c.told-in-Fails.ensures
-    (bytes-failed l.loop-place.invariant.0 (ends_at l.args.bytes.now l.loop-place.place (λ i. omega (arith, l.type_inv.bytes i)) e.loop-place-test.true e.record_end-found.ensures) i.if-last-found.false d.record_into.ensures c.in-Fails.is) in
+    let whole = as-told c.told-in-Err.ensures
+    (bytes-failed l.loop-place.invariant.0 (ends_at l.args.bytes.now l.loop-place.place (λ i. omega (arith, l.type_inv.bytes i)) e.loop-place-test.true e.record_end-found.ensures) i.if-last-found.false d.record_into.ensures c.in-Err.is) in
     record { value = whole.0; room_after = whole.1 }
 
 pub overflow_add-lines : goal.overflow_add-lines
@@ -84,7 +84,7 @@ loop-place-preserved c =
     let e = i in
     let l = e in
     let h = ends_at l.args.bytes.now l.loop-place.place (λ i. omega (arith, l.type_inv.bytes i)) e.loop-place-test.true e.record_end-found.ensures in
-    (bytes-went l.loop-place.invariant.0 h i.if-last-found.false d.record_into.ensures c.in-Puts.is, omega (arith, l.loop-place.invariant.1, h.more), h.within)
+    (bytes-went l.loop-place.invariant.0 h i.if-last-found.false d.record_into.ensures c.in-Ok.is, omega (arith, l.loop-place.invariant.1, h.more), h.within)
 
 pub shape_of-room : goal.shape_of-room
 shape_of-room c = let l = c in bytes-room l.loop-place.invariant.0
