@@ -16,6 +16,7 @@ pub mod RowTests
 pub mod Settled
 pub mod SoundAfter
 pub mod SoundInPlace
+pub mod SeenTable
 pub mod NumbersTest
 pub mod NumbersPut
 pub mod PlaceNumbers

@@ -1,17 +1,18 @@
 -- The tests of a sound book on words in their places.
-use mathlib.Core.Bool.{Bool, false}
+use mathlib.Core.Bool.{Bool, false, ◌&&◌}
 use mathlib.Core.List.{List, []}
 use mathlib.Core.Path.{◌≡◌, refl, ◌∙◌}
 use Prim.Native.Nat.{ℕ, ◌<◌}
 use lib.ListN.{get_or}
 use Rattle.sums.specs.Sum.{all}
 use Rattle.sums.proofs.Sums.{all-eq}
+use Rattle.rows.specs.declared.Rule.{Rule}
 use Rattle.rows.specs.Inner.{Slot}
 use Rattle.table.specs.declared.Marks.{Marks}
 use Rattle.table.specs.declared.Table.{Table}
 use Rattle.table.specs.Words.{row_in, book_from, turned_back}
 use Rattle.table.proofs.Gathered.{row-in}
-use Rattle.book.specs.Sound.{good_row, good_mode, row_sound, mode_sound, formed_b, sound_b}
+use Rattle.book.specs.Sound.{good_row, good_mode, row_sound, mode_sound, formed_b, kept_by, sound_b}
 use Rattle.book.specs.Inner.{modes_at}
 use Rattle.book.proofs.RowTests.{row-slot}
 
@@ -28,6 +29,11 @@ pub sound-serial : (count serial : ℕ) (m : Marks) (w : List ℕ) (modes : List
     → sound_b (book_from count 0 m w modes needs next numbers) ≡ sound_b (book_from count serial m w modes needs next numbers)
 unfolding sound_b formed_b row_sound mode_sound
 sound-serial count serial m w modes needs next numbers = refl
+
+pub kept-serial : (rule : Rule) (count serial : ℕ) (m : Marks) (w : List ℕ) (modes : List Bool) (needs : List ℕ) (next : ℕ) (numbers : List ℕ)
+    → (formed_b (book_from count 0 m w modes needs next numbers) && kept_by rule (book_from count 0 m w modes needs next numbers)) ≡ (formed_b (book_from count serial m w modes needs next numbers) && kept_by rule (book_from count serial m w modes needs next numbers))
+unfolding formed_b row_sound mode_sound
+kept-serial rule count serial m w modes needs next numbers = refl
 
 -- no row's test looks at the modes, the kept needs or the numbers
 pub rows-modes : (count : ℕ) (m : Marks) (w : List ℕ) (modes : List Bool) (needs : List ℕ) (next : ℕ) (numbers : List ℕ)

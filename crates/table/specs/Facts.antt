@@ -2,7 +2,7 @@
 use Rattle.std.specs.Prelude.{List, [], ◌≡◌, ℕ, ◌≤◌, ◌<◌, length}
 use Rattle.rows.specs.declared.Book.{Book}
 use Rattle.table.specs.declared.Marks.{Marks}
-use Rattle.table.specs.Words.{word_at, book_from}
+use Rattle.table.specs.Words.{marks_from, word_at, book_from}
 
 -- each array has its length, as in every value of the type
 pub record Sized (m : Marks) (w : List ℕ) : Type 0 where
@@ -15,6 +15,6 @@ pub record Sized (m : Marks) (w : List ℕ) : Type 0 where
 pub record Capped (w : List ℕ) (k n : ℕ) : Type 0 where
   pub each : (i : ℕ) → i < n → word_at w k i ≤ 40_000_000_000_000
 
--- the book as needs see it, by its marks and words: they look neither at the serial, at who is live or in the mode, nor at what is kept
+-- the book as needs see it, by its sorts, TMs and words: they look neither at the serial, at who is live or in the mode, nor at what is kept
 abbrev pub seen_book : ℕ → Marks → List ℕ → Book
-seen_book count m w = book_from count 0 m w [] [] 0 []
+seen_book count m w = book_from count 0 (marks_from m.sort [] m.tm) w [] [] 0 []

@@ -26,6 +26,7 @@ amount_of r k =
     get_or (r.received.cash ∷ r.received.deposits ∷ r.received.guarantees ∷ r.received.securities
     ∷ r.allocated.cash ∷ r.allocated.deposits ∷ r.allocated.guarantees ∷ r.allocated.securities ∷ r.pledged ∷ r.margin ∷ []) k 0
 
+-- each account's sort, live and TM, which are no amounts
 abbrev pub marks_from : List ℕ → List Bool → List ℕ → Marks
 marks_from sort live tm = record { sort = sort; live = live; tm = tm }
 

@@ -1,10 +1,13 @@
 -- `book::standing` meets its contract: 1, 7 for a number that no row held has, 7 for a retired account, or the figures by the kept need (K3).
 use mathlib.Core.Bool.{Bool, true, false, and-false}
 use lib.ListN.{get_or}
-use mathlib.Core.Path.{◌≡◌, sym, ap, ◌∙◌}
+use mathlib.Core.Path.{◌≡◌, sym, ap, subst, ◌∙◌}
 use Prim.Native.Nat.{ℕ, ◌≤◌, ◌<◌}
 use native.Mathlib.Omega.{arith}
 use borrow.Author.Tests.{lt-ltb, le-ltb}
+use Rattle.rows.specs.declared.Rule.TheVariants.{New}
+use Rattle.rows.specs.Facts.{Shaped}
+use Rattle.rows.specs.KeptNeeds.{kept_need}
 use Rattle.rows.specs.Rows.{row_at, mode_at, place_of, view, is_live}
 use Rattle.table.specs.declared.Table.{Table}
 use Rattle.table.specs.Words.{turned_back}
@@ -13,6 +16,7 @@ use Rattle.book.specs.Sound.{sound_b}
 use Rattle.book.specs.Asked.{standing_refusal, figures_of}
 use Rattle.book.proofs.RowTests.{sound-test-ranged}
 use Rattle.book.proofs.SoundTest.{sound→}
+use Rattle.book.proofs.SeenTable.{seen-by, seen-within}
 use Rattle.book.proofs.StandingRefusals.{unsound-refused, dead-refused, live-answered, standing_by}
 use Rattle.book.proofs.standing.Goals as goal
 
@@ -73,9 +77,14 @@ pub figures-requires : goal.figures-requires
 figures-requires c =
     let t = c.args.t in
     let h = sound t c.table_sound.ensures c.if-not-table_sound.false in
-    let r = sound-test-ranged (turned_back t) h in
     let s = sound→ (turned_back t) h in
-    (record { table = r.table; most = r.most; ranges = r.ranges }, s.shaped, c.if-place-t.false, s.kept c.place_among-place.result (omega (arith, s.most, c.if-place-t.false)))
+    let same = sym (seen-by t New) in
+    let place = c.place_among-place.result in (
+      seen-within t (sound-test-ranged (turned_back t) h),
+      subst Shaped same s.shaped,
+      c.if-place-t.false,
+      s.kept place (omega (arith, s.most, c.if-place-t.false)) ∙ ap (λ v. kept_need v place) same,
+    )
 
 pub returns : goal.returns
 returns c =
@@ -86,4 +95,4 @@ returns c =
     let place = c.place_among-place.result in
     standing_by b c.args.account 0
     (live-answered b c.args.account h (ap (is_live b) (sym e) ∙ simp (lt-ltb place t.count c.if-place-t.false, live-at t place h c.if-place-t.false ∙ c.if-not-t-i.false)))
-    (c.figures.ensures ∙ ap (λ p. figures_of (view b) (mode_at b p) p) e)
+    (c.figures.ensures ∙ ap (λ v. figures_of v (mode_at b place) place) (seen-by t New) ∙ ap (λ p. figures_of (view b) (mode_at b p) p) e)

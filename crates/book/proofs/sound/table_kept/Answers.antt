@@ -1,7 +1,7 @@
 -- `book::sound::table_kept` meets its contract: number, rows, modes, numbers, kept needs, in this order. Rows that have passed keep the sums behind needs within a word.
 use mathlib.Core.Bool.{Bool, true, false, not, and-false}
 use mathlib.Core.List.{[]}
-use mathlib.Core.Path.{◌≡◌, sym, ap, ◌∙◌}
+use mathlib.Core.Path.{◌≡◌, sym, ap, subst, ◌∙◌}
 use Prim.Native.Nat.{◌≤◌, ◌<◌}
 use native.Mathlib.Omega.{arith}
 use lib.Dec.{eqb}
@@ -9,6 +9,8 @@ use borrow.Author.Tests.{lt-leb, le-leb, eq-eqb, not-true, not-false}
 use Rattle.sums.specs.Sum.{all}
 use Rattle.sums.proofs.Sums.{all-at}
 use Rattle.rows.specs.declared.Rule.TheVariants.{New}
+use Rattle.rows.specs.Facts.{Shaped, NoneBeyond}
+use Rattle.rows.specs.KeptNeeds.{all_kept}
 use Rattle.table.specs.declared.Table.{Table}
 use Rattle.table.specs.Words.{book_from, turned_back}
 use Rattle.table.proofs.Gathered.{rows-length}
@@ -17,6 +19,7 @@ use Rattle.book.proofs.RowTests.{rows-ranged}
 use Rattle.book.proofs.SoundTest.{shaped-rows, blank-beyond}
 use Rattle.book.proofs.ByRule.{shaped-by}
 use Rattle.book.proofs.SoundInPlace.{rows-in-table, modes-in-table}
+use Rattle.book.proofs.SeenTable.{seen-by, seen-within}
 use Rattle.book.proofs.sound.table_kept.Goals as goal
 
 -- what rows that have passed show
@@ -54,15 +57,18 @@ needs_kept-requires c =
     let most : t.count ≤ 256 = omega arith in
     let table = rows-length t.marks t.amounts in
     let row = all-at 256 (row_sound b) hold in
-    let r = rows-ranged b table most hold in
-    (record { table = r.table; most = r.most; ranges = r.ranges }, shaped-by New c.args.rule b (shaped-rows b some most table row), λ i l. ap (λ r. eqb r.sort 1) (blank-beyond b some most table row i l))
+    let same = sym (seen-by t c.args.rule) in (
+      seen-within t (rows-ranged b table most hold),
+      subst Shaped same (shaped-by New c.args.rule b (shaped-rows b some most table row)),
+      subst NoneBeyond same (λ i l. ap (λ r. eqb r.sort 1) (blank-beyond b some most table row i l)),
+    )
 
 pub returns : goal.returns
 unfolding formed_b
 returns c =
     let t = c.args.t.now in
     simp (
-      c.needs_kept.ensures,
+      c.needs_kept.ensures ∙ ap (λ v. all_kept v t.needs) (seen-by t c.args.rule),
       le-leb 1 t.count (omega arith),
       le-leb t.count 256 (omega arith),
       rows-hold t c.rows_sound.ensures c.if-not-rows_sound.false-raw,
