@@ -20,6 +20,7 @@ use Rattle.book.specs.Sound.{sound_b}
 use Rattle.sums.specs.Choice.{pick}
 use Rattle.numbers.specs.Bytes.{Bytes}
 use Rattle.streams.specs.declared.Moved.{Moved}
+use Rattle.streams.specs.Calls.{failed_by}
 use Rattle.streams.specs.Words.{is_there, too_many, same_bytes, help_word}
 use Rattle.streams.proofs.Taken.{all-taken}
 use Rattle.bookfile.specs.Reading.{read_of}
@@ -117,10 +118,13 @@ pub of-streams-files-replace-named :
     x.failed ≡ y.failed → x ≡ y
 of-streams-files-replace-named κs a x y e p q luck = same-moved x y luck (p ∙ ap (λ t. pick t 0 (length a.1.1.1.1.0.now)) luck ∙ sym q)
 
--- A file that is opened: the result is what the system answered, an error where that is one, so that no promise is left over. Where it answered alike, the results are the same.
+-- A file that is opened: where the system answered alike, the results are the same.
 pub of-streams-files-open-named :
-    (κs : Lfts 3) (x y : Res streams_contracts.files.open_named.signature κs) → x ≡ y → x ≡ y
-of-streams-files-open-named κs x y luck = luck
+    (κs : Lfts 3) (a : Args streams_contracts.files.open_named.signature κs) (x y : Res streams_contracts.files.open_named.signature κs) (e : AtExit streams_contracts.files.open_named.ended κs)
+    (p : streams.files.open_named.Reads.Learnt κs a x e) (q : streams.files.open_named.Reads.Learnt κs a y e) →
+    x.file ≡ y.file → x ≡ y
+of-streams-files-open-named κs a x y e p q luck =
+    ap (λ t. record { failed = t; file = x.file }) (p ∙ ap failed_by luck ∙ sym q) ∙ ap (λ n. record { failed = y.failed; file = n }) luck
 
 -- of two ends of a text of n bytes that was told, or wasn't asked for
 one-told : (n : ℕ) (x y : Option Moved) → is_some x ≡ is_some y → IfSome x (λ m. (m.count ≤ n) × (m.failed ≡ ltb m.count n)) → IfSome y (λ m. (m.count ≤ n) × (m.failed ≡ ltb m.count n))

@@ -16,6 +16,14 @@ use std::io::Error;
 // The longest name that a program's word can be, and three bytes more.
 const BESIDE: usize = 4099;
 
+// A file where it could be opened.
+// The flag beside the result is what `open_named` promises, and what its theorem, `promises.SystemAside.of-streams-files-open-named`, goes by.
+#[derive(Drop)]
+pub struct Opened {
+    pub failed: bool,
+    pub file: io::Result<File>,
+}
+
 fn cannot(rt: &HostRuntime, program: &[u8], what: &[u8], name: &[u8], why: Error) {
     tell(rt, program);
     tell(rt, b": cannot ");
@@ -151,13 +159,22 @@ fn opened_by(
     what: &[u8],
     name: &[u8],
     opened: io::Result<File>,
-) -> io::Result<File>
-    ensures { result ≡ opened }
+) -> Opened
+    ensures { (result.failed ≡ failed_by result.file) × (result.file ≡ opened) }
 {
-    if let Err(error) = &opened {
-        cannot(rt, program, what, name, *error);
+    match opened {
+        Ok(file) => Opened {
+            failed: false,
+            file: Ok(file),
+        },
+        Err(error) => {
+            cannot(rt, program, what, name, error);
+            Opened {
+                failed: true,
+                file: Err(error),
+            }
+        }
     }
-    opened
 }
 
 // Opens the file of a name that was had whole, or that wasn't.
@@ -167,9 +184,10 @@ fn open_file(
     what: &[u8],
     name: &[u8],
     had: io::Result<usize>,
-) -> io::Result<File>
+) -> Opened
     requires { IfOk had (λ n. n ≤ length name.now) }
-    ensures { failed_by result ≡ false → failed_by had ≡ false }
+    ensures failed_value { result.failed ≡ failed_by result.file }
+    ensures error_value { result.failed ≡ false → failed_by had ≡ false }
 {
     match had {
         Ok(n) => {
@@ -178,13 +196,18 @@ fn open_file(
         }
         Err(error) => {
             cannot(rt, program, what, b"its name", error);
-            Err(error)
+            Opened {
+                failed: true,
+                file: Err(error),
+            }
         }
     }
 }
 
 // Opens the file that a word names. Where that fails it is told.
-pub fn open_named(rt: &HostRuntime, program: &[u8], what: &[u8], word: usize) -> io::Result<File> {
+pub fn open_named(rt: &HostRuntime, program: &[u8], what: &[u8], word: usize) -> Opened
+    ensures { result.failed ≡ failed_by result.file }
+{
     let mut name = words::blank();
     let had = words::put(rt, word, &mut name);
     open_file(rt, program, what, &name, had)

@@ -146,7 +146,7 @@ pub fn in_words(rt: &HostRuntime, program: &[u8], running: u16) -> Worded
 fn in_file(rt: &HostRuntime, program: &[u8], word: usize, printing: bool, running: u16) -> Worded
     ensures { Came (day_within running) printing result }
 {
-    match open_named(rt, program, b"read the text", word) {
+    match open_named(rt, program, b"read the text", word).file {
         Ok(file) => {
             let source = Source::Named(word, file);
             in_pieces(rt, program, source, false, printing, running)
