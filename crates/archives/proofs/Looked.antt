@@ -1,17 +1,13 @@
 -- A line looked for byte by byte.
 use mathlib.Core.Bool.{Bool, true, false, ◌&&◌, ◌||◌}
-use mathlib.Core.List.{List, [], ◌∷◌}
-use mathlib.Core.Path.{◌≡◌, refl, sym, ap, ap₂, ◌∙◌}
-use Prim.Native.Nat.{ℕ, suc, ◌+◌, ◌-◌, ◌≤◌, ◌<◌}
-use native.Mathlib.Decide.{ℕ_discrete}
+use mathlib.Core.List.{List}
+use mathlib.Core.Path.{◌≡◌, refl, ap, ◌∙◌}
+use Prim.Native.Nat.{ℕ, suc, ◌+◌, ◌≤◌, ◌<◌}
 use native.Mathlib.Numerals.{add-one}
 use borrow.Author.Tests.{eq-eqb, ne_eqb}
 use lib.Dec.{eqb}
-use lib.ListN.{length, get_or, take, drop, length-drop, drop_of_length-le}
-use lib.Pointwise.{pointwise}
+use lib.ListN.{length, get_or, drop, drop_of_length-le}
 use lib.Seq.{drop-cons}
-use Rattle.std.proofs.Math.Seq.{take-length}
-use Rattle.std.specs.List.{starts_with as starts_with_by}
 use Rattle.sums.proofs.Choices.{or_left}
 use Rattle.text.specs.Numbers.{newline}
 use Rattle.archives.specs.Files.{starts_with, has_from}
@@ -28,24 +24,14 @@ module _ (bytes line : List ℕ) (at i : ℕ) where
     unfolding starts_with
     starts-short l = rw (drop_of_length-le bytes l, drop-cons line i 0 m)
 
-eqb-turned : (a b : ℕ) → eqb a b ≡ eqb b a
-eqb-turned a b = by (ℕ_discrete a b)
-  where
-    by : Dec (a ≡ b) → eqb a b ≡ eqb b a
-    by (yes e) = eq-eqb a b e ∙ sym (eq-eqb b a (sym e))
-    by (no e) = ne_eqb a b e ∙ sym (ne_eqb b a (λ q. e (sym q)))
+    module _ (l : at < length bytes) where
+      pub starts-same : get_or bytes at 0 ≡ get_or line i 0 → starts_with (drop at bytes) (drop i line) ≡ starts_with (drop (suc at) bytes) (drop (suc i) line)
+      unfolding starts_with
+      starts-same e = rw (drop-cons bytes at 0 l, drop-cons line i 0 m, eq-eqb _ _ e)
 
--- the library's word for it
-begun : (bytes line : List ℕ) → pointwise eqb line (take (length line) bytes) ≡ starts_with bytes line
-unfolding starts_with
-begun bytes [] = refl
-begun [] (x ∷ line) = refl
-begun (y ∷ bytes) (x ∷ line) = ap₂ ◌&&◌ (eqb-turned x y) (begun bytes line)
-
-pub begun-from : (bytes line : List ℕ) (at : ℕ) → starts_with_by eqb (take (length bytes - at) (drop at bytes)) line ≡ starts_with (drop at bytes) line
-begun-from bytes line at =
-    ap (λ l. starts_with_by eqb l line) (ap (λ k. take k (drop at bytes)) (sym (length-drop at bytes)) ∙ take-length (drop at bytes))
-    ∙ begun (drop at bytes) line
+      pub starts_other : (get_or bytes at 0 ≡ get_or line i 0 → ⊥) → starts_with (drop at bytes) (drop i line) ≡ false
+      unfolding starts_with
+      starts_other e = rw (drop-cons bytes at 0 l, drop-cons line i 0 m, ne_eqb _ _ e)
 
 module _ (begins : Bool) (file line : List ℕ) (i : ℕ) where
   -- no line begins behind the file
