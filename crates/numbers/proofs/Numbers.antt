@@ -7,9 +7,10 @@ use native.Mathlib.Numerals.{add-one}
 use native.Mathlib.Omega.{arith}
 use lib.Arith.{mod-mul, digits_div, digits_lt}
 use lib.Dec.{lit<}
-use lib.ListN.{length, take, drop, get_or}
+use lib.ListN.{length, take, drop, get_or, length-drop}
 use lib.Pow.{pow-add}
 use lib.Seq.{drop_at, drop-cons, drop-drop, get_or-drop}
+use Rattle.std.specs.Int.{w64, from_be_bytes}
 use Rattle.numbers.specs.Bytes.{number, bytes_of, Bytes}
 
 pow_pos : (k : ℕ) → 0 < 256 ^ k
@@ -119,3 +120,19 @@ number-eight s at =
     let low : number 4 (drop (at + 4) s) ≡ number 2 (drop (at + 4) s) * 65536 + number 2 (drop (at + 6) s) = number_at 2 2 s (at + 4) ∙ ap (λ (n : ℕ). number 2 (drop (at + 4) s) * 65536 + number 2 (drop n s)) e in
     let all : number 8 (drop at s) ≡ number 4 (drop at s) * 4294967296 + number 4 (drop (at + 4) s) = number_at 4 4 s at in
     omega (arith, high, low, all)
+
+-- eight bytes as the library puts them together
+high-first : (l : List ℕ) → 8 ≤ length l → from_be_bytes w64 (take 8 l) ≡ number 8 l
+unfolding number
+high-first [] m = absurd (omega arith)
+high-first (a ∷ []) m = absurd (omega arith)
+high-first (a ∷ b ∷ []) m = absurd (omega arith)
+high-first (a ∷ b ∷ c ∷ []) m = absurd (omega arith)
+high-first (a ∷ b ∷ c ∷ d ∷ []) m = absurd (omega arith)
+high-first (a ∷ b ∷ c ∷ d ∷ e ∷ []) m = absurd (omega arith)
+high-first (a ∷ b ∷ c ∷ d ∷ e ∷ f ∷ []) m = absurd (omega arith)
+high-first (a ∷ b ∷ c ∷ d ∷ e ∷ f ∷ g ∷ []) m = absurd (omega arith)
+high-first (a ∷ b ∷ c ∷ d ∷ e ∷ f ∷ g ∷ h ∷ l) m = omega arith
+
+pub eight-bytes : (s : List ℕ) (at : ℕ) → at + 8 ≤ length s → from_be_bytes w64 (take 8 (drop at s)) ≡ number 8 (drop at s)
+eight-bytes s at h = high-first (drop at s) (omega (arith, length-drop at s))
