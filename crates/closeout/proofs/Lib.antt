@@ -12,4 +12,5 @@ pub mod DeemedUnder
 pub mod Turns
 pub mod Pass
 pub mod Answers
+pub mod HeldRows
 pub mod Carried

@@ -123,8 +123,11 @@ looked-as : (m n x : ℕ) → m ≡ n → ◌≡◌ {A = Looked} (record { recor
 looked-as m n x e = ap (λ n. record { records = n; refusal = x }) e
 
 module _ (s : List ℕ) (k at : ℕ) (h : Looking s k at) where
+  pub look-all : length s ≤ at → record { records = k; refusal = 0 } ≡ looked 0 (listed_in s)
+  look-all l = looked-as k (k + 0) 0 (omega arith) ∙ sym (ap (looked k) (listed-end s (length s) at l)) ∙ h
+
   pub look-ends : length s ≤ at → None ≡ stopped (looked 0 (listed_in s))
-  look-ends l = sym (ap (λ (m : Listed). stopped (looked k m)) (listed-end s (length s) at l)) ∙ ap stopped h
+  look-ends l = ap stopped (look-all l)
 
   module _ (inside : at < length s) where
     pub look-stops : (number_of (read_at s at) ≡ 0 → ⊥) → Some (record { index = k; refusal = number_of (read_at s at) }) ≡ stopped (looked 0 (listed_in s))

@@ -20,7 +20,7 @@ use Rattle.dayfile.proofs.Amounts.{past-field, past-bit, field-got, past-length,
 use Rattle.statement.specs.declared.records.Parts.{Parts}
 use Rattle.statement.specs.Forms.{bit_for, set_of, amounts_of, parts_from, four_ceilings, bad_amount, bad_amounts}
 use Rattle.statement.specs.Inner.{Fits}
-use Rattle.statement.proofs.Marks.{mark-lt, bit0, bit1, bit2, bit3, bit4, bits_back, ones-five}
+use Rattle.statement.proofs.Bits.{mark-lt, bit0, bit1, bit2, bit3, bit4, bits_back, ones-five}
 
 -- ---- written and read back
 

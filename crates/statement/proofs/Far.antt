@@ -23,7 +23,7 @@ use Rattle.dayfile.specs.Reading.{got, past}
 use Rattle.dayfile.proofs.Marks.{bit-lt}
 use Rattle.statement.specs.Forms.{set_in, size_in, account_in, parts_from, parts_in, not_whole}
 use Rattle.statement.specs.Statements.{clients_from, live_clients, record_faults, surplus_faults, found, finding_from, asked_refusals, statement_finding}
-use Rattle.statement.proofs.Marks.{ones-five}
+use Rattle.statement.proofs.Bits.{ones-five}
 use Rattle.statement.proofs.Turns.{one_more, too_many}
 use Rattle.statement.proofs.Asked.{refused-1}
 

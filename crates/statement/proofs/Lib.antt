@@ -1,4 +1,4 @@
-pub mod Marks
+pub mod Bits
 pub mod Bodies
 pub mod Forms
 mod Reading

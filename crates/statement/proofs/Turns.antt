@@ -191,7 +191,7 @@ module _ (t : Table) (ranged : Ranged (turned_back t)) (i : ℕ) (l : i < t.coun
       (omega (arith, r.0, a.0), omega (arith, r.1, a.1), omega (arith, r.2, a.2), omega (arith, r.3, a.3))
 
   -- what a turn of the loop reads, against the book's totals
-  pub wanted_by : (s : List ℕ) (at : ℕ)
-      → wanted_refusal s at (number_at (turned_back t) i) (total_of (kinds_from (λ j. word_at t.amounts j i) 0)) (total_of (kinds_from (λ j. word_at t.amounts j i) 4))
-      ≡ asked_for (turned_back t) i s at
-  wanted_by s at = sym (ap (λ r. wanted_refusal s at (number_at (turned_back t) i) (total_of r.received) (total_of r.allocated)) the_row)
+  pub wanted_by : (s : List ℕ) (at number : ℕ)
+      → wanted_refusal s at number (total_of (kinds_from (λ j. word_at t.amounts j i) 0)) (total_of (kinds_from (λ j. word_at t.amounts j i) 4))
+      ≡ wanted_refusal s at number (total_of (row_at (turned_back t) i).received) (total_of (row_at (turned_back t) i).allocated)
+  wanted_by s at number = sym (ap (λ r. wanted_refusal s at number (total_of r.received) (total_of r.allocated)) the_row)

@@ -12,7 +12,7 @@ use lookup::place_among;
 mod clients;
 mod records;
 
-pub use table::Table;
+pub use table::{Marks, Table};
 
 // What a check finds: the refusal or 0, the place of the record at fault among the statement's records, counted from 0, and the number of the account wanted there, 0 where none is.
 // No Result: `statement_finding` and docs/API.md say all three fields, with a refusal too.

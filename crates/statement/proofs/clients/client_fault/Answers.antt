@@ -19,4 +19,4 @@ returns c =
     let received = c.total-received.ensures ∙ ap total_of c.kinds_at.ensures in
     let allocated = c.total-allocated.ensures ∙ ap total_of c.kinds_at-2.ensures in
     c.record_fault.ensures ∙ (λ j. wanted_refusal a.statement.now a.at (number_at (turned_back a.t.now) a.i) (received j) (allocated j))
-    ∙ wanted_by a.t.now c.requires.0 a.i c.requires.1 a.statement.now a.at
+    ∙ wanted_by a.t.now c.requires.0 a.i c.requires.1 a.statement.now a.at (number_at (turned_back a.t.now) a.i)

@@ -1,6 +1,6 @@
 -- `statement::records::parts_at` meets its contract.
 use Rattle.dayfile.proofs.Marks.{bit-lt}
-use Rattle.statement.proofs.Marks.{ones-five}
+use Rattle.statement.proofs.Bits.{ones-five}
 use Rattle.statement.proofs.Reading.{within0, within1, within2, within3, within4, parts_at}
 use Rattle.statement.proofs.records.parts_at.Goals as goal
 
