@@ -9,7 +9,7 @@ ghost use Rattle.archival.specs.Archive.{archived_of, archive_room};
 
 use archiving::{put_archived, retired};
 use gaps::close_gaps;
-pub use table::Table;
+pub use table::{Marks, Table};
 
 // The refusal number or 0, how many rows moved, and the table after it.
 // No Result: the table is there in either case.

@@ -9,7 +9,7 @@ mod tested;
 mod writing;
 
 pub use reading::read;
-pub use table::Table;
+pub use table::{Marks, Table};
 pub use writing::write;
 
 // How many bytes the written form has.

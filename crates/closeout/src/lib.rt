@@ -8,7 +8,7 @@ ghost use Rattle.closeout.specs.Closing.{good_losses, no_total, closed_of, room_
 
 use book::sound::table_sound;
 pub use rows::CEILING;
-pub use table::Table;
+pub use table::{Marks, Table};
 
 mod pays;
 

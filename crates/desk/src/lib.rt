@@ -15,7 +15,7 @@ pub use dayfile::Record;
 pub use rows::Kinds;
 use steps::Lent;
 use steps::entry::{enter, leave};
-pub use table::Table;
+pub use table::{Marks, Table};
 
 // What became of a record; the end is no refusal.
 #[derive(Clone, Copy)]

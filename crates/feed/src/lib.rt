@@ -13,7 +13,7 @@ pub use records::Closing;
 use steps::Lent;
 use steps::entry::{enter, leave};
 pub use streams::Moved;
-pub use table::Table;
+pub use table::{Marks, Table};
 use turn::stops;
 
 pub mod books;

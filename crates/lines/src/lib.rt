@@ -9,7 +9,7 @@ ghost use Rattle.text.specs.Numbers.{lines_to};
 ghost use Rattle.lines.specs.Texts.{limit_of, text_of, lined_of, fitting};
 
 pub use records::Closing;
-pub use table::Table;
+pub use table::{Marks, Table};
 use text::line::put_lines;
 use text::texts;
 

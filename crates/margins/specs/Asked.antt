@@ -5,7 +5,7 @@ use Rattle.margins.specs.declared.asked.Asked.{Asked}
 use Rattle.text.specs.Decimals.{decimal_of}
 use Rattle.streams.specs.Words.{same_bytes}
 
--- "SERIAL and ACCOUNT are decimal, at most 65535; INITIAL is decimal"; nothing is asked by words of another form
+-- "SERIAL and ACCOUNT are decimal, at most 65535; INITIAL is decimal"; by "Words .. of another form" nothing is asked
 unfoldable pub asked_for : Bool → Option ℕ → Option ℕ → Option ℕ → Option Asked
 asked_for as_record None account initial = None
 asked_for as_record (Some s) None initial = None

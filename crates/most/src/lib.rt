@@ -8,7 +8,7 @@ ghost use Rattle.passing.specs.Most.{most_of};
 pub use dayfile::Record;
 pub use passing::Largest;
 use passing::{most_in, refused};
-pub use table::Table;
+pub use table::{Marks, Table};
 
 // The refusal number or 0, and the largest amount, whatever the record's serial and its amounts are.
 pub fn most(t: Table, record: Record) -> Largest

@@ -14,7 +14,7 @@ pub use records::Closing;
 use rows::needs::zeros;
 pub use streams::Moved;
 use streams::standard::write_output;
-pub use table::Table;
+pub use table::{Marks, Table};
 
 mod holding;
 mod listing;

@@ -14,7 +14,7 @@ pub use records::Closing;
 use records::go;
 use steps::Lent;
 use steps::entry::{enter, leave};
-pub use table::Table;
+pub use table::{Marks, Table};
 
 // The table after the records, the place reached, why they stopped, and the two counts.
 #[derive(Clone, Copy)]
